@@ -1,0 +1,1 @@
+// The promises: statements alone, in specs/, over the definitions of the other crates. No code.

@@ -1,0 +1,111 @@
+-- Buffers with bytes stored in them. Assumes nothing.
+use Prim.Native.Nat.{ℕ, _+_, _≤_, _<_, _^_}
+use mathlib.Core.Path.{_≡_, refl, sym, ap, _∙_}
+use mathlib.Core.List.{List, [], _∷_, _++_, append-assoc}
+use mathlib.Core.Bool.{Bool, true, false}
+use native.Mathlib.Nat.{add-zero, add-assoc}
+use native.Mathlib.Numerals.{add-one}
+use native.Mathlib.Omega.{arith}
+use borrow.Author.Tests.{le-leb, lt-leb, leb-true, leb-false}
+use lib.ListN.{length, take, drop, set, length-append, length-take, length-drop, take-append-drop}
+use lib.Seq.{length-take-le, take-at, drop-at, drop-append-add, drop-drop, set-split, take-length, paste}
+use lib.Dec.{leb}
+use Rattle.wire.specs.declared.refusal.Refusal.{Refusal}
+use Rattle.wire.specs.Outcome.{ok, refuse, why}
+use Rattle.wire.specs.Stored.{stored, store, answerOf, leftOf, writtenOf}
+use Rattle.wire.specs.Number.{leValue, beValue, leBytes, beBytes}
+use Rattle.wire.specs.declared.store.Written.{Written}
+use Rattle.wire.specs.declared.store.Written.the-variants.{Done, Refused}
+use Rattle.wire.proofs.Bytes.{leBytes-length, beBytes-length}
+use Rattle.wire.proofs.Inverse.{le-back, be-back}
+
+-- a buffer keeps its length
+pub length-stored : (d : List ℕ) (at : ℕ) (w : List ℕ) → at + length w ≤ length d → length (stored d at w) ≡ length d
+unfolding stored
+length-stored d at w h = simp (length-append, length-take, length-drop) (omega arith)
+
+pub stored-none : (d : List ℕ) (at : ℕ) → stored d at [] ≡ d
+unfolding stored
+stored-none d at = rw add-zero (take-append-drop at d)
+
+-- one byte
+pub stored-one : (d : List ℕ) (at x : ℕ) → at < length d → set d at x ≡ stored d at (x ∷ [])
+unfolding stored
+stored-one d at x h = set-split d at x h ∙ ap (λ (k : ℕ). take at d ++ (x ∷ drop k d)) (sym (add-one at))
+
+-- a copy, as the kit says it
+pub paste-stored : (d : List ℕ) (at : ℕ) (w : List ℕ) → paste d at w (length w) ≡ stored d at w
+unfolding stored
+paste-stored d at w = rw take-length (append-assoc (take at d) w (drop (at + length w) d))
+
+-- a store at the end of a store is one store
+pub stored-stored : (d : List ℕ) (at : ℕ) (v w : List ℕ) → at + length v ≤ length d → stored (stored d at v) (at + length v) w ≡ stored d at (v ++ w)
+unfolding stored
+stored-stored d at v w h =
+    let p = take at d ++ v in
+    let q = drop (at + length v) d in
+    let n = at + length v in
+    let lp : length p ≡ n = length-append (take at d) v ∙ ap (λ (k : ℕ). k + length v) (length-take-le at d (omega arith)) in
+    let whole : take at d ++ (v ++ q) ≡ p ++ q = sym (append-assoc (take at d) v q) in
+    ap (λ (l : List ℕ). take n l ++ (w ++ drop (n + length w) l)) whole
+    ∙ ap (λ (l : List ℕ). l ++ (w ++ drop (n + length w) (p ++ q))) (take-at p q n lp)
+    ∙ ap (λ (k : ℕ). p ++ (w ++ drop (k + length w) (p ++ q))) (sym lp)
+    ∙ ap (λ (l : List ℕ). p ++ (w ++ l)) (drop-append-add p q (length w) ∙ drop-drop (length w) n d)
+    ∙ append-assoc (take at d) v (w ++ drop (n + length w) d)
+    ∙ ap (λ (l : List ℕ). take at d ++ l) (sym (append-assoc v w (drop (n + length w) d)))
+    ∙ ap (λ (k : ℕ). take at d ++ ((v ++ w) ++ drop k d)) (add-assoc at (length v) (length w) ∙ ap (λ (k : ℕ). at + k) (sym (length-append v w)))
+
+-- a byte set, and bytes stored behind it
+pub stored-first : (d : List ℕ) (at x : ℕ) (w : List ℕ) → at + 1 + length w ≤ length d → stored (set d at x) (at + 1) w ≡ stored d at (x ∷ w)
+stored-first d at x w h = rw (stored-one d at x (omega arith)) (stored-stored d at (x ∷ []) w (omega arith))
+
+-- what stands before a store is kept, and from its place on stand its bytes and what stood behind them: so whatever reads a place and what is
+-- behind it reads what was stored
+pub stored-front : (d : List ℕ) (at : ℕ) (w : List ℕ) → at ≤ length d → take at (stored d at w) ≡ take at d
+unfolding stored
+stored-front d at w h = take-at (take at d) (w ++ drop (at + length w) d) at (length-take-le at d h)
+
+pub stored-from : (d : List ℕ) (at : ℕ) (w : List ℕ) → at ≤ length d → drop at (stored d at w) ≡ w ++ drop (at + length w) d
+unfolding stored
+stored-from d at w h = drop-at (take at d) (w ++ drop (at + length w) d) at (length-take-le at d h)
+
+pub stored-part : (d : List ℕ) (at : ℕ) (w : List ℕ) → at ≤ length d → take (length w) (drop at (stored d at w)) ≡ w
+stored-part d at w h = rw (stored-from d at w h) (take-at w (drop (at + length w) d) (length w) refl)
+
+-- a number is read back from where it was written, whatever stands around it
+pub le-stored : (d : List ℕ) (at k v : ℕ) → at ≤ length d → v < 256 ^ k → leValue (take k (drop at (stored d at (leBytes k v)))) ≡ v
+le-stored d at k v h l = rw (leBytes-length k v) at (ap leValue (stored-part d at (leBytes k v) h)) ∙ le-back k v l
+
+pub be-stored : (d : List ℕ) (at k v : ℕ) → at ≤ length d → v < 256 ^ k → beValue (take k (drop at (stored d at (beBytes k v)))) ≡ v
+be-stored d at k v h l = rw (beBytes-length k v) at (ap beValue (stored-part d at (beBytes k v) h)) ∙ be-back k v l
+
+-- ---- a writer's two ways, from the length n of the bytes bs that it writes
+pub store-fits : (d bs : List ℕ) (at : ℕ) → at + length bs ≤ length d → store d at bs ≡ ok (at + length bs, stored d at bs)
+unfolding store
+store-fits d bs at h = rw (le-leb _ _ h)
+
+pub store-full : (d bs : List ℕ) (at : ℕ) → length d < at + length bs → store d at bs ≡ refuse 8 0
+unfolding store
+store-full d bs at h = rw (lt-leb _ _ h)
+
+-- the answer r and the buffer x of a writer of bs: done, or refused
+abbrev pub Wrote : List ℕ → ℕ → List ℕ → Written → List ℕ → Type 0
+Wrote d at bs r x = (writtenOf r ≡ answerOf (store d at bs)) × (x ≡ leftOf d (store d at bs))
+
+pub wrote : (d bs x : List ℕ) (at n next : ℕ) → length bs ≡ n → at + n ≤ length d → next ≡ at + n → x ≡ stored d at bs → Wrote d at bs (Done next) x
+wrote d bs x at n next e h p q =
+    let s = store-fits d bs at (omega arith) in
+    let m : next ≡ at + length bs = omega arith in
+    rw s (ap ok m, q)
+
+pub not-wrote : (d bs : List ℕ) (at n : ℕ) (w : Refusal) → length bs ≡ n → length d < at + n → w ≡ why 8 0 → Wrote d at bs (Refused w) d
+not-wrote d bs at n w e h p =
+    let s = store-full d bs at (omega arith) in
+    rw (s, p) (refl, refl)
+
+-- what the test for room says
+pub room : (b : Bool) (at n len : ℕ) → b ≡ leb (at + n) len → b ≡ true → at + n ≤ len
+room b at n len e t = leb-true (at + n) len (sym e ∙ t)
+
+pub no-room : (b : Bool) (at n len : ℕ) → b ≡ leb (at + n) len → b ≡ false → len < at + n
+no-room b at n len e t = leb-false (at + n) len (sym e ∙ t)

@@ -1,0 +1,58 @@
+-- `wire::fixed::write_be` meets its contract. Assumes nothing.
+use Prim.Native.Nat.{_+_, _≤_}
+use mathlib.Core.Path.{refl}
+use native.Mathlib.Omega.{arith}
+use lib.ListN.{length}
+use Rattle.wire.specs.Number.{beBytes}
+use Rattle.wire.proofs.Bytes.{beBytes-length}
+use Rattle.wire.proofs.Stores.{wrote, not-wrote, room, no-room}
+use borrow.Author.Needs.{needs}
+use Rattle.wire.proofs.fixed.write_be.Statement.{statement}
+use Rattle.wire.proofs.fixed.write_be.Tie as tie
+use Rattle.wire.proofs.fixed.write_be.Reads as reads
+use Rattle.wire.proofs.fixed.write_be.Lts as lts
+use Rattle.wire.proofs.fixed.least.Reads as least-reads
+use Rattle.wire.proofs.fixed.put_be.Reads as put-be-reads
+use Rattle.wire.proofs.refusal.refuse.Reads as refuse-reads
+use Rattle.wire.proofs.store.has_room.Reads as has-room-reads
+
+least-requires : tie.Need-least-requires
+least-requires c κs = search needs
+
+has-room-requires : tie.Need-has-room-requires
+has-room-requires c κs = search needs
+
+put-be-requires : tie.Need-put-be-requires
+put-be-requires c κs = room _ _ _ _ (c .before .before .has-room .ensures) (c .before .if1 .taken)
+
+add-next : tie.Need-add-next
+add-next c = let r : c .before .before .before .before .before .before .before .before .args .at + c .before .before .before .before .before .before .least .result ≤ length (c .before .before .before .before .before .before .before .before .args .buf .now) = room _ _ _ _ (c .before .before .before .before .before .has-room .ensures) (c .before .before .before .before .if1 .taken) in omega arith
+
+same-length : tie.Need-same-length
+same-length c = search needs
+
+returns : tie.Need-returns
+returns c = let a = c .before .before .before .before .before .before .before .before .args in
+    let w = c .before .before .before .before .before .before .least in
+    rw (← w .ensures) (wrote (a .buf .now) (beBytes (w .result) (a .v)) _ (a .at) (w .result) _ (beBytes-length (w .result) (a .v)) (room _ _ _ _ (c .before .before .before .before .before .has-room .ensures) (c .before .before .before .before .if1 .taken)) refl (c .before .before .put-be .ensures))
+
+refuse-requires : tie.Need-refuse-requires
+refuse-requires c κs = search needs
+
+returns-2 : tie.Need-returns-2
+returns-2 c = let a = c .before .before .before .before .before .args in
+    let w = c .before .before .before .least in
+    rw (← w .ensures) (not-wrote (a .buf .now) (beBytes (w .result) (a .v)) (a .at) (w .result) _ (beBytes-length (w .result) (a .v)) (no-room _ _ _ _ (c .before .before .has-room .ensures) (c .before .if1 .left)) (c .refuse .ensures))
+
+pub write-be-spec : {M : Type 1} → statement M
+write-be-spec =
+    tie.close
+    (tie.spec
+    least-requires
+    has-room-requires
+    put-be-requires
+    add-next
+    same-length
+    returns
+    refuse-requires
+    returns-2)

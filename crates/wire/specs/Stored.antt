@@ -1,0 +1,32 @@
+-- What any writer of bytes answers, and what it leaves of the buffer: all of the bytes, or nothing. Assumes nothing.
+use Prim.Native.Nat.{ℕ, _+_}
+use mathlib.Core.List.{List, _++_}
+use mathlib.Core.Bool.{cond}
+use lib.ListN.{length, take, drop}
+use lib.Dec.{leb}
+use Rattle.wire.specs.Outcome.{Outcome, ok, refused, refuse}
+use Rattle.wire.specs.declared.store.Written.{Written}
+use Rattle.wire.specs.declared.store.Written.the-variants.{Done, Refused}
+
+-- the buffer with bs in it from `at` on
+unfoldable pub stored : List ℕ → ℕ → List ℕ → List ℕ
+stored buf at bs = take at buf ++ (bs ++ drop (at + length bs) buf)
+
+-- bs written from `at` on: the place after them and the buffer, or refusal 8 at 0
+unfoldable pub store : List ℕ → ℕ → List ℕ → Outcome (ℕ × List ℕ)
+unfolding stored
+store buf at bs = cond (leb (at + length bs) (length buf)) (ok (at + length bs, stored buf at bs)) (refuse 8 0)
+
+-- the two parts of what a writer does: its answer, and the buffer, which a refusal leaves as it was
+abbrev pub answerOf : {A : Type 0} → Outcome (A × List ℕ) → Outcome A
+answerOf (ok x) = ok (x .0)
+answerOf (refused w) = refused w
+
+abbrev pub leftOf : {A : Type 0} → List ℕ → Outcome (A × List ℕ) → List ℕ
+leftOf buf (ok x) = x .1
+leftOf buf (refused w) = buf
+
+-- what the answer of a writer says: the place after what it wrote
+abbrev pub writtenOf : Written → Outcome ℕ
+writtenOf (Done next) = ok next
+writtenOf (Refused r) = refused r

@@ -1,0 +1,129 @@
+// Numbers of 0 to 8 bytes, the least or the most significant byte first (io.rs: eat_u*_le, eat_u*_be, put_*).
+// A width over 8 is taken as 8.
+use crate::refusal::NO_ROOM;
+use crate::refusal::refuse;
+use crate::store::Written;
+use crate::store::has_room;
+ghost use mathlib.Core.Path.{_≡_};
+ghost use Prim.Native.Nat.{_+_, _-_, _≤_, _<_, _^_, min};
+ghost use lib.ListN.{length, take, drop};
+ghost use Rattle.wire.specs.Number.{leValue, beValue, leBytes, beBytes};
+ghost use Rattle.wire.specs.Stored.{store, stored, answerOf, leftOf, writtenOf};
+
+pub(crate) fn wide(x: u8) -> u64
+    ensures { λ r. ⌜ r ≡ x ⌝ }
+{
+    x as u64
+}
+
+fn least(a: usize, b: usize) -> usize
+    ensures { λ r. ⌜ r ≡ min a b ⌝ }
+{
+    if a < b { a } else { b }
+}
+
+// How many of the k bytes from at are there.
+fn there(s: &[u8], at: usize, k: usize) -> usize
+    ensures { λ r. ⌜ r ≡ min (min k 8) (length (now (s .entry)) - at) ⌝ }
+{
+    if s.len() <= at {
+        return 0;
+    }
+    least(least(k, 8), s.len() - at)
+}
+
+// The number of the k bytes from at, the least significant first: of those that are there.
+pub fn read_le(s: &[u8], at: usize, k: usize) -> u64
+    ensures { λ r. ⌜ r ≡ leValue (take (min k 8) (drop at (now (s .entry)))) ⌝ }
+    ensures { λ r. ⌜ r < 256 ^ min k 8 ⌝ }
+{
+    le(s, at, there(s, at, k))
+}
+
+// The number of the k bytes from at, the most significant first: of those that are there.
+pub fn read_be(s: &[u8], at: usize, k: usize) -> u64
+    ensures { λ r. ⌜ r ≡ beValue (take (min k 8) (drop at (now (s .entry)))) ⌝ }
+    ensures { λ r. ⌜ r < 256 ^ min k 8 ⌝ }
+{
+    be(s, at, there(s, at, k))
+}
+
+pub(crate) fn le(s: &[u8], at: usize, k: usize) -> u64
+    requires { ⌜ (k ≤ 8) × (k ≤ length (now s) - at) ⌝ }
+    ensures { λ r. ⌜ (r ≡ leValue (take k (drop at (now (s .entry))))) × (r < 256 ^ k) ⌝ }
+{
+    let mut acc: u64 = 0;
+    let mut i = k;
+    while 0 < i {
+        i -= 1;
+        acc = acc * 256 + wide(s[at + i]);
+    }
+    acc
+}
+
+fn be(s: &[u8], at: usize, k: usize) -> u64
+    requires { ⌜ (k ≤ 8) × (k ≤ length (now s) - at) ⌝ }
+    ensures { λ r. ⌜ (r ≡ beValue (take k (drop at (now (s .entry))))) × (r < 256 ^ k) ⌝ }
+{
+    let mut acc: u64 = 0;
+    let mut i: usize = 0;
+    while i < k {
+        acc = acc * 256 + wide(s[at + i]);
+        i += 1;
+    }
+    acc
+}
+
+// Writes the k low bytes of v from at on, the least significant first.
+pub fn write_le(buf: &mut [u8], at: usize, k: usize, v: u64) -> Written
+    ensures { λ r. ⌜ writtenOf r ≡ answerOf (store (now (buf .entry)) at (leBytes (min k 8) v)) ⌝ }
+    ensures { λ _. ⌜ now (buf .exit) ≡ leftOf (now (buf .entry)) (store (now (buf .entry)) at (leBytes (min k 8) v)) ⌝ }
+{
+    let w = least(k, 8);
+    if has_room(buf.len(), at, w) {
+        put_le(buf, at, w, v);
+        let next = at + w;
+        return Written::Done { next };
+    }
+    Written::Refused(refuse(NO_ROOM, 0))
+}
+
+// Writes the k low bytes of v from at on, the most significant first.
+pub fn write_be(buf: &mut [u8], at: usize, k: usize, v: u64) -> Written
+    ensures { λ r. ⌜ writtenOf r ≡ answerOf (store (now (buf .entry)) at (beBytes (min k 8) v)) ⌝ }
+    ensures { λ _. ⌜ now (buf .exit) ≡ leftOf (now (buf .entry)) (store (now (buf .entry)) at (beBytes (min k 8) v)) ⌝ }
+{
+    let w = least(k, 8);
+    if has_room(buf.len(), at, w) {
+        put_be(buf, at, w, v);
+        let next = at + w;
+        return Written::Done { next };
+    }
+    Written::Refused(refuse(NO_ROOM, 0))
+}
+
+pub(crate) fn put_le(buf: &mut [u8], at: usize, k: usize, v: u64)
+    requires { ⌜ at + k ≤ length (now buf) ⌝ }
+    ensures { λ _. ⌜ now (buf .exit) ≡ stored (now (buf .entry)) at (leBytes k v) ⌝ }
+{
+    let mut rest = v;
+    let mut i: usize = 0;
+    while i < k {
+        buf[at + i] = (rest % 256) as u8;
+        rest = rest / 256;
+        i += 1;
+    }
+}
+
+fn put_be(buf: &mut [u8], at: usize, k: usize, v: u64)
+    requires { ⌜ at + k ≤ length (now buf) ⌝ }
+    ensures { λ _. ⌜ now (buf .exit) ≡ stored (now (buf .entry)) at (beBytes k v) ⌝ }
+{
+    let mut rest = v;
+    let mut i = k;
+    while 0 < i {
+        i -= 1;
+        buf[at + i] = (rest % 256) as u8;
+        rest = rest / 256;
+    }
+}

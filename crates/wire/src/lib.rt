@@ -1,0 +1,24 @@
+// What every other crate stands on: refusals, numbers of several bytes, bits and packed integers.
+// Ports mysql_common 0.38.2: io.rs (integers, read and written) and misc/mod.rs (their sizes).
+mod bits;
+mod fixed;
+mod packed;
+pub mod refusal;
+mod store;
+
+pub use bits::bit_lsb0;
+pub use bits::bit_msb0;
+pub use bits::write_bit_lsb0;
+pub use bits::write_bit_msb0;
+pub use fixed::read_be;
+pub use fixed::read_le;
+pub use fixed::write_be;
+pub use fixed::write_le;
+pub use packed::Packed;
+pub use packed::packed_size;
+pub use packed::read_packed;
+pub use packed::write_packed;
+pub use refusal::Refusal;
+pub use refusal::refuse;
+pub use store::Written;
+pub use store::write_bytes;

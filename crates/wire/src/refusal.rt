@@ -1,0 +1,57 @@
+// Why a call gives no answer: a number of document 01's table and a place.
+ghost use mathlib.Core.Path.{_≡_};
+ghost use Rattle.wire.specs.Outcome.{why};
+
+// Bytes end in an event part, an optional field, or an integer or a string of a list.
+pub const SHORT: u8 = 1;
+
+// The first byte of a packed integer is 251 or 255.
+pub const NOT_PACKED: u8 = 2;
+
+// More columns than the check takes.
+pub const TOO_MANY_COLUMNS: u8 = 3;
+
+// A column type that is not taken.
+pub const TYPE_NOT_TAKEN: u8 = 4;
+
+// Column metadata short, left over or not accepted.
+pub const BAD_METADATA: u8 = 5;
+
+// An optional field of an unknown type.
+pub const UNKNOWN_FIELD: u8 = 6;
+
+// The contents of an optional field break a rule.
+pub const BAD_FIELD: u8 = 7;
+
+// The lent buffer is too small.
+pub const NO_ROOM: u8 = 8;
+
+// The row image ends early.
+pub const IMAGE_SHORT: u8 = 9;
+
+// A part of a temporal is out of its range.
+pub const OUT_OF_RANGE: u8 = 10;
+
+// The profile record is not valid.
+pub const BAD_RECORD: u8 = 11;
+
+// Presence or null bits of the wrong length.
+pub const BAD_BITS: u8 = 12;
+
+// A value or a part that a writer does not take.
+pub const NOT_TAKEN: u8 = 13;
+
+// There is no such column.
+pub const NO_COLUMN: u8 = 14;
+
+pub struct Refusal {
+    pub number: u8,
+    pub place: usize,
+}
+
+// The one place where a refusal is made.
+pub fn refuse(number: u8, place: usize) -> Refusal
+    ensures { λ r. ⌜ r ≡ why number place ⌝ }
+{
+    Refusal { number, place }
+}

@@ -1,0 +1,52 @@
+// Bytes written into a lent buffer: all of them, or none.
+use crate::refusal::NO_ROOM;
+use crate::refusal::Refusal;
+use crate::refusal::refuse;
+ghost use mathlib.Core.Path.{_≡_};
+ghost use Prim.Native.Nat.{_+_, _≤_};
+ghost use lib.ListN.{length};
+ghost use lib.Dec.{leb};
+ghost use Rattle.wire.specs.Stored.{store, stored, answerOf, leftOf, writtenOf};
+
+// What every writer of bytes answers: the place after what it wrote, or why it wrote nothing.
+pub enum Written {
+    Done { next: usize },
+    Refused(Refusal),
+}
+
+// Whether n bytes from at on lie within len. The sum of at and n may be too large to be made.
+pub(crate) fn has_room(len: usize, at: usize, n: usize) -> bool
+    ensures { λ r. ⌜ r ≡ leb (at + n) len ⌝ }
+{
+    if len < at {
+        return false;
+    }
+    if len - at < n {
+        return false;
+    }
+    true
+}
+
+// Writes all of bytes from at on.
+pub fn write_bytes(buf: &mut [u8], at: usize, bytes: &[u8]) -> Written
+    ensures { λ r. ⌜ writtenOf r ≡ answerOf (store (now (buf .entry)) at (now (bytes .entry))) ⌝ }
+    ensures { λ _. ⌜ now (buf .exit) ≡ leftOf (now (buf .entry)) (store (now (buf .entry)) at (now (bytes .entry))) ⌝ }
+{
+    if has_room(buf.len(), at, bytes.len()) {
+        put_bytes(buf, at, bytes);
+        let next = at + bytes.len();
+        return Written::Done { next };
+    }
+    Written::Refused(refuse(NO_ROOM, 0))
+}
+
+fn put_bytes(buf: &mut [u8], at: usize, bytes: &[u8])
+    requires { ⌜ at + length (now bytes) ≤ length (now buf) ⌝ }
+    ensures { λ _. ⌜ now (buf .exit) ≡ stored (now (buf .entry)) at (now (bytes .entry)) ⌝ }
+{
+    let mut i: usize = 0;
+    while i < bytes.len() {
+        buf[at + i] = bytes[i];
+        i += 1;
+    }
+}
