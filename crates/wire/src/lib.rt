@@ -21,4 +21,5 @@ pub use packed::write_packed;
 pub use refusal::Refusal;
 pub use refusal::refuse;
 pub use store::Written;
+pub use store::has_room;
 pub use store::write_bytes;

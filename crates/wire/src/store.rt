@@ -14,8 +14,8 @@ pub enum Written {
     Refused(Refusal),
 }
 
-// Whether n bytes from at on lie within len. The sum of at and n may be too large to be made.
-pub(crate) fn has_room(len: usize, at: usize, n: usize) -> bool
+// Whether n bytes from at on lie within len bytes. The sum of at and n may be too large to be made.
+pub fn has_room(len: usize, at: usize, n: usize) -> bool
     ensures { λ r. ⌜ r ≡ leb (at + n) len ⌝ }
 {
     if len < at {
