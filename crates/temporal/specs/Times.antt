@@ -1,0 +1,31 @@
+-- Times of day and spans: TIME2 (19) and TIME (11). Document 01: "19: 3 bytes less 2^23; if negative with nonzero fraction, whole part plus 1 and
+-- fraction less 256 or 65,536; with m0 5..6, 6 bytes less 2^47 as one packed number, absolute value then split at 2^24; hours are the whole part
+-- over 4,096, minutes and seconds 6 bits each"; "11: decimal HHMMSS in 3 unsigned bytes". Here in sign and magnitude; `Words` proves the paper's own
+-- words, over ℤ, to say the same. Assumes nothing.
+use Prim.Native.Nat.{ℕ, _+_, _-_, _*_, _/_, _%_, _^_}
+use mathlib.Core.Bool.{Bool, true, false, cond}
+use lib.Dec.{leb, eqb}
+use Rattle.temporal.specs.declared.parts.Time.{Time}
+use Rattle.temporal.specs.Fraction.{unitOf}
+
+-- the time of a whole part n, whose minutes and seconds go up to r, and of u microseconds; and its whole part again
+unfoldable pub timeBy : ℕ → Bool → ℕ → ℕ → Time
+timeBy r negative n u = record { negative = negative; hours = n / r / r; minutes = n / r % r; seconds = n % r; micros = u }
+
+abbrev pub timeNumber : ℕ → Time → ℕ
+timeNumber r t = (t .hours * r + t .minutes) * r + t .seconds
+
+-- ---- TIME2, of a stored whole part a and fraction f of w bytes
+unfoldable pub time2Of : ℕ → ℕ → ℕ → Time
+unfolding timeBy unitOf
+time2Of w a f =
+    cond (leb 8388608 a) (timeBy 64 false (a - 8388608) (f * unitOf w))
+    (cond (eqb f 0) (timeBy 64 true (8388608 - a) 0)
+    (timeBy 64 true (8388608 - a - 1) ((256 ^ w - f) * unitOf w)))
+
+-- what a time with u units of fraction is stored as
+unfoldable pub time2Whole : Time → ℕ → ℕ
+time2Whole t u = cond (t .negative) (cond (eqb u 0) (8388608 - timeNumber 64 t) (8388608 - timeNumber 64 t - 1)) (8388608 + timeNumber 64 t)
+
+unfoldable pub time2Fraction : ℕ → Bool → ℕ → ℕ
+time2Fraction w negative u = cond negative (cond (eqb u 0) 0 (256 ^ w - u)) u
