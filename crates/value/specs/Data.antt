@@ -1,0 +1,69 @@
+-- A value, on paper: bytes are themselves, and not their place. Assumes nothing.
+use Prim.Native.Nat.{ℕ}
+use mathlib.Core.List.{List, []}
+use lib.IntN.{ℤ, pos}
+use Rattle.temporal.specs.declared.parts.Temporal.{Temporal}
+use Rattle.temporal.specs.declared.parts.Temporal.the-variants.{Since}
+
+pub data Datum : Type 0 where
+  null : Datum
+  int : ℤ → Datum
+  uint : ℕ → Datum
+  float : ℕ → Datum
+  double : ℕ → Datum
+  year : ℕ → Datum
+  when : Temporal → Datum
+  bytes : List ℕ → Datum
+
+-- which of these it is
+unfoldable pub tag : Datum → ℕ
+tag null = 0
+tag (int z) = 1
+tag (uint n) = 2
+tag (float n) = 3
+tag (double n) = 4
+tag (year n) = 5
+tag (when t) = 6
+tag (bytes b) = 7
+
+-- what a value of one sort holds, and nothing in particular of any other
+unfoldable pub intIn : Datum → ℤ
+intIn null = pos 0
+intIn (int z) = z
+intIn (uint n) = pos 0
+intIn (float n) = pos 0
+intIn (double n) = pos 0
+intIn (year n) = pos 0
+intIn (when t) = pos 0
+intIn (bytes b) = pos 0
+
+-- the number of any sort that is one
+unfoldable pub numberIn : Datum → ℕ
+numberIn null = 0
+numberIn (int z) = 0
+numberIn (uint n) = n
+numberIn (float n) = n
+numberIn (double n) = n
+numberIn (year n) = n
+numberIn (when t) = 0
+numberIn (bytes b) = 0
+
+unfoldable pub whenIn : Datum → Temporal
+whenIn null = Since (record { seconds = 0; micros = 0 })
+whenIn (int z) = Since (record { seconds = 0; micros = 0 })
+whenIn (uint n) = Since (record { seconds = 0; micros = 0 })
+whenIn (float n) = Since (record { seconds = 0; micros = 0 })
+whenIn (double n) = Since (record { seconds = 0; micros = 0 })
+whenIn (year n) = Since (record { seconds = 0; micros = 0 })
+whenIn (when t) = t
+whenIn (bytes b) = Since (record { seconds = 0; micros = 0 })
+
+unfoldable pub bytesIn : Datum → List ℕ
+bytesIn null = []
+bytesIn (int z) = []
+bytesIn (uint n) = []
+bytesIn (float n) = []
+bytesIn (double n) = []
+bytesIn (year n) = []
+bytesIn (when t) = []
+bytesIn (bytes b) = b

@@ -1,0 +1,74 @@
+-- A stored value read: the shape first (4, 5), then its bytes cut out (9), then the ranges judged (10). Assumes nothing.
+use Prim.Native.Nat.{ℕ, _+_, _-_, _≤_, _<_}
+use mathlib.Core.Path.{_≡_}
+use mathlib.Core.Bool.{Bool, true, false, cond}
+use mathlib.Core.List.{List}
+use lib.ListN.{length, take, drop}
+use lib.Dec.{leb, eqb}
+use Rattle.wire.specs.Outcome.{Outcome, ok, refused, refuse, after}
+use Rattle.value.specs.declared.shape.Shape.{Shape}
+use Rattle.value.specs.declared.shape.Shape.the-variants.{Unsigned, Signed, FloatBits, DoubleBits, YearByte, Timed, Fixed, Counted, NotTaken}
+use Rattle.value.specs.declared.datum.Value.{Value}
+use Rattle.value.specs.declared.datum.Value.the-variants.{Null, Int, Uint, Float, Double, Year, When, Bytes}
+use Rattle.value.specs.Data.{Datum, null, int, uint, float, double, year, when, bytes}
+use Rattle.value.specs.Shapes.{need, decode, fault}
+
+-- a shape that there is, or its refusal
+unfoldable pub taken : Shape → ℕ → Outcome Shape
+taken (Unsigned k) p = ok (Unsigned k)
+taken (Signed k) p = ok (Signed k)
+taken FloatBits p = ok FloatBits
+taken DoubleBits p = ok DoubleBits
+taken YearByte p = ok YearByte
+taken (Timed k) p = ok (Timed k)
+taken (Fixed n) p = ok (Fixed n)
+taken (Counted k) p = ok (Counted k)
+taken (NotTaken n) p = refuse n p
+
+-- the stored bytes at the head of s
+unfoldable pub cut : Shape → ℕ → List ℕ → Outcome (List ℕ)
+unfolding need
+cut sh p s = cond (leb (need sh s) (length s)) (ok (take (need sh s) s)) (refuse 9 p)
+
+-- what they say, if no part is out of range
+unfoldable pub judged : Shape → ℕ → List ℕ → Outcome Datum
+unfolding fault decode
+judged sh p b = cond (eqb (fault sh b) 0) (ok (decode sh b)) (refuse 10 p)
+
+-- the value at the head of s, and how many bytes it takes; p is the place that a refusal tells
+unfoldable pub readDatum : Shape → ℕ → List ℕ → Outcome (Datum × ℕ)
+unfolding taken cut judged
+readDatum sh p s = after (taken sh p) (λ sh. after (cut sh p s) (λ b. after (judged sh p b) (λ d. ok (d, length b))))
+
+-- ---- the same at a place, with bytes as a start and a length
+-- the value that ends at e: bytes are the last of a stored value
+unfoldable pub placed : ℕ → Datum → Value
+placed e null = Null
+placed e (int z) = Int z
+placed e (uint n) = Uint n
+placed e (float n) = Float n
+placed e (double n) = Double n
+placed e (year n) = Year n
+placed e (when t) = When t
+placed e (bytes b) = Bytes (e - length b) (length b)
+
+-- the value of s at a place, and the place after it
+unfoldable pub readValue : Shape → ℕ → List ℕ → ℕ → Outcome (Value × ℕ)
+unfolding readDatum placed
+readValue sh p s at = after (readDatum sh p (drop at s)) (λ x. ok (placed (at + x .1) (x .0), at + x .1))
+
+-- what a value says, its bytes being in s
+unfoldable pub datumOf : List ℕ → Value → Datum
+datumOf s Null = null
+datumOf s (Int z) = int z
+datumOf s (Uint n) = uint n
+datumOf s (Float n) = float n
+datumOf s (Double n) = double n
+datumOf s (Year n) = year n
+datumOf s (When t) = when t
+datumOf s (Bytes start len) = bytes (take len (drop start s))
+
+-- ---- why the bytes at the head of s are no value: they end early, or a part is out of range
+pub data Fails (sh : Shape) (s : List ℕ) : ℕ → Type 0 where
+  short : length s < need sh s → Fails sh s 9
+  range : need sh s ≤ length s → (fault sh (take (need sh s) s) ≡ 0 → ⊥) → Fails sh s 10

@@ -1,0 +1,11 @@
+// The kinds of columns, and one stored value of a column: read, written, and its size.
+// Ports mysql_common 0.38.2: binlog/value.rs, and of constants.rs the column types and their classes.
+pub mod column;
+mod datum;
+mod shape;
+
+pub use column::Column;
+pub use column::Dialect;
+pub use column::Family;
+pub use datum::Value;
+pub use shape::Shape;
