@@ -144,6 +144,18 @@ isTaken (Fixed n) = true
 isTaken (Counted k) = true
 isTaken (NotTaken n) = false
 
+-- the refusal number where there is none
+unfoldable pub refusalOf : Shape → ℕ
+refusalOf (Unsigned k) = 0
+refusalOf (Signed k) = 0
+refusalOf FloatBits = 0
+refusalOf DoubleBits = 0
+refusalOf YearByte = 0
+refusalOf (Timed k) = 0
+refusalOf (Fixed n) = 0
+refusalOf (Counted k) = 0
+refusalOf (NotTaken n) = n
+
 -- ---- classes, by dialect
 abbrev pub isMysql : Dialect → Bool
 isMysql Document = false

@@ -1,7 +1,7 @@
 -- A value, on paper: bytes are themselves, and not their place. Assumes nothing.
 use Prim.Native.Nat.{ℕ}
 use mathlib.Core.List.{List, []}
-use lib.IntN.{ℤ, pos}
+use lib.IntN.{ℤ, pos, negsuc}
 use Rattle.temporal.specs.declared.parts.Temporal.{Temporal}
 use Rattle.temporal.specs.declared.parts.Temporal.the-variants.{Since}
 
@@ -67,3 +67,8 @@ bytesIn (double n) = []
 bytesIn (year n) = []
 bytesIn (when t) = []
 bytesIn (bytes b) = b
+
+-- n of n and of -1 - n
+unfoldable pub magnitudeOf : ℤ → ℕ
+magnitudeOf (pos n) = n
+magnitudeOf (negsuc n) = n

@@ -10,6 +10,8 @@ use Rattle.value.specs.declared.shape.Shape.{Shape}
 use Rattle.value.specs.declared.shape.Shape.the-variants.{Unsigned, Signed, FloatBits, DoubleBits, YearByte, Timed, Fixed, Counted, NotTaken}
 use Rattle.value.specs.declared.datum.Value.{Value}
 use Rattle.value.specs.declared.datum.Value.the-variants.{Null, Int, Uint, Float, Double, Year, When, Bytes}
+use Rattle.value.specs.declared.reading.Read.{Read}
+use Rattle.value.specs.declared.reading.Read.the-variants.{Got, Refused}
 use Rattle.value.specs.Data.{Datum, null, int, uint, float, double, year, when, bytes}
 use Rattle.value.specs.Shapes.{need, decode, fault}
 
@@ -67,6 +69,11 @@ datumOf s (Double n) = double n
 datumOf s (Year n) = year n
 datumOf s (When t) = when t
 datumOf s (Bytes start len) = bytes (take len (drop start s))
+
+-- what the answer of a reader says
+abbrev pub readOf : Read → Outcome (Value × ℕ)
+readOf (Got value next) = ok (value, next)
+readOf (Refused r) = refused r
 
 -- ---- why the bytes at the head of s are no value: they end early, or a part is out of range
 pub data Fails (sh : Shape) (s : List ℕ) : ℕ → Type 0 where

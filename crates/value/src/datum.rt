@@ -1,5 +1,11 @@
-// A value of a column.
+// A value of a column, and its parts by sort.
+use temporal::Stamp;
 use temporal::Temporal;
+ghost use mathlib.Core.Path.{_≡_};
+ghost use mathlib.Core.List.{[]};
+ghost use Rattle.value.specs.Data.{tag, intIn, numberIn, whenIn};
+ghost use Rattle.value.specs.Reading.{datumOf};
+ghost use Rattle.value.specs.Storing.{startOf, lenOf};
 
 // Floats by their bits. Bytes are a start and a length in the slice that they were read from or are lent in.
 pub enum Value {
@@ -11,4 +17,113 @@ pub enum Value {
     Year(u16),
     When(Temporal),
     Bytes { start: usize, len: usize },
+}
+
+// The sorts of values that `tag_of` tells.
+pub(crate) const INT: u8 = 1;
+
+pub(crate) const UINT: u8 = 2;
+
+pub(crate) const FLOAT: u8 = 3;
+
+pub(crate) const DOUBLE: u8 = 4;
+
+pub(crate) const YEAR: u8 = 5;
+
+pub(crate) const WHEN: u8 = 6;
+
+pub(crate) const BYTES: u8 = 7;
+
+pub(crate) fn tag_of(value: Value) -> u8
+    ensures { λ r. ⌜ r ≡ tag (datumOf [] value) ⌝ }
+{
+    match value {
+        Value::Null => 0,
+        Value::Int(_) => INT,
+        Value::Uint(_) => UINT,
+        Value::Float(_) => FLOAT,
+        Value::Double(_) => DOUBLE,
+        Value::Year(_) => YEAR,
+        Value::When(_) => WHEN,
+        Value::Bytes { start: _, len: _ } => BYTES,
+    }
+}
+
+pub(crate) fn int_in(value: Value) -> i64
+    ensures { λ r. ⌜ r ≡ intIn (datumOf [] value) ⌝ }
+{
+    match value {
+        Value::Int(z) => z,
+        Value::Null => 0,
+        Value::Uint(_) => 0,
+        Value::Float(_) => 0,
+        Value::Double(_) => 0,
+        Value::Year(_) => 0,
+        Value::When(_) => 0,
+        Value::Bytes { start: _, len: _ } => 0,
+    }
+}
+
+pub(crate) fn number_in(value: Value) -> u64
+    ensures { λ r. ⌜ r ≡ numberIn (datumOf [] value) ⌝ }
+{
+    match value {
+        Value::Uint(n) => n,
+        Value::Float(bits) => bits as u64,
+        Value::Double(bits) => bits,
+        Value::Year(y) => y as u64,
+        Value::Null => 0,
+        Value::Int(_) => 0,
+        Value::When(_) => 0,
+        Value::Bytes { start: _, len: _ } => 0,
+    }
+}
+
+pub(crate) fn when_in(value: Value) -> Temporal
+    ensures { λ r. ⌜ r ≡ whenIn (datumOf [] value) ⌝ }
+{
+    let none = Temporal::Since(Stamp {
+        seconds: 0,
+        micros: 0,
+    });
+    match value {
+        Value::When(t) => t,
+        Value::Null => none,
+        Value::Int(_) => none,
+        Value::Uint(_) => none,
+        Value::Float(_) => none,
+        Value::Double(_) => none,
+        Value::Year(_) => none,
+        Value::Bytes { start: _, len: _ } => none,
+    }
+}
+
+pub(crate) fn start_of(value: Value) -> usize
+    ensures { λ r. ⌜ r ≡ startOf value ⌝ }
+{
+    match value {
+        Value::Bytes { start, len: _ } => start,
+        Value::Null => 0,
+        Value::Int(_) => 0,
+        Value::Uint(_) => 0,
+        Value::Float(_) => 0,
+        Value::Double(_) => 0,
+        Value::Year(_) => 0,
+        Value::When(_) => 0,
+    }
+}
+
+pub(crate) fn len_of(value: Value) -> usize
+    ensures { λ r. ⌜ r ≡ lenOf value ⌝ }
+{
+    match value {
+        Value::Bytes { start: _, len } => len,
+        Value::Null => 0,
+        Value::Int(_) => 0,
+        Value::Uint(_) => 0,
+        Value::Float(_) => 0,
+        Value::Double(_) => 0,
+        Value::Year(_) => 0,
+        Value::When(_) => 0,
+    }
 }

@@ -1,0 +1,35 @@
+-- What the readers and writers of the code use: a reading at a place that goes well, or ends early. Assumes nothing.
+use Prim.Native.Nat.{ℕ, _+_, _-_, _≤_, _<_, min}
+use mathlib.Core.Path.{_≡_, refl, sym, ap, _∙_}
+use mathlib.Core.Bool.{true}
+use mathlib.Core.List.{List}
+use native.Mathlib.Omega.{arith}
+use lib.ListN.{length, take, drop, length-drop}
+use lib.Seq.{length-take-le}
+use Rattle.wire.specs.Outcome.{Outcome, ok, refuse}
+use Rattle.value.specs.declared.shape.Shape.{Shape}
+use Rattle.value.specs.declared.datum.Value.{Value}
+use Rattle.value.specs.Columns.{isTaken}
+use Rattle.value.specs.Shapes.{need, decode, fault}
+use Rattle.value.specs.Reading.{readDatum, readValue, placed, short}
+use Rattle.value.proofs.Laws.{reads, fails-back}
+
+pub got : (sh : Shape) (p : ℕ) (s : List ℕ) (at n : ℕ) (v : Value) (next : ℕ) → isTaken sh ≡ true → need sh (drop at s) ≡ n → n ≤ length s - at
+    → fault sh (take n (drop at s)) ≡ 0 → v ≡ placed (at + n) (decode sh (take n (drop at s))) → next ≡ at + n → ok (v, next) ≡ readValue sh p s at
+unfolding readValue
+got sh p s at n v next t e h z d m = rw (reads sh p (drop at s) n t e (rw length-drop h) z, d, m)
+
+pub ends-early : (sh : Shape) (p : ℕ) (s : List ℕ) (at : ℕ) → isTaken sh ≡ true → length s - at < need sh (drop at s) → refuse 9 p ≡ readValue sh p s at
+unfolding readValue
+ends-early sh p s at t h = rw (fails-back sh p (drop at s) 9 t (short (rw length-drop h)))
+
+-- a width of at most 8 is taken as it is
+pub narrow : (k : ℕ) → k ≤ 8 → min k 8 ≡ k
+narrow k h = omega arith
+
+-- how long the n bytes at a place are, and those behind the first k of k + n
+pub part-length : (s : List ℕ) (at n : ℕ) → n ≤ length s - at → length (take n (drop at s)) ≡ n
+part-length s at n h = length-take-le n (drop at s) (rw length-drop h)
+
+pub behind-length : (s : List ℕ) (at k n : ℕ) → k + n ≤ length s - at → length (drop k (take (k + n) (drop at s))) ≡ n
+behind-length s at k n h = length-drop k (take (k + n) (drop at s)) ∙ rw (part-length s at (k + n) h) (omega arith)

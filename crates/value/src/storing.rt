@@ -1,0 +1,137 @@
+// A value stored, by its shape: whether it is one of the column's, how many bytes it takes, and these bytes written.
+use crate::datum::BYTES;
+use crate::datum::DOUBLE;
+use crate::datum::FLOAT;
+use crate::datum::INT;
+use crate::datum::UINT;
+use crate::datum::Value;
+use crate::datum::YEAR;
+use crate::datum::int_in;
+use crate::datum::len_of;
+use crate::datum::number_in;
+use crate::datum::start_of;
+use crate::datum::tag_of;
+use crate::shape::Shape;
+use crate::signed::in_halves;
+use crate::signed::top;
+use crate::signed::twos;
+use wire::Refusal;
+use wire::Written;
+use wire::refusal::NO_ROOM;
+ghost use mathlib.Core.Path.{_≡_};
+ghost use mathlib.Core.Bool.{true, _&&_};
+ghost use mathlib.Core.List.{[], _++_};
+ghost use Prim.Native.Nat.{_+_, _≤_, _<_, _^_};
+ghost use lib.ListN.{length, take, drop};
+ghost use lib.Dec.{leb, eqb};
+ghost use Rattle.wire.specs.Number.{leBytes};
+ghost use Rattle.wire.specs.Signed.{inHalves};
+ghost use Rattle.wire.specs.Stored.{store, answerOf, leftOf, writtenOf};
+ghost use Rattle.value.specs.Data.{tag, intIn, numberIn};
+ghost use Rattle.value.specs.Shapes.{Sized, bytesOf};
+ghost use Rattle.value.specs.Reading.{datumOf};
+ghost use Rattle.value.specs.Storing.{startOf, lenOf, isLent, isIn};
+
+// How many bytes a value takes, or why a column does not take it.
+pub enum Size {
+    Takes(usize),
+    Refused(Refusal),
+}
+
+// Whether a value is a number of a sort, from least to most.
+fn is_number(value: Value, sort: u8, least: u64, most: u64) -> bool
+    ensures { λ r. ⌜ r ≡ (eqb (tag (datumOf [] value)) sort && (leb least (numberIn (datumOf [] value)) && leb (numberIn (datumOf [] value)) most)) ⌝ }
+{
+    if tag_of(value) != sort {
+        return false;
+    }
+    let n = number_in(value);
+    if n < least {
+        return false;
+    }
+    n <= most
+}
+
+// Whether a value is a signed number of a width whose greatest number is most.
+fn is_signed(value: Value, most: u64) -> bool
+    ensures { λ r. ⌜ r ≡ (eqb (tag (datumOf [] value)) 1 && inHalves (most + 1) (intIn (datumOf [] value))) ⌝ }
+{
+    if tag_of(value) != INT {
+        return false;
+    }
+    in_halves(int_in(value), most)
+}
+
+// Whether a value is bytes, from least to most of them.
+fn is_bytes(value: Value, least: u64, most: u64) -> bool
+    ensures { λ r. ⌜ r ≡ (eqb (tag (datumOf [] value)) 7 && (leb least (lenOf value) && leb (lenOf value) most)) ⌝ }
+{
+    if tag_of(value) != BYTES {
+        return false;
+    }
+    let n = len_of(value) as u64;
+    if n < least {
+        return false;
+    }
+    n <= most
+}
+
+// Whether all of a value's bytes are among those lent.
+fn is_lent(value: Value, lent: &[u8]) -> bool
+    ensures { λ r. ⌜ r ≡ isLent (now (lent .entry)) value ⌝ }
+{
+    wire::has_room(lent.len(), start_of(value), len_of(value))
+}
+
+// Whether a column of the shape takes the value.
+pub(crate) fn is_in(shape: Shape, value: Value, lent: &[u8]) -> bool
+    requires { ⌜ Sized shape ⌝ }
+    ensures { λ r. ⌜ r ≡ isIn shape (now (lent .entry)) value ⌝ }
+{
+    if !is_lent(value, lent) {
+        return false;
+    }
+    match shape {
+        Shape::Unsigned(k) => is_number(value, UINT, 0, top(k)),
+        Shape::Signed(k) => is_signed(value, top(k)),
+        Shape::FloatBits => is_number(value, FLOAT, 0, top(4)),
+        Shape::DoubleBits => is_number(value, DOUBLE, 0, top(8)),
+        Shape::YearByte => is_number(value, YEAR, 1900, 2155),
+        Shape::Timed(_) => false,
+        Shape::Fixed(n) => is_bytes(value, n as u64, n as u64),
+        Shape::Counted(k) => is_bytes(value, 0, top(k)),
+        Shape::NotTaken(_) => false,
+    }
+}
+
+// How many bytes a value that a column of the shape takes is stored in.
+pub(crate) fn size_in(shape: Shape, value: Value, lent: &[u8]) -> usize
+    requires { ⌜ Sized shape × (isIn shape (now lent) value ≡ true) ⌝ }
+    ensures { λ r. ⌜ r ≡ length (bytesOf shape (datumOf (now (lent .entry)) value)) ⌝ }
+{
+    match shape {
+        Shape::Unsigned(k) => k,
+        Shape::Signed(k) => k,
+        Shape::FloatBits => 4,
+        Shape::DoubleBits => 8,
+        Shape::YearByte => 1,
+        Shape::Timed(_) => 0,
+        Shape::Fixed(n) => n,
+        Shape::Counted(k) => k + len_of(value),
+        Shape::NotTaken(_) => 0,
+    }
+}
+
+// Writes a length of k bytes, and then the bytes.
+fn write_counted(k: usize, bytes: &[u8], buf: &mut [u8], at: usize) -> Written
+    requires { ⌜ (k ≤ 4) × (length (now bytes) < 2 ^ 32) ⌝ }
+    ensures { λ r. ⌜ writtenOf r ≡ answerOf (store (now (buf .entry)) at (leBytes k (length (now (bytes .entry))) ++ now (bytes .entry))) ⌝ }
+    ensures { λ _. ⌜ now (buf .exit) ≡ leftOf (now (buf .entry)) (store (now (buf .entry)) at (leBytes k (length (now (bytes .entry))) ++ now (bytes .entry))) ⌝ }
+{
+    let size = k + bytes.len();
+    if wire::has_room(buf.len(), at, size) {
+        wire::write_le(buf, at, k, bytes.len() as u64);
+        return wire::write_bytes(buf, at + k, bytes);
+    }
+    Written::Refused(wire::refuse(NO_ROOM, 0))
+}
