@@ -1,0 +1,4 @@
+-- The laws of the crate.
+pub mod Units
+pub mod Ranges
+pub mod Radices

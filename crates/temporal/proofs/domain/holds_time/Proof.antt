@@ -1,0 +1,89 @@
+use borrow.Author.Needs.{needs}
+use Rattle.temporal.proofs.domain.holds_time.Statement.{statement}
+use Rattle.temporal.proofs.domain.holds_time.Tie as tie
+use Rattle.temporal.proofs.domain.holds_time.Reads as reads
+use Rattle.temporal.proofs.domain.holds_time.Lts as lts
+use Rattle.temporal.proofs.domain.in_units.Reads as in-units-reads
+use Rattle.temporal.proofs.judge.clock_fault.Reads as clock-fault-reads
+use Rattle.temporal.proofs.sort.sort_of.Reads as sort-of-reads
+use Rattle.temporal.proofs.sort.time_in.Reads as time-in-reads
+
+-- src/domain.rt:85:8
+sort-of-requires : tie.Need-sort-of-requires
+sort-of-requires c κs = search needs
+
+-- src/domain.rt:86:9
+returns : tie.Need-returns
+returns c = ?
+
+-- src/domain.rt:88:9
+time-in-requires : tie.Need-time-in-requires
+time-in-requires c κs = search needs
+
+-- src/domain.rt:89:13
+cast-h : tie.Need-cast-h
+cast-h c = search needs
+
+-- src/domain.rt:90:13
+cast-m : tie.Need-cast-m
+cast-m c = search needs
+
+-- src/domain.rt:91:13
+cast-s : tie.Need-cast-s
+cast-s c = search needs
+
+-- src/domain.rt:92:13
+cast-u : tie.Need-cast-u
+cast-u c = search needs
+
+-- src/domain.rt:93:8
+clock-fault-requires : tie.Need-clock-fault-requires
+clock-fault-requires c κs = search needs
+
+-- src/domain.rt:94:9
+returns-2 : tie.Need-returns-2
+returns-2 c = ?
+
+-- src/domain.rt:97:19
+add-sum : tie.Need-add-sum
+add-sum c = search needs
+
+-- src/domain.rt:97:19
+add-sum-2 : tie.Need-add-sum-2
+add-sum-2 c = search needs
+
+-- src/domain.rt:97:19
+add-sum-3 : tie.Need-add-sum-3
+add-sum-3 c = search needs
+
+-- src/domain.rt:99:13
+returns-3 : tie.Need-returns-3
+returns-3 c = ?
+
+-- src/domain.rt:102:5
+in-units-requires : tie.Need-in-units-requires
+in-units-requires c κs = search needs
+
+-- src/domain.rt:81:1
+returns-4 : tie.Need-returns-4
+returns-4 c = ?
+
+pub holds-time-spec : {M : Type 1} → statement M
+holds-time-spec =
+    tie.close
+    (tie.spec
+    sort-of-requires
+    returns
+    time-in-requires
+    cast-h
+    cast-m
+    cast-s
+    cast-u
+    clock-fault-requires
+    returns-2
+    add-sum
+    add-sum-2
+    add-sum-3
+    returns-3
+    in-units-requires
+    returns-4)

@@ -1,0 +1,23 @@
+use Rattle.temporal.proofs.fraction.span.Statement.{statement}
+use Rattle.temporal.proofs.fraction.span.Tie as tie
+use Rattle.temporal.proofs.fraction.span.Reads as reads
+use Rattle.temporal.proofs.fraction.span.Lts as lts
+
+-- src/fraction.rt:45:9
+returns : tie.Need-returns
+returns c = ?
+
+-- src/fraction.rt:48:9
+returns-2 : tie.Need-returns-2
+returns-2 c = ?
+
+-- src/fraction.rt:51:9
+returns-3 : tie.Need-returns-3
+returns-3 c = ?
+
+-- src/fraction.rt:40:1
+returns-4 : tie.Need-returns-4
+returns-4 c = ?
+
+pub span-spec : {M : Type 1} → statement M
+span-spec = tie.close (tie.spec returns returns-2 returns-3 returns-4)

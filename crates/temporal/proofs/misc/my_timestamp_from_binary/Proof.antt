@@ -1,0 +1,47 @@
+use borrow.Author.Needs.{needs}
+use Rattle.temporal.proofs.misc.my_timestamp_from_binary.Statement.{statement}
+use Rattle.temporal.proofs.misc.my_timestamp_from_binary.Tie as tie
+use Rattle.temporal.proofs.misc.my_timestamp_from_binary.Reads as reads
+use Rattle.temporal.proofs.misc.my_timestamp_from_binary.Lts as lts
+use Rattle.temporal.proofs.fraction.unit.Reads as unit-reads
+use Rattle.temporal.proofs.judge.clock_fault.Reads as clock-fault-reads
+
+-- src/misc.rt:102:23
+unit-requires : tie.Need-unit-requires
+unit-requires c κs = search needs
+
+-- src/misc.rt:102:16
+mul-usec : tie.Need-mul-usec
+mul-usec c = ?
+
+-- src/misc.rt:103:9
+clock-fault-requires : tie.Need-clock-fault-requires
+clock-fault-requires c κs = search needs
+
+-- src/misc.rt:105:9
+returns : tie.Need-returns
+returns c = ?
+
+-- src/misc.rt:107:19
+cast-seconds : tie.Need-cast-seconds
+cast-seconds c = search needs
+
+-- src/misc.rt:108:18
+cast-micros : tie.Need-cast-micros
+cast-micros c = ?
+
+-- src/misc.rt:98:1
+returns-2 : tie.Need-returns-2
+returns-2 c = ?
+
+pub my-timestamp-from-binary-spec : {M : Type 1} → statement M
+my-timestamp-from-binary-spec =
+    tie.close
+    (tie.spec
+    unit-requires
+    mul-usec
+    clock-fault-requires
+    returns
+    cast-seconds
+    cast-micros
+    returns-2)

@@ -1,0 +1,21 @@
+use borrow.Author.Needs.{needs}
+use Rattle.temporal.proofs.write.units_in.Statement.{statement}
+use Rattle.temporal.proofs.write.units_in.Tie as tie
+use Rattle.temporal.proofs.write.units_in.Reads as reads
+use Rattle.temporal.proofs.write.units_in.Lts as lts
+use Rattle.temporal.proofs.fraction.unit.Reads as unit-reads
+
+-- src/write.rt:111:9
+unit-requires : tie.Need-unit-requires
+unit-requires c κs = search needs
+
+-- src/write.rt:111:5
+div-result : tie.Need-div-result
+div-result c = ?
+
+-- src/write.rt:106:1
+returns : tie.Need-returns
+returns c = ?
+
+pub units-in-spec : {M : Type 1} → statement M
+units-in-spec = tie.close (tie.spec unit-requires div-result returns)
