@@ -2,3 +2,5 @@
 pub mod Units
 pub mod Ranges
 pub mod Radices
+pub mod Holds
+pub mod Steps

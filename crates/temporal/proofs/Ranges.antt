@@ -18,6 +18,10 @@ pub and-no : (a : Bool) → (a && false) ≡ false
 and-no true = refl
 and-no false = refl
 
+pub and-yes : (a : Bool) → (a && true) ≡ a
+and-yes true = refl
+and-yes false = refl
+
 -- a part, and the others behind it
 over-clear : (v top p o : ℕ) → over v top (suc p) o ≡ 0 → (v ≤ top) × (o ≡ 0)
 over-clear v top p o e =

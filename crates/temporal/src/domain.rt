@@ -16,7 +16,7 @@ use crate::sort::stamp_in;
 use crate::sort::time_in;
 ghost use mathlib.Core.Path.{_≡_};
 ghost use mathlib.Core.Bool.{_&&_};
-ghost use Prim.Native.Nat.{_≤_};
+ghost use Prim.Native.Nat.{_+_, _≤_};
 ghost use lib.Dec.{eqb};
 ghost use Rattle.temporal.specs.Kinds.{sort, stampIn, dateIn, momentIn, timeIn};
 ghost use Rattle.temporal.specs.Domains.{inUnits, stampDomain, dateDomain, momentDomain, timeDomain, domain};
@@ -93,13 +93,24 @@ fn holds_time(w: usize, temporal: Temporal) -> bool
     if clock_fault(838, h, m, s, u) != 0 {
         return false;
     }
-    if t.negative {
-        let sum = h + m + s + u;
-        if sum == 0 {
-            return false;
-        }
+    if negative_zero(t) {
+        return false;
     }
     in_units(w, t.micros)
+}
+
+fn negative_zero(t: Time) -> bool
+    ensures { λ r. ⌜ r ≡ t .negative && eqb (t .hours + t .minutes + t .seconds + t .micros) 0 ⌝ }
+{
+    if t.negative {
+        let h = t.hours as u64;
+        let m = t.minutes as u64;
+        let s = t.seconds as u64;
+        let u = t.micros as u64;
+        let sum = h + m + s + u;
+        return sum == 0;
+    }
+    false
 }
 
 fn holds_old_time(temporal: Temporal) -> bool

@@ -21,56 +21,68 @@ pub(crate) fn sort_of(temporal: Temporal) -> u8
 pub(crate) fn stamp_in(temporal: Temporal) -> Stamp
     ensures { λ r. ⌜ r ≡ stampIn temporal ⌝ }
 {
+    let none = Stamp {
+        seconds: 0,
+        micros: 0,
+    };
     match temporal {
         Temporal::Since(t) => t,
-        _ => Stamp {
-            seconds: 0,
-            micros: 0,
-        },
+        Temporal::On(_) => none,
+        Temporal::At(_) => none,
+        Temporal::Lasts(_) => none,
     }
 }
 
 pub(crate) fn date_in(temporal: Temporal) -> Date
     ensures { λ r. ⌜ r ≡ dateIn temporal ⌝ }
 {
+    let none = Date {
+        year: 0,
+        month: 0,
+        day: 0,
+    };
     match temporal {
+        Temporal::Since(_) => none,
         Temporal::On(d) => d,
-        _ => Date {
-            year: 0,
-            month: 0,
-            day: 0,
-        },
+        Temporal::At(_) => none,
+        Temporal::Lasts(_) => none,
     }
 }
 
 pub(crate) fn moment_in(temporal: Temporal) -> Moment
     ensures { λ r. ⌜ r ≡ momentIn temporal ⌝ }
 {
+    let none = Moment {
+        year: 0,
+        month: 0,
+        day: 0,
+        hour: 0,
+        minute: 0,
+        second: 0,
+        micros: 0,
+    };
     match temporal {
+        Temporal::Since(_) => none,
+        Temporal::On(_) => none,
         Temporal::At(m) => m,
-        _ => Moment {
-            year: 0,
-            month: 0,
-            day: 0,
-            hour: 0,
-            minute: 0,
-            second: 0,
-            micros: 0,
-        },
+        Temporal::Lasts(_) => none,
     }
 }
 
 pub(crate) fn time_in(temporal: Temporal) -> Time
     ensures { λ r. ⌜ r ≡ timeIn temporal ⌝ }
 {
+    let none = Time {
+        negative: false,
+        hours: 0,
+        minutes: 0,
+        seconds: 0,
+        micros: 0,
+    };
     match temporal {
+        Temporal::Since(_) => none,
+        Temporal::On(_) => none,
+        Temporal::At(_) => none,
         Temporal::Lasts(t) => t,
-        _ => Time {
-            negative: false,
-            hours: 0,
-            minutes: 0,
-            seconds: 0,
-            micros: 0,
-        },
     }
 }

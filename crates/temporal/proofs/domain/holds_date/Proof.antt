@@ -1,3 +1,8 @@
+use native.Mathlib.Omega.{arith}
+use mathlib.Core.Path.{_≡_, refl, sym, ap, _∙_}
+use Rattle.temporal.specs.Domains.{dateDomain}
+use Rattle.temporal.proofs.Ranges.{day-same}
+use borrow.Author.Tests.{eq-eqb, ne-eqb}
 use borrow.Author.Needs.{needs}
 use Rattle.temporal.proofs.domain.holds_date.Statement.{statement}
 use Rattle.temporal.proofs.domain.holds_date.Tie as tie
@@ -13,7 +18,7 @@ sort-of-requires c κs = search needs
 
 -- src/domain.rt:57:9
 returns : tie.Need-returns
-returns c = ?
+returns c = rw (← c .before .sort-of .ensures, ne-eqb _ _ (c .if1 .taken))
 
 -- src/domain.rt:59:9
 date-in-requires : tie.Need-date-in-requires
@@ -37,7 +42,8 @@ day-fault-requires c κs = search needs
 
 -- src/domain.rt:53:1
 returns-2 : tie.Need-returns-2
-returns-2 c = ?
+unfolding dateDomain
+returns-2 c = rw (← c .before .before .before .before .before .before .sort-of .ensures, eq-eqb _ _ (c .before .before .before .before .before .if1 .left), ← c .before .before .before .before .date-in .ensures, day-same, ← c .day-fault .ensures)
 
 pub holds-date-spec : {M : Type 1} → statement M
 holds-date-spec =

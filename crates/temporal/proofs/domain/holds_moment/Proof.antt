@@ -1,3 +1,8 @@
+use native.Mathlib.Omega.{arith}
+use mathlib.Core.Path.{_≡_, refl, sym, ap, _∙_}
+use Rattle.temporal.specs.Domains.{momentDomain}
+use Rattle.temporal.proofs.Ranges.{day-same, clock-same}
+use borrow.Author.Tests.{eq-eqb, ne-eqb}
 use borrow.Author.Needs.{needs}
 use Rattle.temporal.proofs.domain.holds_moment.Statement.{statement}
 use Rattle.temporal.proofs.domain.holds_moment.Tie as tie
@@ -15,7 +20,7 @@ sort-of-requires c κs = search needs
 
 -- src/domain.rt:68:9
 returns : tie.Need-returns
-returns c = ?
+returns c = rw (← c .before .sort-of .ensures, ne-eqb _ _ (c .if1 .taken))
 
 -- src/domain.rt:70:9
 moment-in-requires : tie.Need-moment-in-requires
@@ -39,7 +44,8 @@ day-fault-requires c κs = search needs
 
 -- src/domain.rt:72:9
 returns-2 : tie.Need-returns-2
-returns-2 c = ?
+unfolding momentDomain
+returns-2 c = rw (← c .before .before .before .before .before .before .before .sort-of .ensures, eq-eqb _ _ (c .before .before .before .before .before .before .if1 .left), ← c .before .before .before .before .before .moment-in .ensures, day-same, ← c .before .day-fault .ensures, ne-eqb _ _ (c .if2 .taken))
 
 -- src/domain.rt:74:24
 cast-clock-fault : tie.Need-cast-clock-fault
@@ -63,7 +69,8 @@ clock-fault-requires c κs = search needs
 
 -- src/domain.rt:75:9
 returns-3 : tie.Need-returns-3
-returns-3 c = ?
+unfolding momentDomain
+returns-3 c = rw (← c .before .before .before .before .before .before .before .before .before .before .before .before .before .sort-of .ensures, eq-eqb _ _ (c .before .before .before .before .before .before .before .before .before .before .before .before .if1 .left), ← c .before .before .before .before .before .before .before .before .before .before .before .moment-in .ensures, day-same, ← c .before .before .before .before .before .before .before .day-fault .ensures, eq-eqb _ _ (c .before .before .before .before .before .before .if2 .left), clock-same, ← c .before .clock-fault .ensures, ne-eqb _ _ (c .if3 .taken))
 
 -- src/domain.rt:77:5
 in-units-requires : tie.Need-in-units-requires
@@ -71,7 +78,8 @@ in-units-requires c κs = search needs
 
 -- src/domain.rt:63:1
 returns-4 : tie.Need-returns-4
-returns-4 c = ?
+unfolding momentDomain
+returns-4 c = rw (← c .before .before .before .before .before .before .before .before .before .before .before .before .before .before .sort-of .ensures, eq-eqb _ _ (c .before .before .before .before .before .before .before .before .before .before .before .before .before .if1 .left), ← c .before .before .before .before .before .before .before .before .before .before .before .before .moment-in .ensures, day-same, ← c .before .before .before .before .before .before .before .before .day-fault .ensures, eq-eqb _ _ (c .before .before .before .before .before .before .before .if2 .left), clock-same, ← c .before .before .clock-fault .ensures, eq-eqb _ _ (c .before .if3 .left)) (c .in-units .ensures)
 
 pub holds-moment-spec : {M : Type 1} → statement M
 holds-moment-spec =

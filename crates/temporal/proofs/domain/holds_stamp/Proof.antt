@@ -1,3 +1,7 @@
+use native.Mathlib.Omega.{arith}
+use mathlib.Core.Path.{_≡_, refl, sym, ap, _∙_}
+use Rattle.temporal.specs.Domains.{stampDomain}
+use borrow.Author.Tests.{eq-eqb, ne-eqb, le-leb, lt-leb}
 use borrow.Author.Needs.{needs}
 use Rattle.temporal.proofs.domain.holds_stamp.Statement.{statement}
 use Rattle.temporal.proofs.domain.holds_stamp.Tie as tie
@@ -13,7 +17,7 @@ sort-of-requires c κs = search needs
 
 -- src/domain.rt:44:9
 returns : tie.Need-returns
-returns c = ?
+returns c = rw (← c .before .sort-of .ensures, ne-eqb _ _ (c .if1 .taken))
 
 -- src/domain.rt:46:9
 stamp-in-requires : tie.Need-stamp-in-requires
@@ -21,7 +25,8 @@ stamp-in-requires c κs = search needs
 
 -- src/domain.rt:48:9
 returns-2 : tie.Need-returns-2
-returns-2 c = ?
+unfolding stampDomain
+returns-2 c = rw (← c .before .before .before .before .sort-of .ensures, eq-eqb _ _ (c .before .before .before .if1 .left), ← c .before .before .stamp-in .ensures, le-leb (c .before .before .stamp-in .result .seconds) 4294967295 (omega arith), lt-leb _ _ (c .if2 .taken))
 
 -- src/domain.rt:50:5
 in-units-requires : tie.Need-in-units-requires
@@ -29,7 +34,8 @@ in-units-requires c κs = search needs
 
 -- src/domain.rt:39:1
 returns-3 : tie.Need-returns-3
-returns-3 c = ?
+unfolding stampDomain
+returns-3 c = rw (← c .before .before .before .before .before .sort-of .ensures, eq-eqb _ _ (c .before .before .before .before .if1 .left), ← c .before .before .before .stamp-in .ensures, le-leb (c .before .before .before .stamp-in .result .seconds) 4294967295 (omega arith), le-leb _ _ (c .before .if2 .left)) (c .in-units .ensures)
 
 pub holds-stamp-spec : {M : Type 1} → statement M
 holds-stamp-spec =

@@ -1,9 +1,15 @@
+use native.Mathlib.Omega.{arith}
+use mathlib.Core.Path.{_≡_, refl, sym, ap, _∙_}
+use Rattle.temporal.specs.Domains.{timeDomain}
+use Rattle.temporal.proofs.Ranges.{clock-same, and-no, and-yes}
+use borrow.Author.Tests.{eq-eqb, ne-eqb}
 use borrow.Author.Needs.{needs}
 use Rattle.temporal.proofs.domain.holds_time.Statement.{statement}
 use Rattle.temporal.proofs.domain.holds_time.Tie as tie
 use Rattle.temporal.proofs.domain.holds_time.Reads as reads
 use Rattle.temporal.proofs.domain.holds_time.Lts as lts
 use Rattle.temporal.proofs.domain.in_units.Reads as in-units-reads
+use Rattle.temporal.proofs.domain.negative_zero.Reads as negative-zero-reads
 use Rattle.temporal.proofs.judge.clock_fault.Reads as clock-fault-reads
 use Rattle.temporal.proofs.sort.sort_of.Reads as sort-of-reads
 use Rattle.temporal.proofs.sort.time_in.Reads as time-in-reads
@@ -14,7 +20,7 @@ sort-of-requires c κs = search needs
 
 -- src/domain.rt:86:9
 returns : tie.Need-returns
-returns c = ?
+returns c = rw (← c .before .sort-of .ensures, ne-eqb _ _ (c .if1 .taken))
 
 -- src/domain.rt:88:9
 time-in-requires : tie.Need-time-in-requires
@@ -42,31 +48,26 @@ clock-fault-requires c κs = search needs
 
 -- src/domain.rt:94:9
 returns-2 : tie.Need-returns-2
-returns-2 c = ?
+unfolding timeDomain
+returns-2 c = rw (← c .before .before .before .before .before .before .before .before .sort-of .ensures, eq-eqb _ _ (c .before .before .before .before .before .before .before .if1 .left), ← c .before .before .before .before .before .before .time-in .ensures, clock-same, ← c .before .clock-fault .ensures, ne-eqb _ _ (c .if2 .taken))
 
--- src/domain.rt:97:19
-add-sum : tie.Need-add-sum
-add-sum c = search needs
+-- src/domain.rt:96:8
+negative-zero-requires : tie.Need-negative-zero-requires
+negative-zero-requires c κs = search needs
 
--- src/domain.rt:97:19
-add-sum-2 : tie.Need-add-sum-2
-add-sum-2 c = search needs
-
--- src/domain.rt:97:19
-add-sum-3 : tie.Need-add-sum-3
-add-sum-3 c = search needs
-
--- src/domain.rt:99:13
+-- src/domain.rt:97:9
 returns-3 : tie.Need-returns-3
-returns-3 c = ?
+unfolding timeDomain
+returns-3 c = rw (← c .before .before .before .before .before .before .before .before .before .before .sort-of .ensures, eq-eqb _ _ (c .before .before .before .before .before .before .before .before .before .if1 .left), ← c .before .before .before .before .before .before .before .before .time-in .ensures, clock-same, ← c .before .before .before .clock-fault .ensures, eq-eqb _ _ (c .before .before .if2 .left), ← c .before .negative-zero .ensures, c .if3 .taken) (sym (and-no _))
 
--- src/domain.rt:102:5
+-- src/domain.rt:99:5
 in-units-requires : tie.Need-in-units-requires
 in-units-requires c κs = search needs
 
 -- src/domain.rt:81:1
 returns-4 : tie.Need-returns-4
-returns-4 c = ?
+unfolding timeDomain
+returns-4 c = rw (← c .before .before .before .before .before .before .before .before .before .before .before .sort-of .ensures, eq-eqb _ _ (c .before .before .before .before .before .before .before .before .before .before .if1 .left), ← c .before .before .before .before .before .before .before .before .before .time-in .ensures, clock-same, ← c .before .before .before .before .clock-fault .ensures, eq-eqb _ _ (c .before .before .before .if2 .left), ← c .before .before .negative-zero .ensures, c .before .if3 .left) (c .in-units .ensures ∙ sym (and-yes _))
 
 pub holds-time-spec : {M : Type 1} → statement M
 holds-time-spec =
@@ -81,9 +82,7 @@ holds-time-spec =
     cast-u
     clock-fault-requires
     returns-2
-    add-sum
-    add-sum-2
-    add-sum-3
+    negative-zero-requires
     returns-3
     in-units-requires
     returns-4)

@@ -1,3 +1,6 @@
+use native.Mathlib.Omega.{arith}
+use mathlib.Core.Path.{_≡_, refl, sym, ap, _∙_}
+use Rattle.temporal.specs.Domains.{domain}
 use borrow.Author.Needs.{needs}
 use Rattle.temporal.proofs.domain.in_domain.Statement.{statement}
 use Rattle.temporal.proofs.domain.in_domain.Tie as tie
@@ -80,31 +83,37 @@ holds-time-requires c κs = search needs
 
 -- src/domain.rt:25:1
 returns : tie.Need-returns
-returns c = ?
+unfolding domain
+returns c = rw (c .before .enum-told .given .1) (c .holds-stamp .ensures)
 
 -- src/domain.rt:25:1
 returns-2 : tie.Need-returns-2
-returns-2 c = ?
+returns-2 c = rw (c .before .enum-told2 .given .1) (c .holds-old-time .ensures)
 
 -- src/domain.rt:25:1
 returns-3 : tie.Need-returns-3
-returns-3 c = ?
+unfolding domain
+returns-3 c = rw (c .before .enum-told3 .given .1) (c .holds-moment .ensures)
 
 -- src/domain.rt:25:1
 returns-4 : tie.Need-returns-4
-returns-4 c = ?
+unfolding domain
+returns-4 c = rw (c .before .enum-told4 .given .1) (c .holds-date .ensures)
 
 -- src/domain.rt:25:1
 returns-5 : tie.Need-returns-5
-returns-5 c = ?
+unfolding domain
+returns-5 c = rw (c .before .before .before .kind .given .1, ← c .before .fraction-bytes .ensures .0) (c .holds-stamp2 .ensures)
 
 -- src/domain.rt:25:1
 returns-6 : tie.Need-returns-6
-returns-6 c = ?
+unfolding domain
+returns-6 c = rw (c .before .before .before .kind2 .given .1, ← c .before .fraction-bytes2 .ensures .0) (c .holds-moment2 .ensures)
 
 -- src/domain.rt:25:1
 returns-7 : tie.Need-returns-7
-returns-7 c = ?
+unfolding domain
+returns-7 c = rw (c .before .before .before .kind3 .given .1, ← c .before .fraction-bytes3 .ensures .0) (c .holds-time .ensures)
 
 pub in-domain-spec : {M : Type 1} → statement M
 in-domain-spec =

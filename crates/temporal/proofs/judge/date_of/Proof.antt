@@ -1,3 +1,9 @@
+use native.Mathlib.Omega.{arith}
+use mathlib.Core.Path.{_≡_, refl, sym, ap, _∙_}
+use Rattle.temporal.specs.Moments.{dateOf}
+use Rattle.temporal.specs.Judgement.{judgedDate}
+use Rattle.temporal.proofs.Ranges.{day-clear}
+use borrow.Author.Tests.{eq-eqb, ne-eqb}
 use borrow.Author.Needs.{needs}
 use Rattle.temporal.proofs.judge.date_of.Statement.{statement}
 use Rattle.temporal.proofs.judge.date_of.Tie as tie
@@ -11,11 +17,12 @@ day-fault-requires c κs = search needs
 
 -- src/judge.rt:139:9
 returns : tie.Need-returns
-returns c = ?
+unfolding judgedDate dateOf
+returns c = rw (← c .before .day-fault .ensures, ne-eqb _ _ (c .if1 .taken))
 
 -- src/judge.rt:141:16
 cast-year : tie.Need-cast-year
-cast-year c = ?
+cast-year c = let k = day-clear _ _ _ 0 (sym (c .before .day-fault .ensures) ∙ c .if1 .left) .0 in omega arith
 
 -- src/judge.rt:142:17
 cast-month : tie.Need-cast-month
@@ -27,7 +34,8 @@ cast-day c = search needs
 
 -- src/judge.rt:130:1
 returns-2 : tie.Need-returns-2
-returns-2 c = ?
+unfolding judgedDate dateOf
+returns-2 c = rw (← c .before .day-fault .ensures, eq-eqb _ _ (c .if1 .left))
 
 pub date-of-spec : {M : Type 1} → statement M
 date-of-spec =

@@ -1,3 +1,6 @@
+use native.Mathlib.Omega.{arith}
+use mathlib.Core.Path.{_≡_, refl, sym, ap, _∙_}
+use Rattle.temporal.specs.Moments.{momentBy}
 use borrow.Author.Needs.{needs}
 use Rattle.temporal.proofs.judge.moment_by.Statement.{statement}
 use Rattle.temporal.proofs.judge.moment_by.Tie as tie
@@ -51,7 +54,8 @@ moment-of-requires c κs = search needs
 
 -- src/judge.rt:80:1
 returns : tie.Need-returns
-returns c = ?
+unfolding momentBy
+returns c = c .moment-of .ensures
 
 pub moment-by-spec : {M : Type 1} → statement M
 moment-by-spec =

@@ -1,3 +1,9 @@
+use native.Mathlib.Omega.{arith}
+use mathlib.Core.Path.{_≡_, refl, sym, ap, _∙_}
+use Rattle.temporal.specs.Times.{timeBy}
+use Rattle.temporal.specs.Judgement.{judgedTime}
+use Rattle.temporal.proofs.Ranges.{clock-clear}
+use borrow.Author.Tests.{eq-eqb, ne-eqb}
 use borrow.Author.Needs.{needs}
 use Rattle.temporal.proofs.judge.time_by.Statement.{statement}
 use Rattle.temporal.proofs.judge.time_by.Tie as tie
@@ -31,27 +37,29 @@ clock-fault-requires c κs = search needs
 
 -- src/judge.rt:64:9
 returns : tie.Need-returns
-returns c = ?
+unfolding judgedTime timeBy
+returns c = rw (← c .before .clock-fault .ensures, ne-eqb _ _ (c .if1 .taken))
 
 -- src/judge.rt:66:17
 cast-hours : tie.Need-cast-hours
-cast-hours c = ?
+cast-hours c = let k = clock-clear _ _ _ _ _ (sym (c .before .clock-fault .ensures) ∙ c .if1 .left) in omega arith
 
 -- src/judge.rt:67:19
 cast-minutes : tie.Need-cast-minutes
-cast-minutes c = ?
+cast-minutes c = let k = clock-clear _ _ _ _ _ (sym (c .before .clock-fault .ensures) ∙ c .if1 .left) in omega arith
 
 -- src/judge.rt:68:19
 cast-seconds : tie.Need-cast-seconds
-cast-seconds c = ?
+cast-seconds c = let k = clock-clear _ _ _ _ _ (sym (c .before .clock-fault .ensures) ∙ c .if1 .left) in omega arith
 
 -- src/judge.rt:69:18
 cast-micros : tie.Need-cast-micros
-cast-micros c = ?
+cast-micros c = let k = clock-clear _ _ _ _ _ (sym (c .before .clock-fault .ensures) ∙ c .if1 .left) in omega arith
 
 -- src/judge.rt:55:1
 returns-2 : tie.Need-returns-2
-returns-2 c = ?
+unfolding judgedTime timeBy
+returns-2 c = rw (← c .before .clock-fault .ensures, eq-eqb _ _ (c .if1 .left))
 
 pub time-by-spec : {M : Type 1} → statement M
 time-by-spec =

@@ -1,3 +1,6 @@
+use native.Mathlib.Omega.{arith}
+use mathlib.Core.Path.{_≡_, refl, sym, ap, _∙_}
+use Rattle.temporal.specs.Kinds.{fractionOf}
 use borrow.Author.Needs.{needs}
 use Rattle.temporal.proofs.kind.fraction_size.Statement.{statement}
 use Rattle.temporal.proofs.kind.fraction_size.Tie as tie
@@ -47,31 +50,38 @@ fraction-bytes-requires-3 c κs = search needs
 
 -- src/kind.rt:50:1
 returns : tie.Need-returns
-returns c = ?
+unfolding fractionOf
+returns c = rw (c .enum-told .given .1) (refl, omega arith)
 
 -- src/kind.rt:50:1
 returns-2 : tie.Need-returns-2
-returns-2 c = ?
+unfolding fractionOf
+returns-2 c = rw (c .enum-told2 .given .1) (refl, omega arith)
 
 -- src/kind.rt:50:1
 returns-3 : tie.Need-returns-3
-returns-3 c = ?
+unfolding fractionOf
+returns-3 c = rw (c .enum-told3 .given .1) (refl, omega arith)
 
 -- src/kind.rt:50:1
 returns-4 : tie.Need-returns-4
-returns-4 c = ?
+unfolding fractionOf
+returns-4 c = rw (c .enum-told4 .given .1) (refl, omega arith)
 
 -- src/kind.rt:50:1
 returns-5 : tie.Need-returns-5
-returns-5 c = ?
+unfolding fractionOf
+returns-5 c = rw (c .before .before .kind .given .1) (c .fraction-bytes .ensures .0, c .fraction-bytes .ensures .1)
 
 -- src/kind.rt:50:1
 returns-6 : tie.Need-returns-6
-returns-6 c = ?
+unfolding fractionOf
+returns-6 c = rw (c .before .before .kind2 .given .1) (c .fraction-bytes2 .ensures .0, c .fraction-bytes2 .ensures .1)
 
 -- src/kind.rt:50:1
 returns-7 : tie.Need-returns-7
-returns-7 c = ?
+unfolding fractionOf
+returns-7 c = rw (c .before .before .kind3 .given .1) (c .fraction-bytes3 .ensures .0, c .fraction-bytes3 .ensures .1)
 
 pub fraction-size-spec : {M : Type 1} → statement M
 fraction-size-spec =

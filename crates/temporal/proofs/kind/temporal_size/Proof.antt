@@ -1,3 +1,6 @@
+use native.Mathlib.Omega.{arith}
+use mathlib.Core.Path.{_≡_, refl, sym, ap, _∙_}
+use Rattle.temporal.specs.Reading.{sizeOf}
 use borrow.Author.Needs.{needs}
 use Rattle.temporal.proofs.kind.temporal_size.Statement.{statement}
 use Rattle.temporal.proofs.kind.temporal_size.Tie as tie
@@ -20,7 +23,8 @@ add-result c = search needs
 
 -- src/kind.rt:27:1
 returns : tie.Need-returns
-returns c = ?
+unfolding sizeOf
+returns c = rw (c .before .whole-bytes .ensures .0, c .fraction-size .ensures .0)
 
 pub temporal-size-spec : {M : Type 1} → statement M
 temporal-size-spec =

@@ -1,3 +1,6 @@
+use native.Mathlib.Omega.{arith}
+use mathlib.Core.Path.{_≡_, refl, sym, ap, _∙_}
+use Rattle.temporal.specs.Kinds.{wholeBytes}
 use borrow.Author.Needs.{needs}
 use Rattle.temporal.proofs.kind.whole_bytes.Statement.{statement}
 use Rattle.temporal.proofs.kind.whole_bytes.Tie as tie
@@ -34,31 +37,38 @@ enum-told-7 c = search needs
 
 -- src/kind.rt:36:1
 returns : tie.Need-returns
-returns c = ?
+unfolding wholeBytes
+returns c = rw (c .enum-told .given .1) (refl, omega arith)
 
 -- src/kind.rt:36:1
 returns-2 : tie.Need-returns-2
-returns-2 c = ?
+unfolding wholeBytes
+returns-2 c = rw (c .enum-told2 .given .1) (refl, omega arith)
 
 -- src/kind.rt:36:1
 returns-3 : tie.Need-returns-3
-returns-3 c = ?
+unfolding wholeBytes
+returns-3 c = rw (c .enum-told3 .given .1) (refl, omega arith)
 
 -- src/kind.rt:36:1
 returns-4 : tie.Need-returns-4
-returns-4 c = ?
+unfolding wholeBytes
+returns-4 c = rw (c .enum-told4 .given .1) (refl, omega arith)
 
 -- src/kind.rt:36:1
 returns-5 : tie.Need-returns-5
-returns-5 c = ?
+unfolding wholeBytes
+returns-5 c = rw (c .enum-told5 .given .1) (refl, omega arith)
 
 -- src/kind.rt:36:1
 returns-6 : tie.Need-returns-6
-returns-6 c = ?
+unfolding wholeBytes
+returns-6 c = rw (c .enum-told6 .given .1) (refl, omega arith)
 
 -- src/kind.rt:36:1
 returns-7 : tie.Need-returns-7
-returns-7 c = ?
+unfolding wholeBytes
+returns-7 c = rw (c .enum-told7 .given .1) (refl, omega arith)
 
 pub whole-bytes-spec : {M : Type 1} → statement M
 whole-bytes-spec =

@@ -1,3 +1,6 @@
+use native.Mathlib.Omega.{arith}
+use mathlib.Core.Path.{_≡_, refl, sym, ap, _∙_}
+use Rattle.temporal.proofs.Steps.{units-big, units-little}
 use borrow.Author.Needs.{needs}
 use Rattle.temporal.proofs.read.fraction_at.Statement.{statement}
 use Rattle.temporal.proofs.read.fraction_at.Tie as tie
@@ -30,11 +33,11 @@ read-be-requires c κs = search needs
 
 -- src/read.rt:73:9
 returns : tie.Need-returns
-returns c = ?
+returns c = units-big (c .before .before .before .before .before .before .args .kind) (c .before .before .before .before .before .before .args .s .now) (c .before .before .before .before .before .before .args .at) _ _ _ (c .before .before .before .before .whole-bytes .ensures .0) (c .before .before .before .fraction-size .ensures .0) (c .before .before .before .fraction-size .ensures .1) (sym (c .before .before .is-big .ensures) ∙ c .before .if1 .taken) (c .read-be .ensures .0) (c .read-be .ensures .1)
 
 -- src/read.rt:65:1
 returns-2 : tie.Need-returns-2
-returns-2 c = ?
+returns-2 c = units-little (c .before .before .before .before .before .args .kind) _ (sym (c .before .is-big .ensures) ∙ c .if1 .left)
 
 pub fraction-at-spec : {M : Type 1} → statement M
 fraction-at-spec =

@@ -1,3 +1,13 @@
+use native.Mathlib.Omega.{arith}
+use mathlib.Core.Path.{_≡_, refl, sym, ap, _∙_}
+use Prim.Native.Nat.{ℕ, _^_, _<_}
+use Rattle.temporal.specs.declared.misc.PackedTime.{PackedTime}
+use Rattle.temporal.specs.Fraction.{unitOf}
+use Rattle.temporal.specs.Ranges.{clockFault}
+use Rattle.temporal.specs.Times.{packedTime, time2Of, timeBy}
+use Rattle.temporal.specs.Moments.{packedDatetime, datetime2Of, datetime2Fault, datetimeOf, stampOf}
+use Rattle.temporal.specs.Kinds.{wholeBytes, fractionOf, partsOf, faultOf}
+use Rattle.temporal.specs.Judgement.{judgedTime, judgedMoment, judgedDatetime, judgedDate, judgedStamp}
 use borrow.Author.Needs.{needs}
 use Rattle.temporal.proofs.read.judge.Statement.{statement}
 use Rattle.temporal.proofs.read.judge.Tie as tie
@@ -19,7 +29,8 @@ enum-told c = search needs
 
 -- src/read.rt:84:28
 my-timestamp-from-binary-requires : tie.Need-my-timestamp-from-binary-requires
-my-timestamp-from-binary-requires c κs = ?
+unfolding wholeBytes
+my-timestamp-from-binary-requires c κs = let p : c .before .before .args .whole < 256 ^ 4 = rw (c .enum-told .given .1) at (c .before .before .pre .0) in (omega arith, omega arith, omega arith)
 
 -- src/read.rt:85:26
 enum-told-2 : tie.Need-enum-told-2
@@ -55,7 +66,10 @@ fraction-bytes-requires c κs = search needs
 
 -- src/read.rt:88:36
 my-timestamp-from-binary-requires-2 : tie.Need-my-timestamp-from-binary-requires-2
-my-timestamp-from-binary-requires-2 c κs = ?
+unfolding wholeBytes fractionOf
+my-timestamp-from-binary-requires-2 c κs = let p : c .before .before .before .before .args .whole < 256 ^ 4 = rw (c .before .before .kind .given .1) at (c .before .before .before .before .pre .0) in
+      let q : c .before .before .before .before .args .fraction < 256 ^ c .fraction-bytes .result = rw (c .fraction-bytes .ensures .0) (rw (c .before .before .kind .given .1) at (c .before .before .before .before .pre .1)) in
+      (c .fraction-bytes .ensures .1, q, omega arith)
 
 -- src/read.rt:89:27
 enum-known-kind-2 : tie.Need-enum-known-kind-2
@@ -67,7 +81,9 @@ fraction-bytes-requires-2 c κs = search needs
 
 -- src/read.rt:89:56
 my-datetime-packed-from-binary-requires : tie.Need-my-datetime-packed-from-binary-requires
-my-datetime-packed-from-binary-requires c κs = ?
+unfolding fractionOf
+my-datetime-packed-from-binary-requires c κs = let q : c .before .before .before .before .args .fraction < 256 ^ c .fraction-bytes2 .result = rw (c .fraction-bytes2 .ensures .0) (rw (c .before .before .kind2 .given .1) at (c .before .before .before .before .pre .1)) in
+      (c .fraction-bytes2 .ensures .1, q)
 
 -- src/read.rt:89:35
 datetime-from-packed-requires : tie.Need-datetime-from-packed-requires
@@ -83,7 +99,9 @@ fraction-bytes-requires-3 c κs = search needs
 
 -- src/read.rt:90:48
 my-time-packed-from-binary-requires : tie.Need-my-time-packed-from-binary-requires
-my-time-packed-from-binary-requires c κs = ?
+unfolding fractionOf
+my-time-packed-from-binary-requires c κs = let q : c .before .before .before .before .args .fraction < 256 ^ c .fraction-bytes3 .result = rw (c .fraction-bytes3 .ensures .0) (rw (c .before .before .kind3 .given .1) at (c .before .before .before .before .pre .1)) in
+      (c .fraction-bytes3 .ensures .1, q)
 
 -- src/read.rt:90:31
 time-from-packed-requires : tie.Need-time-from-packed-requires
@@ -91,31 +109,38 @@ time-from-packed-requires c κs = search needs
 
 -- src/read.rt:79:1
 returns : tie.Need-returns
-returns c = ?
+unfolding partsOf faultOf judgedStamp stampOf clockFault unitOf
+returns c = rw (c .before .enum-told .given .1) (c .my-timestamp-from-binary .ensures)
 
 -- src/read.rt:79:1
 returns-2 : tie.Need-returns-2
-returns-2 c = ?
+unfolding partsOf faultOf judgedTime
+returns-2 c = rw (c .before .enum-told2 .given .1) (c .time-by .ensures)
 
 -- src/read.rt:79:1
 returns-3 : tie.Need-returns-3
-returns-3 c = ?
+unfolding partsOf faultOf judgedMoment datetimeOf
+returns-3 c = rw (c .before .enum-told3 .given .1) (c .moment-by .ensures)
 
 -- src/read.rt:79:1
 returns-4 : tie.Need-returns-4
-returns-4 c = ?
+unfolding partsOf faultOf judgedDate
+returns-4 c = rw (c .before .enum-told4 .given .1) (c .date-of .ensures)
 
 -- src/read.rt:79:1
 returns-5 : tie.Need-returns-5
-returns-5 c = ?
+unfolding partsOf faultOf judgedStamp
+returns-5 c = rw (c .before .before .before .kind .given .1, ← c .before .fraction-bytes .ensures .0) (c .my-timestamp-from-binary2 .ensures)
 
 -- src/read.rt:79:1
 returns-6 : tie.Need-returns-6
-returns-6 c = ?
+unfolding partsOf faultOf judgedDatetime datetime2Of datetime2Fault
+returns-6 c = rw (c .before .before .before .before .kind2 .given .1, ← c .before .before .fraction-bytes2 .ensures .0) (c .datetime-from-packed .ensures ∙ ap judgedDatetime (c .before .my-datetime-packed-from-binary .ensures))
 
 -- src/read.rt:79:1
 returns-7 : tie.Need-returns-7
-returns-7 c = ?
+unfolding partsOf faultOf judgedTime time2Of
+returns-7 c = rw (c .before .before .before .before .kind3 .given .1, ← c .before .before .fraction-bytes3 .ensures .0) (c .time-from-packed .ensures ∙ ap (λ (p : PackedTime). judgedTime (timeBy 64 (p .negative) (p .whole) (p .micros))) (c .before .my-time-packed-from-binary .ensures))
 
 pub judge-spec : {M : Type 1} → statement M
 judge-spec =

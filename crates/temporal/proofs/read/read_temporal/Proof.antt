@@ -1,3 +1,11 @@
+use native.Mathlib.Omega.{arith}
+use mathlib.Core.Path.{_≡_, refl, sym, ap, _∙_}
+use Prim.Native.Nat.{_+_, _≤_}
+use lib.ListN.{length}
+use Rattle.wire.specs.Outcome.{refused}
+use Rattle.wire.proofs.Stores.{room, no-room}
+use Rattle.temporal.specs.Reading.{sizeOf}
+use Rattle.temporal.proofs.Steps.{read-in, read-out, read-short}
 use borrow.Author.Needs.{needs}
 use Rattle.temporal.proofs.read.read_temporal.Statement.{statement}
 use Rattle.temporal.proofs.read.read_temporal.Tie as tie
@@ -24,11 +32,11 @@ whole-at-requires c κs = search needs
 
 -- src/read.rt:43:13
 fraction-at-requires : tie.Need-fraction-at-requires
-fraction-at-requires c κs = ?
+fraction-at-requires c κs = rw (← c .before .before .before .temporal-size .ensures) (room _ _ _ _ (c .before .before .has-room .ensures) (c .before .if1 .taken))
 
 -- src/read.rt:44:20
 add-next : tie.Need-add-next
-add-next c = ?
+add-next c = let r : c .before .before .before .before .before .before .args .at + c .before .before .before .before .temporal-size .result ≤ length (c .before .before .before .before .before .before .args .s .now) = room _ _ _ _ (c .before .before .before .has-room .ensures) (c .before .before .if1 .taken) in omega arith
 
 -- src/read.rt:45:22
 judge-requires : tie.Need-judge-requires
@@ -48,11 +56,13 @@ refuse-requires c κs = search needs
 
 -- src/read.rt:45:9
 returns : tie.Need-returns
-returns c = ?
+returns c = let r : c .before .before .before .before .before .before .before .before .before .before .args .at + sizeOf (c .before .before .before .before .before .before .before .before .before .before .args .kind) ≤ length (c .before .before .before .before .before .before .before .before .before .before .args .s .now) = rw (← c .before .before .before .before .before .before .before .before .temporal-size .ensures) (room _ _ _ _ (c .before .before .before .before .before .before .before .has-room .ensures) (c .before .before .before .before .before .before .if1 .taken)) in
+      rw (c .before .before .before .before .before .before .before .before .temporal-size .ensures) (sym (read-in (c .before .before .before .before .before .before .before .before .before .before .args .kind) (c .before .before .before .before .before .before .before .before .before .before .args .place) (c .before .before .before .before .before .before .before .before .before .before .args .s .now) (c .before .before .before .before .before .before .before .before .before .before .args .at) _ _ r (c .before .before .before .before .before .whole-at .ensures .0) (c .before .before .before .before .fraction-at .ensures .0) _ (sym (c .before .before .before .judge .ensures) ∙ c .before .temporal .given .1)))
 
 -- src/read.rt:45:9
 returns-2 : tie.Need-returns-2
-returns-2 c = ?
+returns-2 c = let r : c .before .before .before .before .before .before .before .before .before .before .args .at + sizeOf (c .before .before .before .before .before .before .before .before .before .before .args .kind) ≤ length (c .before .before .before .before .before .before .before .before .before .before .args .s .now) = rw (← c .before .before .before .before .before .before .before .before .temporal-size .ensures) (room _ _ _ _ (c .before .before .before .before .before .before .before .has-room .ensures) (c .before .before .before .before .before .before .if1 .taken)) in
+      ap refused (c .refuse .ensures) ∙ sym (read-out (c .before .before .before .before .before .before .before .before .before .before .args .kind) (c .before .before .before .before .before .before .before .before .before .before .args .place) (c .before .before .before .before .before .before .before .before .before .before .args .s .now) (c .before .before .before .before .before .before .before .before .before .before .args .at) _ _ r (c .before .before .before .before .before .whole-at .ensures .0) (c .before .before .before .before .fraction-at .ensures .0) _ (sym (c .before .before .before .judge .ensures) ∙ c .before .enum-told .given .1))
 
 -- src/read.rt:50:27
 refuse-requires-2 : tie.Need-refuse-requires-2
@@ -60,7 +70,7 @@ refuse-requires-2 c κs = search needs
 
 -- src/read.rt:36:1
 returns-3 : tie.Need-returns-3
-returns-3 c = ?
+returns-3 c = ap refused (c .refuse2 .ensures) ∙ sym (read-short (c .before .before .before .before .before .args .kind) (c .before .before .before .before .before .args .place) (c .before .before .before .before .before .args .s .now) (c .before .before .before .before .before .args .at) (rw (← c .before .before .before .temporal-size .ensures) (no-room _ _ _ _ (c .before .before .has-room .ensures) (c .before .if1 .left))))
 
 pub read-temporal-spec : {M : Type 1} → statement M
 read-temporal-spec =

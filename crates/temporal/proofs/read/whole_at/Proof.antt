@@ -1,3 +1,6 @@
+use native.Mathlib.Omega.{arith}
+use mathlib.Core.Path.{_≡_, refl, sym, ap, _∙_}
+use Rattle.temporal.proofs.Steps.{whole-big, whole-little}
 use borrow.Author.Needs.{needs}
 use Rattle.temporal.proofs.read.whole_at.Statement.{statement}
 use Rattle.temporal.proofs.read.whole_at.Tie as tie
@@ -22,7 +25,7 @@ read-be-requires c κs = search needs
 
 -- src/read.rt:59:9
 returns : tie.Need-returns
-returns c = ?
+returns c = whole-big (c .before .before .before .before .before .args .kind) (c .before .before .before .before .before .args .s .now) (c .before .before .before .before .before .args .at) _ _ (c .before .before .before .whole-bytes .ensures .0) (c .before .before .before .whole-bytes .ensures .1) (sym (c .before .before .is-big .ensures) ∙ c .before .if1 .taken) (c .read-be .ensures .0) (c .read-be .ensures .1)
 
 -- src/read.rt:61:5
 read-le-requires : tie.Need-read-le-requires
@@ -30,7 +33,7 @@ read-le-requires c κs = search needs
 
 -- src/read.rt:54:1
 returns-2 : tie.Need-returns-2
-returns-2 c = ?
+returns-2 c = whole-little (c .before .before .before .before .before .args .kind) (c .before .before .before .before .before .args .s .now) (c .before .before .before .before .before .args .at) _ _ (c .before .before .before .whole-bytes .ensures .0) (c .before .before .before .whole-bytes .ensures .1) (sym (c .before .before .is-big .ensures) ∙ c .before .if1 .left) (c .read-le .ensures .0) (c .read-le .ensures .1)
 
 pub whole-at-spec : {M : Type 1} → statement M
 whole-at-spec =

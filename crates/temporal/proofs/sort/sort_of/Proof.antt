@@ -1,3 +1,6 @@
+use native.Mathlib.Omega.{arith}
+use mathlib.Core.Path.{_≡_, refl, sym, ap, _∙_}
+use Rattle.temporal.specs.Kinds.{sort}
 use borrow.Author.Needs.{needs}
 use Rattle.temporal.proofs.sort.sort_of.Statement.{statement}
 use Rattle.temporal.proofs.sort.sort_of.Tie as tie
@@ -22,19 +25,23 @@ enum-told-4 c = search needs
 
 -- src/sort.rt:10:1
 returns : tie.Need-returns
-returns c = ?
+unfolding sort
+returns c = rw (c .enum-told .given .1)
 
 -- src/sort.rt:10:1
 returns-2 : tie.Need-returns-2
-returns-2 c = ?
+unfolding sort
+returns-2 c = rw (c .enum-told2 .given .1)
 
 -- src/sort.rt:10:1
 returns-3 : tie.Need-returns-3
-returns-3 c = ?
+unfolding sort
+returns-3 c = rw (c .enum-told3 .given .1)
 
 -- src/sort.rt:10:1
 returns-4 : tie.Need-returns-4
-returns-4 c = ?
+unfolding sort
+returns-4 c = rw (c .enum-told4 .given .1)
 
 pub sort-of-spec : {M : Type 1} → statement M
 sort-of-spec =

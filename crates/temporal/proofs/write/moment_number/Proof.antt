@@ -1,3 +1,5 @@
+use native.Mathlib.Omega.{arith}
+use mathlib.Core.Path.{_≡_, refl, sym, ap, _∙_}
 use borrow.Author.Needs.{needs}
 use Rattle.temporal.proofs.write.moment_number.Statement.{statement}
 use Rattle.temporal.proofs.write.moment_number.Tie as tie
@@ -31,7 +33,7 @@ append-requires-5 c κs = search needs
 
 -- src/write.rt:150:1
 returns : tie.Need-returns
-returns c = ?
+returns c = (c .append5 .ensures .0 ∙ rw (c .before .append4 .ensures .0, c .before .before .append3 .ensures .0, c .before .before .before .append2 .ensures .0, c .before .before .before .before .append .ensures .0), omega arith)
 
 pub moment-number-spec : {M : Type 1} → statement M
 moment-number-spec =

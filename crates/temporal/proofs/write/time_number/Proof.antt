@@ -1,3 +1,5 @@
+use native.Mathlib.Omega.{arith}
+use mathlib.Core.Path.{_≡_, refl, sym, ap, _∙_}
 use borrow.Author.Needs.{needs}
 use Rattle.temporal.proofs.write.time_number.Statement.{statement}
 use Rattle.temporal.proofs.write.time_number.Tie as tie
@@ -19,7 +21,7 @@ append-requires-2 c κs = search needs
 
 -- src/write.rt:142:1
 returns : tie.Need-returns
-returns c = ?
+returns c = (c .append2 .ensures .0 ∙ rw (c .before .append .ensures .0), omega arith)
 
 pub time-number-spec : {M : Type 1} → statement M
 time-number-spec = tie.close (tie.spec cast-append append-requires append-requires-2 returns)

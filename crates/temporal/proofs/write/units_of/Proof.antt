@@ -1,3 +1,11 @@
+use native.Mathlib.Omega.{arith}
+use mathlib.Core.Path.{_≡_, refl, sym, ap, _∙_}
+use Prim.Native.Nat.{_≤_}
+use mathlib.Core.Bool.{true}
+use Rattle.temporal.specs.declared.kind.Kind.the-variants.{Time2}
+use Rattle.temporal.specs.Kinds.{unitsOf}
+use Rattle.temporal.specs.Domains.{domain}
+use Rattle.temporal.proofs.Holds.{time2-room}
 use borrow.Author.Needs.{needs}
 use Rattle.temporal.proofs.write.units_of.Statement.{statement}
 use Rattle.temporal.proofs.write.units_of.Tie as tie
@@ -72,35 +80,43 @@ time-in-requires c κs = search needs
 
 -- src/write.rt:102:31
 time2-fraction-requires : tie.Need-time2-fraction-requires
-time2-fraction-requires c κs = ?
+time2-fraction-requires c κs = let d : domain (Time2 _) (c .before .before .before .before .before .args .temporal) ≡ true = rw (c .before .before .before .kind3 .given .1) at (c .before .before .before .before .before .pre) in
+      (c .before .fraction-bytes3 .ensures .1, rw (c .time-in .ensures) (time2-room _ _ d .1))
 
 -- src/write.rt:91:1
 returns : tie.Need-returns
-returns c = ?
+unfolding unitsOf
+returns c = rw (c .enum-told .given .1)
 
 -- src/write.rt:91:1
 returns-2 : tie.Need-returns-2
-returns-2 c = ?
+unfolding unitsOf
+returns-2 c = rw (c .enum-told2 .given .1)
 
 -- src/write.rt:91:1
 returns-3 : tie.Need-returns-3
-returns-3 c = ?
+unfolding unitsOf
+returns-3 c = rw (c .enum-told3 .given .1)
 
 -- src/write.rt:91:1
 returns-4 : tie.Need-returns-4
-returns-4 c = ?
+unfolding unitsOf
+returns-4 c = rw (c .enum-told4 .given .1)
 
 -- src/write.rt:91:1
 returns-5 : tie.Need-returns-5
-returns-5 c = ?
+unfolding unitsOf
+returns-5 c = rw (c .before .before .before .before .kind .given .1, ← c .before .before .fraction-bytes .ensures .0, ← c .before .stamp-in .ensures) (c .units-in .ensures)
 
 -- src/write.rt:91:1
 returns-6 : tie.Need-returns-6
-returns-6 c = ?
+unfolding unitsOf
+returns-6 c = rw (c .before .before .before .before .kind2 .given .1, ← c .before .before .fraction-bytes2 .ensures .0, ← c .before .moment-in .ensures) (c .units-in2 .ensures)
 
 -- src/write.rt:91:1
 returns-7 : tie.Need-returns-7
-returns-7 c = ?
+unfolding unitsOf
+returns-7 c = rw (c .before .before .before .before .kind3 .given .1, ← c .before .before .fraction-bytes3 .ensures .0, ← c .before .time-in .ensures) (c .time2-fraction .ensures)
 
 pub units-of-spec : {M : Type 1} → statement M
 units-of-spec =

@@ -1,3 +1,11 @@
+use native.Mathlib.Omega.{arith}
+use mathlib.Core.Path.{_≡_, refl, sym, ap, _∙_}
+use Prim.Native.Nat.{_+_, _<_}
+use mathlib.Core.Bool.{true}
+use Rattle.temporal.specs.declared.kind.Kind.the-variants.{Time2}
+use Rattle.temporal.specs.Kinds.{wholeOf}
+use Rattle.temporal.specs.Domains.{domain}
+use Rattle.temporal.proofs.Holds.{time2-room}
 use borrow.Author.Needs.{needs}
 use Rattle.temporal.proofs.write.whole_of.Statement.{statement}
 use Rattle.temporal.proofs.write.whole_of.Tie as tie
@@ -103,35 +111,43 @@ time-in-requires-2 c κs = search needs
 
 -- src/write.rt:86:31
 time2-whole-requires : tie.Need-time2-whole-requires
-time2-whole-requires c κs = ?
+time2-whole-requires c κs = let d : domain (Time2 _) (c .before .before .before .before .before .args .temporal) ≡ true = rw (c .before .before .before .kind .given .1) at (c .before .before .before .before .before .pre) in
+      (c .before .fraction-bytes .ensures .1, rw (c .time-in2 .ensures) (time2-room _ _ d .0))
 
 -- src/write.rt:75:1
 returns : tie.Need-returns
-returns c = ?
+unfolding wholeOf
+returns c = rw (c .before .before .enum-told .given .1, ← c .before .stamp-in .ensures)
 
 -- src/write.rt:75:1
 returns-2 : tie.Need-returns-2
-returns-2 c = ?
+unfolding wholeOf
+returns-2 c = rw (c .before .before .enum-told2 .given .1, ← c .before .time-in .ensures) (c .time-number .ensures .0)
 
 -- src/write.rt:75:1
 returns-3 : tie.Need-returns-3
-returns-3 c = ?
+unfolding wholeOf
+returns-3 c = rw (c .before .before .enum-told3 .given .1, ← c .before .moment-in .ensures) (c .moment-number .ensures .0)
 
 -- src/write.rt:75:1
 returns-4 : tie.Need-returns-4
-returns-4 c = ?
+unfolding wholeOf
+returns-4 c = rw (c .before .before .enum-told4 .given .1, ← c .before .date-in .ensures) (c .date-number .ensures)
 
 -- src/write.rt:75:1
 returns-5 : tie.Need-returns-5
-returns-5 c = ?
+unfolding wholeOf
+returns-5 c = rw (c .before .before .enum-told5 .given .1, ← c .before .stamp-in2 .ensures)
 
 -- src/write.rt:75:1
 returns-6 : tie.Need-returns-6
-returns-6 c = ?
+unfolding wholeOf
+returns-6 c = rw (c .before .before .enum-told6 .given .1, ← c .before .moment-in2 .ensures, c .moment-number2 .ensures .0)
 
 -- src/write.rt:75:1
 returns-7 : tie.Need-returns-7
-returns-7 c = ?
+unfolding wholeOf
+returns-7 c = rw (c .before .before .before .before .kind .given .1, ← c .before .before .fraction-bytes .ensures .0, ← c .before .time-in2 .ensures) (c .time2-whole .ensures)
 
 pub whole-of-spec : {M : Type 1} → statement M
 whole-of-spec =

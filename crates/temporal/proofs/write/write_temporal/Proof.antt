@@ -1,3 +1,7 @@
+use native.Mathlib.Omega.{arith}
+use mathlib.Core.Path.{_≡_, refl, sym, ap, _∙_}
+use Rattle.temporal.proofs.Steps.{write-big, write-little, write-none}
+use Rattle.wire.specs.Outcome.{refused}
 use borrow.Author.Needs.{needs}
 use Rattle.temporal.proofs.write.write_temporal.Statement.{statement}
 use Rattle.temporal.proofs.write.write_temporal.Tie as tie
@@ -23,7 +27,7 @@ whole-bytes-requires c κs = search needs
 
 -- src/write.rt:45:13
 whole-of-requires : tie.Need-whole-of-requires
-whole-of-requires c κs = ?
+whole-of-requires c κs = sym (c .before .before .in-domain .ensures) ∙ c .before .if1 .taken
 
 -- src/write.rt:46:12
 is-big-requires : tie.Need-is-big-requires
@@ -35,7 +39,7 @@ fraction-size-requires c κs = search needs
 
 -- src/write.rt:48:17
 units-of-requires : tie.Need-units-of-requires
-units-of-requires c κs = ?
+units-of-requires c κs = sym (c .before .before .before .before .before .before .in-domain .ensures) ∙ c .before .before .before .before .before .if1 .taken
 
 -- src/write.rt:49:13
 write-two-requires : tie.Need-write-two-requires
@@ -47,7 +51,7 @@ same-length c = search needs
 
 -- src/write.rt:49:13
 returns : tie.Need-returns
-returns c = ?
+returns c = write-big (c .before .before .before .before .before .before .before .before .before .before .before .before .before .args .kind) (c .before .before .before .before .before .before .before .before .before .before .before .before .before .args .place) (c .before .before .before .before .before .before .before .before .before .before .before .before .before .args .buf .now) (c .before .before .before .before .before .before .before .before .before .before .before .before .before .args .at) (c .before .before .before .before .before .before .before .before .before .before .before .before .before .args .temporal) _ _ _ _ _ _ (sym (c .before .before .before .before .before .before .before .before .before .before .before .in-domain .ensures) ∙ c .before .before .before .before .before .before .before .before .before .before .if1 .taken) (sym (c .before .before .before .before .before .before .before .is-big .ensures) ∙ c .before .before .before .before .before .before .if2 .taken) (c .before .before .before .before .before .before .before .before .before .whole-bytes .ensures .0) (c .before .before .before .before .before .fraction-size .ensures .0) (c .before .before .before .before .before .before .before .before .whole-of .ensures) (c .before .before .before .before .units-of .ensures) (c .before .before .write-two .ensures .0, c .before .before .write-two .ensures .1)
 
 -- src/write.rt:51:9
 write-le-requires : tie.Need-write-le-requires
@@ -59,7 +63,7 @@ same-length-2 c = search needs
 
 -- src/write.rt:51:9
 returns-2 : tie.Need-returns-2
-returns-2 c = ?
+returns-2 c = write-little (c .before .before .before .before .before .before .before .before .before .before .before .args .kind) (c .before .before .before .before .before .before .before .before .before .before .before .args .place) (c .before .before .before .before .before .before .before .before .before .before .before .args .buf .now) (c .before .before .before .before .before .before .before .before .before .before .before .args .at) (c .before .before .before .before .before .before .before .before .before .before .before .args .temporal) _ _ _ _ (sym (c .before .before .before .before .before .before .before .before .before .in-domain .ensures) ∙ c .before .before .before .before .before .before .before .before .if1 .taken) (sym (c .before .before .before .before .before .is-big .ensures) ∙ c .before .before .before .before .if2 .left) (c .before .before .before .before .before .before .before .whole-bytes .ensures .0) (c .before .before .before .before .before .before .before .whole-bytes .ensures .1) (c .before .before .before .before .before .before .whole-of .ensures) (c .before .before .write-le .ensures .0, c .before .before .write-le .ensures .1)
 
 -- src/write.rt:53:22
 refuse-requires : tie.Need-refuse-requires
@@ -67,7 +71,8 @@ refuse-requires c κs = search needs
 
 -- src/write.rt:38:1
 returns-3 : tie.Need-returns-3
-returns-3 c = ?
+returns-3 c = let z = write-none (c .before .before .before .before .args .kind) (c .before .before .before .before .args .place) (c .before .before .before .before .args .buf .now) (c .before .before .before .before .args .at) (c .before .before .before .before .args .temporal) (sym (c .before .before .in-domain .ensures) ∙ c .before .if1 .left) in
+      rw z (ap refused (c .refuse .ensures), refl)
 
 pub write-temporal-spec : {M : Type 1} → statement M
 write-temporal-spec =
