@@ -3,4 +3,5 @@ pub mod Units
 pub mod Ranges
 pub mod Radices
 pub mod Holds
+pub mod Numbers
 pub mod Steps

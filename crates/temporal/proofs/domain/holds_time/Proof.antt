@@ -1,3 +1,4 @@
+use Rattle.temporal.specs.Domains.{inUnits}
 use native.Mathlib.Omega.{arith}
 use mathlib.Core.Path.{_≡_, refl, sym, ap, _∙_}
 use Rattle.temporal.specs.Domains.{timeDomain}
@@ -58,7 +59,7 @@ negative-zero-requires c κs = search needs
 -- src/domain.rt:97:9
 returns-3 : tie.Need-returns-3
 unfolding timeDomain
-returns-3 c = rw (← c .before .before .before .before .before .before .before .before .before .before .sort-of .ensures, eq-eqb _ _ (c .before .before .before .before .before .before .before .before .before .if1 .left), ← c .before .before .before .before .before .before .before .before .time-in .ensures, clock-same, ← c .before .before .before .clock-fault .ensures, eq-eqb _ _ (c .before .before .if2 .left), ← c .before .negative-zero .ensures, c .if3 .taken) (sym (and-no _))
+returns-3 c = rw (← c .before .before .before .before .before .before .before .before .before .before .sort-of .ensures, eq-eqb _ _ (c .before .before .before .before .before .before .before .before .before .if1 .left), ← c .before .before .before .before .before .before .before .before .time-in .ensures, clock-same, ← c .before .before .before .clock-fault .ensures, eq-eqb _ _ (c .before .before .if2 .left), ← c .before .negative-zero .ensures, c .if3 .taken) (sym (and-no (inUnits (c .before .before .before .before .before .before .before .before .before .before .before .args .w) (c .before .before .before .before .before .before .before .before .time-in .result .micros))))
 
 -- src/domain.rt:99:5
 in-units-requires : tie.Need-in-units-requires
@@ -67,7 +68,7 @@ in-units-requires c κs = search needs
 -- src/domain.rt:81:1
 returns-4 : tie.Need-returns-4
 unfolding timeDomain
-returns-4 c = rw (← c .before .before .before .before .before .before .before .before .before .before .before .sort-of .ensures, eq-eqb _ _ (c .before .before .before .before .before .before .before .before .before .before .if1 .left), ← c .before .before .before .before .before .before .before .before .before .time-in .ensures, clock-same, ← c .before .before .before .before .clock-fault .ensures, eq-eqb _ _ (c .before .before .before .if2 .left), ← c .before .before .negative-zero .ensures, c .before .if3 .left) (c .in-units .ensures ∙ sym (and-yes _))
+returns-4 c = rw (← c .before .before .before .before .before .before .before .before .before .before .before .sort-of .ensures, eq-eqb _ _ (c .before .before .before .before .before .before .before .before .before .before .if1 .left), ← c .before .before .before .before .before .before .before .before .before .time-in .ensures, clock-same, ← c .before .before .before .before .clock-fault .ensures, eq-eqb _ _ (c .before .before .before .if2 .left), ← c .before .before .negative-zero .ensures, c .before .if3 .left) (c .in-units .ensures ∙ sym (and-yes (inUnits (c .before .before .before .before .before .before .before .before .before .before .before .before .args .w) (c .before .before .before .before .before .before .before .before .before .time-in .result .micros))))
 
 pub holds-time-spec : {M : Type 1} → statement M
 holds-time-spec =

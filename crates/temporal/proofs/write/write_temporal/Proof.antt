@@ -51,7 +51,7 @@ same-length c = search needs
 
 -- src/write.rt:49:13
 returns : tie.Need-returns
-returns c = write-big (c .before .before .before .before .before .before .before .before .before .before .before .before .before .args .kind) (c .before .before .before .before .before .before .before .before .before .before .before .before .before .args .place) (c .before .before .before .before .before .before .before .before .before .before .before .before .before .args .buf .now) (c .before .before .before .before .before .before .before .before .before .before .before .before .before .args .at) (c .before .before .before .before .before .before .before .before .before .before .before .before .before .args .temporal) _ _ _ _ _ _ (sym (c .before .before .before .before .before .before .before .before .before .before .before .in-domain .ensures) ∙ c .before .before .before .before .before .before .before .before .before .before .if1 .taken) (sym (c .before .before .before .before .before .before .before .is-big .ensures) ∙ c .before .before .before .before .before .before .if2 .taken) (c .before .before .before .before .before .before .before .before .before .whole-bytes .ensures .0) (c .before .before .before .before .before .fraction-size .ensures .0) (c .before .before .before .before .before .before .before .before .whole-of .ensures) (c .before .before .before .before .units-of .ensures) (c .before .before .write-two .ensures .0, c .before .before .write-two .ensures .1)
+returns c = write-big (c .before .before .before .before .before .before .before .before .before .before .before .before .before .args .kind) (c .before .before .before .before .before .before .before .before .before .before .before .before .before .args .place) (c .before .before .before .before .before .before .before .before .before .before .before .before .before .args .buf .now) (c .before .before .before .before .before .before .before .before .before .before .before .before .before .args .at) (c .before .before .before .before .before .before .before .before .before .before .before .before .before .args .temporal) (c .before .before .write-two .result) _ _ _ _ _ (sym (c .before .before .before .before .before .before .before .before .before .before .before .in-domain .ensures) ∙ c .before .before .before .before .before .before .before .before .before .before .if1 .taken) (sym (c .before .before .before .before .before .before .before .is-big .ensures) ∙ c .before .before .before .before .before .before .if2 .taken) (c .before .before .before .before .before .before .before .before .before .whole-bytes .ensures .0) (c .before .before .before .before .before .fraction-size .ensures .0) (c .before .before .before .before .before .before .before .before .whole-of .ensures) (c .before .before .before .before .units-of .ensures) (c .before .before .write-two .ensures .0, c .before .before .write-two .ensures .1)
 
 -- src/write.rt:51:9
 write-le-requires : tie.Need-write-le-requires
@@ -63,7 +63,7 @@ same-length-2 c = search needs
 
 -- src/write.rt:51:9
 returns-2 : tie.Need-returns-2
-returns-2 c = write-little (c .before .before .before .before .before .before .before .before .before .before .before .args .kind) (c .before .before .before .before .before .before .before .before .before .before .before .args .place) (c .before .before .before .before .before .before .before .before .before .before .before .args .buf .now) (c .before .before .before .before .before .before .before .before .before .before .before .args .at) (c .before .before .before .before .before .before .before .before .before .before .before .args .temporal) _ _ _ _ (sym (c .before .before .before .before .before .before .before .before .before .in-domain .ensures) ∙ c .before .before .before .before .before .before .before .before .if1 .taken) (sym (c .before .before .before .before .before .is-big .ensures) ∙ c .before .before .before .before .if2 .left) (c .before .before .before .before .before .before .before .whole-bytes .ensures .0) (c .before .before .before .before .before .before .before .whole-bytes .ensures .1) (c .before .before .before .before .before .before .whole-of .ensures) (c .before .before .write-le .ensures .0, c .before .before .write-le .ensures .1)
+returns-2 c = write-little (c .before .before .before .before .before .before .before .before .before .before .before .args .kind) (c .before .before .before .before .before .before .before .before .before .before .before .args .place) (c .before .before .before .before .before .before .before .before .before .before .before .args .buf .now) (c .before .before .before .before .before .before .before .before .before .before .before .args .at) (c .before .before .before .before .before .before .before .before .before .before .before .args .temporal) (c .before .before .write-le .result) _ _ _ (sym (c .before .before .before .before .before .before .before .before .before .in-domain .ensures) ∙ c .before .before .before .before .before .before .before .before .if1 .taken) (sym (c .before .before .before .before .before .is-big .ensures) ∙ c .before .before .before .before .if2 .left) (c .before .before .before .before .before .before .before .whole-bytes .ensures .0) (c .before .before .before .before .before .before .before .whole-bytes .ensures .1) (c .before .before .before .before .before .before .whole-of .ensures) (c .before .before .write-le .ensures .0, c .before .before .write-le .ensures .1)
 
 -- src/write.rt:53:22
 refuse-requires : tie.Need-refuse-requires
