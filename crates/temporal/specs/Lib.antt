@@ -1,10 +1,11 @@
 -- The definitions of the crate: what people must believe. `Fraction` and `Ranges`: what the temporals share. `Times`, `Moments`: the parts of stored
--- numbers, and back. `Kinds`: the same for each column type, in one table. `Domains`: which temporals a column can hold. `Reading`: stored bytes read
+-- numbers, and back. `Kinds`: the same for each column type, in one table. `Judgement`: parts in range or not. `Domains`: which temporals a column can hold. `Reading`: stored bytes read
 -- and written.
 pub mod Fraction
 pub mod Ranges
 pub mod Times
 pub mod Moments
 pub mod Kinds
+pub mod Judgement
 pub mod Domains
 pub mod Reading

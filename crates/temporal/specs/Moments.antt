@@ -3,10 +3,11 @@
 -- month 4, year"; "17: 4 bytes, seconds"; "7: seconds, 4 bytes"; "datetimes not negative". Assumes nothing.
 use Prim.Native.Nat.{ℕ, _+_, _-_, _*_, _/_, _%_}
 use mathlib.Core.Bool.{cond}
-use lib.Dec.{leb}
+use lib.Dec.{ltb}
 use Rattle.temporal.specs.declared.parts.Date.{Date}
 use Rattle.temporal.specs.declared.parts.Moment.{Moment}
 use Rattle.temporal.specs.declared.parts.Stamp.{Stamp}
+use Rattle.temporal.specs.declared.misc.PackedTime.{PackedTime}
 use Rattle.temporal.specs.Fraction.{unitOf}
 use Rattle.temporal.specs.Ranges.{clockFault, dayFault}
 
@@ -29,14 +30,25 @@ momentNumber r h d mo m = ((((m .year * mo + m .month) * d + m .day) * h + m .ho
 abbrev pub momentFault : Moment → ℕ
 momentFault m = dayFault (m .year) (m .month) (m .day) (clockFault 23 (m .hour) (m .minute) (m .second) (m .micros))
 
--- ---- DATETIME2, of a stored whole part a and fraction f of w bytes; fault 8 is a negative one, which is told before any other
+-- ---- DATETIME2, of a stored whole part a and fraction f of w bytes: sign, whole part and microseconds, and the moment of these. Fault 8 is a
+-- negative one, which is told before any other
+unfoldable pub packedDatetime : ℕ → ℕ → ℕ → PackedTime
+unfolding unitOf
+packedDatetime w a f = record { negative = ltb a 549755813888; whole = a - 549755813888; micros = f * unitOf w }
+
+abbrev pub packedMoment : PackedTime → Moment
+packedMoment p = momentBy 64 32 32 13 (p .whole) (p .micros)
+
+abbrev pub packedFault : PackedTime → ℕ
+packedFault p = cond (p .negative) 8 (momentFault (packedMoment p))
+
 unfoldable pub datetime2Of : ℕ → ℕ → ℕ → Moment
-unfolding momentBy unitOf
-datetime2Of w a f = momentBy 64 32 32 13 (a - 549755813888) (f * unitOf w)
+unfolding momentBy packedDatetime
+datetime2Of w a f = packedMoment (packedDatetime w a f)
 
 unfoldable pub datetime2Fault : ℕ → ℕ → ℕ → ℕ
-unfolding datetime2Of
-datetime2Fault w a f = cond (leb 549755813888 a) (momentFault (datetime2Of w a f)) 8
+unfolding momentBy packedDatetime
+datetime2Fault w a f = packedFault (packedDatetime w a f)
 
 -- ---- DATETIME
 unfoldable pub datetimeOf : ℕ → Moment

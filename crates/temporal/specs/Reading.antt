@@ -4,11 +4,13 @@ use mathlib.Core.Bool.{Bool, cond}
 use mathlib.Core.List.{List, _++_}
 use lib.ListN.{length, take, drop}
 use lib.Dec.{leb, eqb}
-use Rattle.wire.specs.Outcome.{Outcome, ok, refuse}
+use Rattle.wire.specs.Outcome.{Outcome, ok, refused, refuse}
 use Rattle.wire.specs.Number.{leValue, beValue, leBytes, beBytes}
 use Rattle.wire.specs.Stored.{store}
 use Rattle.temporal.specs.declared.kind.Kind.{Kind}
 use Rattle.temporal.specs.declared.parts.Temporal.{Temporal}
+use Rattle.temporal.specs.declared.read.TemporalRead.{TemporalRead}
+use Rattle.temporal.specs.declared.read.TemporalRead.the-variants.{Read, Refused}
 use Rattle.temporal.specs.Kinds.{wholeBytes, fractionOf, isBig, partsOf, faultOf, wholeOf, unitsOf}
 use Rattle.temporal.specs.Domains.{domain}
 
@@ -58,3 +60,8 @@ readTemporal k place s at =
 unfoldable pub writeTemporal : Kind → ℕ → List ℕ → ℕ → Temporal → Outcome (ℕ × List ℕ)
 unfolding domain bytesOf store
 writeTemporal k place buf at t = cond (domain k t) (store buf at (bytesOf k t)) (refuse 13 place)
+
+-- what the answer of a reader says
+abbrev pub temporalOf : TemporalRead → Outcome (Temporal × ℕ)
+temporalOf (Read temporal next) = ok (temporal, next)
+temporalOf (Refused r) = refused r

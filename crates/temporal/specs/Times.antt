@@ -6,6 +6,7 @@ use Prim.Native.Nat.{ℕ, _+_, _-_, _*_, _/_, _%_, _^_}
 use mathlib.Core.Bool.{Bool, true, false, cond}
 use lib.Dec.{leb, eqb}
 use Rattle.temporal.specs.declared.parts.Time.{Time}
+use Rattle.temporal.specs.declared.misc.PackedTime.{PackedTime}
 use Rattle.temporal.specs.Fraction.{unitOf}
 
 -- the time of a whole part n, whose minutes and seconds go up to r, and of u microseconds; and its whole part again
@@ -15,13 +16,17 @@ timeBy r negative n u = record { negative = negative; hours = n / r / r; minutes
 abbrev pub timeNumber : ℕ → Time → ℕ
 timeNumber r t = (t .hours * r + t .minutes) * r + t .seconds
 
--- ---- TIME2, of a stored whole part a and fraction f of w bytes
+-- ---- TIME2, of a stored whole part a and fraction f of w bytes: sign, whole part and microseconds, and the time of these
+unfoldable pub packedTime : ℕ → ℕ → ℕ → PackedTime
+unfolding unitOf
+packedTime w a f =
+    cond (leb 8388608 a) record { negative = false; whole = a - 8388608; micros = f * unitOf w }
+    (cond (eqb f 0) record { negative = true; whole = 8388608 - a; micros = 0 }
+    record { negative = true; whole = 8388608 - a - 1; micros = (256 ^ w - f) * unitOf w })
+
 unfoldable pub time2Of : ℕ → ℕ → ℕ → Time
-unfolding timeBy unitOf
-time2Of w a f =
-    cond (leb 8388608 a) (timeBy 64 false (a - 8388608) (f * unitOf w))
-    (cond (eqb f 0) (timeBy 64 true (8388608 - a) 0)
-    (timeBy 64 true (8388608 - a - 1) ((256 ^ w - f) * unitOf w)))
+unfolding timeBy packedTime
+time2Of w a f = timeBy 64 (packedTime w a f .negative) (packedTime w a f .whole) (packedTime w a f .micros)
 
 -- what a time with u units of fraction is stored as
 unfoldable pub time2Whole : Time → ℕ → ℕ

@@ -1,10 +1,22 @@
 // The stored temporals, read and written. Ports mysql_common 0.38.2: binlog/misc.rs, and the arms of binlog/value.rs for old temporals.
+mod domain;
+mod fraction;
+mod judge;
 mod kind;
+mod misc;
 mod parts;
+mod read;
+mod sort;
+mod write;
 
+pub use domain::in_domain;
 pub use kind::Kind;
+pub use kind::temporal_size;
 pub use parts::Date;
 pub use parts::Moment;
 pub use parts::Stamp;
 pub use parts::Temporal;
 pub use parts::Time;
+pub use read::TemporalRead;
+pub use read::read_temporal;
+pub use write::write_temporal;

@@ -1,0 +1,94 @@
+-- What the domains say. Assumes nothing.
+use Prim.Native.Nat.{ℕ, _+_, _%_, _≤_, _<_}
+use mathlib.Core.Path.{_≡_, refl, sym}
+use mathlib.Core.Bool.{Bool, true, false, not, _&&_}
+use native.Mathlib.Omega.{arith}
+use borrow.Author.Tests.{le-leb, leb-true, eq-eqb, ne-eqb, eqb-true, eqb-false}
+use lib.Dec.{leb, eqb}
+use Rattle.temporal.specs.declared.kind.Kind.{Kind}
+use Rattle.temporal.specs.declared.kind.Kind.the-variants.{Time2}
+use Rattle.temporal.specs.declared.parts.Stamp.{Stamp}
+use Rattle.temporal.specs.declared.parts.Moment.{Moment}
+use Rattle.temporal.specs.declared.parts.Time.{Time}
+use Rattle.temporal.specs.declared.parts.Temporal.{Temporal}
+use Rattle.temporal.specs.Fraction.{fractionBytes, unitOf}
+use Rattle.temporal.specs.Ranges.{clockFault, dayFault}
+use Rattle.temporal.specs.Times.{timeNumber}
+use Rattle.temporal.specs.Kinds.{sort, timeIn}
+use Rattle.temporal.specs.Domains.{stampDomain, momentDomain, timeDomain, domain}
+use Rattle.temporal.proofs.Ranges.{Clock, Day, and-true, clock-of, clock-in, day-of, day-in}
+
+-- ---- a stamp, a moment and a time that a fraction of w bytes can hold, and the other way round
+pub record HoldsStamp (w : ℕ) (t : Stamp) : Type 0 where
+  pub seconds : t .seconds ≤ 4294967295
+  pub micros : t .micros ≤ 999999
+  pub units : t .micros % unitOf w ≡ 0
+
+pub stamp-of : (w : ℕ) (t : Stamp) → stampDomain w t ≡ true → HoldsStamp w t
+unfolding stampDomain
+stamp-of w t e =
+    let a = and-true _ _ e in
+    let b = and-true _ _ (a .1) in
+    record { seconds = leb-true _ _ (a .0); micros = leb-true _ _ (b .0); units = eqb-true _ _ (b .1) }
+
+pub stamp-in : (w : ℕ) (t : Stamp) → HoldsStamp w t → stampDomain w t ≡ true
+unfolding stampDomain
+stamp-in w t h = simp (le-leb (t .seconds) 4294967295 (h .seconds), le-leb (t .micros) 999999 (h .micros), eq-eqb (t .micros % unitOf w) 0 (h .units))
+
+pub record HoldsMoment (w : ℕ) (m : Moment) : Type 0 where
+  pub date : Day (m .year) (m .month) (m .day)
+  pub clock : Clock 23 (m .hour) (m .minute) (m .second) (m .micros)
+  pub units : m .micros % unitOf w ≡ 0
+
+pub moment-of : (w : ℕ) (m : Moment) → momentDomain w m ≡ true → HoldsMoment w m
+unfolding momentDomain
+moment-of w m e =
+    let a = and-true _ _ e in
+    let b = and-true _ _ (a .1) in
+    record { date = day-of _ _ _ (a .0); clock = clock-of _ _ _ _ _ (b .0); units = eqb-true _ _ (b .1) }
+
+pub moment-in : (w : ℕ) (m : Moment) → HoldsMoment w m → momentDomain w m ≡ true
+unfolding momentDomain
+moment-in w m h = rw (day-in (h .date), clock-in (h .clock), eq-eqb (m .micros % unitOf w) 0 (h .units)) refl
+
+abbrev pub sum : Time → ℕ
+sum t = t .hours + t .minutes + t .seconds + t .micros
+
+pub record HoldsTime (w : ℕ) (t : Time) : Type 0 where
+  pub clock : Clock 838 (t .hours) (t .minutes) (t .seconds) (t .micros)
+  pub units : t .micros % unitOf w ≡ 0
+  pub signed : t .negative ≡ true → 0 < sum t
+
+not-both : (a b : Bool) → not (a && b) ≡ true → a ≡ true → b ≡ false
+not-both true true e p = sym e
+not-both true false e p = refl
+not-both false b e p = let z : _≡_ {A = ℕ} 0 1 = cc in absurd (omega arith)
+
+not-zero : (b : Bool) (n : ℕ) → (b ≡ true → 0 < n) → not (b && eqb n 0) ≡ true
+not-zero true n h = let p = h refl in simp (ne-eqb n 0 (λ e. omega arith))
+not-zero false n h = refl
+
+pub time-of : (w : ℕ) (t : Time) → timeDomain w t ≡ true → HoldsTime w t
+unfolding timeDomain
+time-of w t e =
+    let a = and-true _ _ e in
+    let b = and-true _ _ (a .1) in
+    record {
+      clock = clock-of _ _ _ _ _ (a .0);
+      units = eqb-true _ _ (b .0);
+      signed = λ n.
+          let q = eqb-false (sum t) 0 (not-both (t .negative) _ (b .1) n) in
+          omega arith;
+    }
+
+pub time-in : (w : ℕ) (t : Time) → HoldsTime w t → timeDomain w t ≡ true
+unfolding timeDomain
+time-in w t h = rw (clock-in (h .clock), eq-eqb (t .micros % unitOf w) 0 (h .units)) (not-zero (t .negative) (sum t) (h .signed))
+
+-- ---- what TIME2 holds can be stored: no number of it is too large
+pub time2-room : (m0 : ℕ) (t : Temporal) → domain (Time2 m0) t ≡ true → (timeNumber 64 (timeIn t) < 8388608) × (timeIn t .micros ≤ 999999)
+unfolding domain
+time2-room m0 t e =
+    let a = and-true (eqb (sort t) 3) (timeDomain (fractionBytes m0) (timeIn t)) e in
+    let c = time-of (fractionBytes m0) (timeIn t) (a .1) .clock in
+    (omega arith, c .micros)

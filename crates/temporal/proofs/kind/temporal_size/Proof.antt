@@ -1,0 +1,31 @@
+use native.Mathlib.Omega.{arith}
+use mathlib.Core.Path.{_≡_, refl, sym, ap, _∙_}
+use Rattle.temporal.specs.Reading.{sizeOf}
+use borrow.Author.Needs.{needs}
+use Rattle.temporal.proofs.kind.temporal_size.Statement.{statement}
+use Rattle.temporal.proofs.kind.temporal_size.Tie as tie
+use Rattle.temporal.proofs.kind.temporal_size.Reads as reads
+use Rattle.temporal.proofs.kind.temporal_size.Lts as lts
+use Rattle.temporal.proofs.kind.fraction_size.Reads as fraction-size-reads
+use Rattle.temporal.proofs.kind.whole_bytes.Reads as whole-bytes-reads
+
+-- src/kind.rt:30:9
+whole-bytes-requires : tie.Need-whole-bytes-requires
+whole-bytes-requires c κs = search needs
+
+-- src/kind.rt:31:9
+fraction-size-requires : tie.Need-fraction-size-requires
+fraction-size-requires c κs = search needs
+
+-- src/kind.rt:32:5
+add-result : tie.Need-add-result
+add-result c = search needs
+
+-- src/kind.rt:27:1
+returns : tie.Need-returns
+unfolding sizeOf
+returns c = rw (c .before .whole-bytes .ensures .0, c .fraction-size .ensures .0)
+
+pub temporal-size-spec : {M : Type 1} → statement M
+temporal-size-spec =
+    tie.close (tie.spec whole-bytes-requires fraction-size-requires add-result returns)

@@ -1,0 +1,64 @@
+use native.Mathlib.Omega.{arith}
+use mathlib.Core.Path.{_≡_, refl, sym, ap, _∙_}
+use Rattle.temporal.specs.Times.{time2Whole}
+use borrow.Author.Tests.{eq-eqb, ne-eqb}
+use borrow.Author.Needs.{needs}
+use Rattle.temporal.proofs.write.time2_whole.Statement.{statement}
+use Rattle.temporal.proofs.write.time2_whole.Tie as tie
+use Rattle.temporal.proofs.write.time2_whole.Reads as reads
+use Rattle.temporal.proofs.write.time2_whole.Lts as lts
+use Rattle.temporal.proofs.write.time_number.Reads as time-number-reads
+use Rattle.temporal.proofs.write.units_in.Reads as units-in-reads
+
+-- src/write.rt:118:9
+time-number-requires : tie.Need-time-number-requires
+time-number-requires c κs = search needs
+
+-- src/write.rt:120:12
+units-in-requires : tie.Need-units-in-requires
+units-in-requires c κs = search needs
+
+-- src/write.rt:121:20
+sub-result : tie.Need-sub-result
+sub-result c = search needs
+
+-- src/write.rt:121:13
+returns : tie.Need-returns
+unfolding time2Whole
+returns c = rw (c .before .before .if1 .taken, ← c .before .units-in .ensures, eq-eqb _ _ (c .if2 .taken), c .before .before .before .time-number .ensures .0)
+
+-- src/write.rt:123:16
+sub-result-2 : tie.Need-sub-result-2
+sub-result-2 c = search needs
+
+-- src/write.rt:123:16
+sub-result-3 : tie.Need-sub-result-3
+sub-result-3 c = search needs
+
+-- src/write.rt:123:9
+returns-2 : tie.Need-returns-2
+unfolding time2Whole
+returns-2 c = rw (c .before .before .if1 .taken, ← c .before .units-in .ensures, ne-eqb _ _ (c .if2 .left), c .before .before .before .time-number .ensures .0)
+
+-- src/write.rt:125:5
+add-result : tie.Need-add-result
+add-result c = search needs
+
+-- src/write.rt:114:1
+returns-3 : tie.Need-returns-3
+unfolding time2Whole
+returns-3 c = rw (c .if1 .left, c .before .time-number .ensures .0)
+
+pub time2-whole-spec : {M : Type 1} → statement M
+time2-whole-spec =
+    tie.close
+    (tie.spec
+    time-number-requires
+    units-in-requires
+    sub-result
+    returns
+    sub-result-2
+    sub-result-3
+    returns-2
+    add-result
+    returns-3)

@@ -1,0 +1,110 @@
+// Ports binlog/misc.rs, in two steps as there: stored numbers to a packed one, and that to its parts. The Rust packs sign, whole part and
+// microseconds into one i64, by shifts; here they stand side by side, so that nothing is shifted and nothing below zero is shifted back. Its
+// functions read from a stream; here the numbers were read before, and w is how many bytes the fraction was.
+use crate::fraction::span;
+use crate::fraction::unit;
+use crate::judge::Judged;
+use crate::judge::clock_fault;
+use crate::judge::moment_by;
+use crate::judge::time_by;
+use crate::parts::Stamp;
+use crate::parts::Temporal;
+ghost use mathlib.Core.Path.{_≡_};
+ghost use Prim.Native.Nat.{_≤_, _<_, _^_};
+ghost use Rattle.temporal.specs.Times.{packedTime, timeBy};
+ghost use Rattle.temporal.specs.Moments.{packedDatetime, momentBy, stampOf};
+ghost use Rattle.temporal.specs.Judgement.{judgement, judgedTime, judgedStamp, judgedDatetime};
+
+pub(crate) const TIMEF_INT_OFS: u64 = 0x80_0000;
+pub(crate) const DATETIMEF_INT_OFS: u64 = 0x80_0000_0000;
+
+pub(crate) struct PackedTime {
+    pub(crate) negative: bool,
+    pub(crate) whole: u64,
+    pub(crate) micros: u64,
+}
+
+// A fraction of a negative time counts up from the whole second below it.
+pub(crate) fn my_time_packed_from_binary(w: usize, intpart: u64, frac: u64) -> PackedTime
+    requires { ⌜ (w ≤ 3) × (frac < 256 ^ w) ⌝ }
+    ensures { λ r. ⌜ r ≡ packedTime w intpart frac ⌝ }
+{
+    if TIMEF_INT_OFS <= intpart {
+        let whole = intpart - TIMEF_INT_OFS;
+        let micros = frac * unit(w);
+        return PackedTime {
+            negative: false,
+            whole,
+            micros,
+        };
+    }
+    if frac == 0 {
+        let whole = TIMEF_INT_OFS - intpart;
+        return PackedTime {
+            negative: true,
+            whole,
+            micros: 0,
+        };
+    }
+    let whole = TIMEF_INT_OFS - intpart - 1;
+    let units = span(w) - frac;
+    let micros = units * unit(w);
+    PackedTime {
+        negative: true,
+        whole,
+        micros,
+    }
+}
+
+// Hours are not split into days and hours, and not cut to 10 bits.
+pub(crate) fn time_from_packed(tmp: PackedTime) -> Judged
+    ensures { λ r. ⌜ r ≡ judgedTime (timeBy 64 (tmp .negative) (tmp .whole) (tmp .micros)) ⌝ }
+{
+    time_by(64, tmp.negative, tmp.whole, tmp.micros)
+}
+
+// The fraction is unsigned, where the Rust reads a signed one. Below zero there is no whole part to tell: 0.
+pub(crate) fn my_datetime_packed_from_binary(w: usize, intpart: u64, frac: u64) -> PackedTime
+    requires { ⌜ (w ≤ 3) × (frac < 256 ^ w) ⌝ }
+    ensures { λ r. ⌜ r ≡ packedDatetime w intpart frac ⌝ }
+{
+    let micros = frac * unit(w);
+    if DATETIMEF_INT_OFS <= intpart {
+        let whole = intpart - DATETIMEF_INT_OFS;
+        return PackedTime {
+            negative: false,
+            whole,
+            micros,
+        };
+    }
+    PackedTime {
+        negative: true,
+        whole: 0,
+        micros,
+    }
+}
+
+// One below zero is refused, where the Rust takes its absolute value.
+pub(crate) fn datetime_from_packed(tmp: PackedTime) -> Judged
+    ensures { λ r. ⌜ r ≡ judgedDatetime tmp ⌝ }
+{
+    if tmp.negative {
+        return Judged::Out(8);
+    }
+    moment_by(64, 32, 32, 13, tmp.whole, tmp.micros)
+}
+
+// Seconds are unsigned, where the Rust makes an i32 of them.
+pub(crate) fn my_timestamp_from_binary(w: usize, sec: u64, frac: u64) -> Judged
+    requires { ⌜ (w ≤ 3) × (frac < 256 ^ w) × (sec < 2 ^ 32) ⌝ }
+    ensures { λ r. ⌜ r ≡ judgedStamp (stampOf w sec frac) ⌝ }
+{
+    let usec = frac * unit(w);
+    let part = clock_fault(0, 0, 0, 0, usec);
+    if part != 0 {
+        return Judged::Out(part);
+    }
+    let seconds = sec as u32;
+    let micros = usec as u32;
+    Judged::In(Temporal::Since(Stamp { seconds, micros }))
+}

@@ -1,0 +1,175 @@
+// A temporal written: what its column can hold, in its stored form, all of it or nothing.
+use crate::domain::in_domain;
+use crate::fraction::fraction_bytes;
+use crate::fraction::span;
+use crate::fraction::unit;
+use crate::kind::Kind;
+use crate::kind::fraction_size;
+use crate::kind::is_big;
+use crate::kind::whole_bytes;
+use crate::misc::DATETIMEF_INT_OFS;
+use crate::misc::TIMEF_INT_OFS;
+use crate::parts::Date;
+use crate::parts::Moment;
+use crate::parts::Temporal;
+use crate::parts::Time;
+use crate::sort::date_in;
+use crate::sort::moment_in;
+use crate::sort::stamp_in;
+use crate::sort::time_in;
+use wire::Written;
+use wire::refusal::NOT_TAKEN;
+use wire::refusal::NO_ROOM;
+use wire::refuse;
+ghost use mathlib.Core.Path.{_≡_};
+ghost use mathlib.Core.Bool.{Bool, true};
+ghost use mathlib.Core.List.{_++_};
+ghost use Prim.Native.Nat.{_+_, _*_, _/_, _≤_, _<_, _^_};
+ghost use Rattle.wire.specs.Number.{beBytes};
+ghost use Rattle.wire.specs.Stored.{store, answerOf, leftOf, writtenOf};
+ghost use Rattle.temporal.specs.Fraction.{unitOf};
+ghost use Rattle.temporal.specs.Kinds.{wholeOf, unitsOf};
+ghost use Rattle.temporal.specs.Times.{timeNumber, time2Whole, time2Fraction};
+ghost use Rattle.temporal.specs.Moments.{momentNumber, dateNumber};
+ghost use Rattle.temporal.specs.Domains.{domain};
+ghost use Rattle.temporal.specs.Reading.{writeTemporal};
+
+// Writes the temporal from at on; place is what a refusal tells of one that the column cannot hold.
+pub fn write_temporal(kind: Kind, buf: &mut [u8], at: usize, temporal: Temporal, place: usize) -> Written
+    ensures { λ r. ⌜ writtenOf r ≡ answerOf (writeTemporal kind place (now (buf .entry)) at temporal) ⌝ }
+    ensures { λ _. ⌜ now (buf .exit) ≡ leftOf (now (buf .entry)) (writeTemporal kind place (now (buf .entry)) at temporal) ⌝ }
+{
+    let holds = in_domain(kind, temporal);
+    if holds {
+        let k = whole_bytes(kind);
+        let whole = whole_of(kind, temporal);
+        if is_big(kind) {
+            let w = fraction_size(kind);
+            let units = units_of(kind, temporal);
+            return write_two(buf, at, k, whole, w, units);
+        }
+        return wire::write_le(buf, at, k, whole);
+    }
+    Written::Refused(refuse(NOT_TAKEN, place))
+}
+
+// Writes the k low bytes of a whole part and the w low bytes of a fraction behind them, all of them or none.
+fn write_two(buf: &mut [u8], at: usize, k: usize, whole: u64, w: usize, units: u64) -> Written
+    requires { ⌜ (k ≤ 8) × (w ≤ 3) ⌝ }
+    ensures { λ r. ⌜ writtenOf r ≡ answerOf (store (now (buf .entry)) at (beBytes k whole ++ beBytes w units)) ⌝ }
+    ensures { λ _. ⌜ now (buf .exit) ≡ leftOf (now (buf .entry)) (store (now (buf .entry)) at (beBytes k whole ++ beBytes w units)) ⌝ }
+{
+    let size = k + w;
+    let room = wire::has_room(buf.len(), at, size);
+    if room {
+        wire::write_be(buf, at, k, whole);
+        let middle = at + k;
+        wire::write_be(buf, middle, w, units);
+        let next = middle + w;
+        return Written::Done { next };
+    }
+    Written::Refused(refuse(NO_ROOM, 0))
+}
+
+// The number that the whole part is stored as.
+fn whole_of(kind: Kind, temporal: Temporal) -> u64
+    requires { ⌜ domain kind temporal ≡ true ⌝ }
+    ensures { λ r. ⌜ r ≡ wholeOf kind temporal ⌝ }
+{
+    match kind {
+        Kind::Timestamp => stamp_in(temporal).seconds as u64,
+        Kind::OldTime => time_number(100, time_in(temporal)),
+        Kind::OldDatetime => moment_number(100, 100, 100, 100, moment_in(temporal)),
+        Kind::Newdate => date_number(date_in(temporal)),
+        Kind::Timestamp2 { m0: _ } => stamp_in(temporal).seconds as u64,
+        Kind::Datetime2 { m0: _ } => DATETIMEF_INT_OFS + moment_number(64, 32, 32, 13, moment_in(temporal)),
+        Kind::Time2 { m0 } => time2_whole(fraction_bytes(m0), time_in(temporal)),
+    }
+}
+
+// The number that the fraction is stored as.
+fn units_of(kind: Kind, temporal: Temporal) -> u64
+    requires { ⌜ domain kind temporal ≡ true ⌝ }
+    ensures { λ r. ⌜ r ≡ unitsOf kind temporal ⌝ }
+{
+    match kind {
+        Kind::Timestamp => 0,
+        Kind::OldTime => 0,
+        Kind::OldDatetime => 0,
+        Kind::Newdate => 0,
+        Kind::Timestamp2 { m0 } => units_in(fraction_bytes(m0), stamp_in(temporal).micros),
+        Kind::Datetime2 { m0 } => units_in(fraction_bytes(m0), moment_in(temporal).micros),
+        Kind::Time2 { m0 } => time2_fraction(fraction_bytes(m0), time_in(temporal)),
+    }
+}
+
+fn units_in(w: usize, micros: u32) -> u64
+    requires { ⌜ w ≤ 3 ⌝ }
+    ensures { λ r. ⌜ r ≡ micros / unitOf w ⌝ }
+{
+    let u = micros as u64;
+    u / unit(w)
+}
+
+fn time2_whole(w: usize, t: Time) -> u64
+    requires { ⌜ (w ≤ 3) × (timeNumber 64 t < 8388608) ⌝ }
+    ensures { λ r. ⌜ r ≡ time2Whole t (t .micros / unitOf w) ⌝ }
+{
+    let n = time_number(64, t);
+    if t.negative {
+        if units_in(w, t.micros) == 0 {
+            return TIMEF_INT_OFS - n;
+        }
+        return TIMEF_INT_OFS - n - 1;
+    }
+    TIMEF_INT_OFS + n
+}
+
+fn time2_fraction(w: usize, t: Time) -> u64
+    requires { ⌜ (w ≤ 3) × (t .micros ≤ 999999) ⌝ }
+    ensures { λ r. ⌜ r ≡ time2Fraction w (t .negative) (t .micros / unitOf w) ⌝ }
+{
+    let u = units_in(w, t.micros);
+    if t.negative {
+        if u == 0 {
+            return 0;
+        }
+        return span(w) - u;
+    }
+    u
+}
+
+fn time_number(radix: u64, t: Time) -> u64
+    requires { ⌜ radix ≤ 100 ⌝ }
+    ensures { λ r. ⌜ (r ≡ timeNumber radix t) × (r ≤ 1000000000) ⌝ }
+{
+    let minutes = append(t.hours as u64, radix, t.minutes);
+    append(minutes, radix, t.seconds)
+}
+
+fn moment_number(radix: u64, hours: u64, days: u64, months: u64, m: Moment) -> u64
+    requires { ⌜ (radix ≤ 100) × (hours ≤ 100) × (days ≤ 100) × (months ≤ 100) ⌝ }
+    ensures { λ r. ⌜ (r ≡ momentNumber radix hours days months m) × (r ≤ 1000000000000000) ⌝ }
+{
+    let to_months = append(m.year as u64, months, m.month);
+    let to_days = append(to_months, days, m.day);
+    let to_hours = append(to_days, hours, m.hour);
+    let to_minutes = append(to_hours, radix, m.minute);
+    append(to_minutes, radix, m.second)
+}
+
+fn date_number(d: Date) -> u64
+    ensures { λ r. ⌜ r ≡ dateNumber d ⌝ }
+{
+    let months = append(d.year as u64, 16, d.month);
+    append(months, 32, d.day)
+}
+
+// One more field behind a number.
+fn append(n: u64, radix: u64, field: u8) -> u64
+    requires { ⌜ (radix ≤ 100) × (n ≤ 100000000000000) ⌝ }
+    ensures { λ r. ⌜ (r ≡ n * radix + field) × (r ≤ n * 100 + 255) ⌝ }
+{
+    let last = field as u64;
+    n * radix + last
+}
