@@ -38,6 +38,7 @@ le-step : (s : List ℕ) (p n : ℕ) → p < length s → leValue (take (suc n) 
 unfolding leValue
 le-step s p n h = rw (drop-cons s p 0)
 
+-- a turn of the loop of `le`
 pub le-turn : (s : List ℕ) (at k i acc : ℕ) → 0 < i → i ≤ k → k ≤ length s - at → acc ≡ leValue (take (k - i) (drop (at + i) s))
     → acc * 256 + getD s (at + (i - 1)) 0 ≡ leValue (take (k - (i - 1)) (drop (at + (i - 1)) s))
 le-turn s at k i acc h l m e =
@@ -52,6 +53,7 @@ pub be-snoc : (l : List ℕ) (b : ℕ) → beValue (l ++ (b ∷ [])) ≡ beValue
 unfolding beValue leValue
 be-snoc l b = ap leValue (reverse-append l (b ∷ [])) ∙ omega arith
 
+-- a turn of the loop of `be`
 pub be-turn : (s : List ℕ) (at k i acc : ℕ) → i < k → k ≤ length s - at → acc ≡ beValue (take i (drop at s))
     → acc * 256 + getD s (at + i) 0 ≡ beValue (take (i + 1) (drop at s))
 be-turn s at k i acc h m e =
@@ -64,6 +66,7 @@ unfolding leBytes
 leBytes-length zero v = refl
 leBytes-length (suc k) v = ap suc (leBytes-length k (v / 256))
 
+-- the most significant first
 pub beBytes-length : (k v : ℕ) → length (beBytes k v) ≡ k
 unfolding beBytes
 beBytes-length k v = length-reverse (leBytes k v) ∙ leBytes-length k v
@@ -85,6 +88,7 @@ put-le-turn d at k i r h m =
     let q : at + i < at + k = omega arith in
     rw (e, take-suc-set d (at + i) (r % 256) p, drop-set-lt (at + k) d (at + i) (r % 256) q, n, append-snoc)
 
+-- the end of the loop of `put_le`
 pub put-le-done : (d goal : List ℕ) (at k i r : ℕ) → i ≤ k → k ≤ i → take (at + i) d ++ (leBytes (k - i) r ++ drop (at + k) d) ≡ goal → d ≡ goal
 unfolding leBytes
 put-le-done d goal at k i r h m e =
@@ -102,6 +106,7 @@ set-drop d p x h =
     let n : length (take p d) ≡ p = length-take-le p d (omega arith) in
     rw (set-split d p x, drop-at (take p d) (x ∷ drop (suc p) d) p n)
 
+-- a turn of the loop of `put_be`
 pub put-be-turn : (d : List ℕ) (at i r : ℕ) → 0 < i → at + i ≤ length d
     → take at (set d (at + (i - 1)) (r % 256)) ++ (beBytes (i - 1) (r / 256) ++ drop (at + (i - 1)) (set d (at + (i - 1)) (r % 256)))
     ≡ take at d ++ (beBytes i r ++ drop (at + i) d)
@@ -114,6 +119,7 @@ put-be-turn d at i r h m =
     let b : beBytes i r ≡ beBytes (i - 1) (r / 256) ++ (r % 256 ∷ []) = ap (λ (j : ℕ). beBytes j r) n ∙ be-more (i - 1) r in
     rw (take-set-le at d p (r % 256) l, set-drop d p (r % 256) q, b, e, append-snoc)
 
+-- the end of the loop of `put_be`
 pub put-be-done : (d goal : List ℕ) (at i r : ℕ) → i ≤ 0 → take at d ++ (beBytes i r ++ drop (at + i) d) ≡ goal → d ≡ goal
 unfolding beBytes leBytes
 put-be-done d goal at i r h e =

@@ -140,14 +140,17 @@ module _ (d : List ℕ) (at j : ℕ) (on : Bool) (h : at < length d) where
   kept-in-byte : (p q : ℕ) → p ≡ at → (q ≡ j → ⊥) → digit (getD written p 0) q ≡ digit (getD d p 0) q
   kept-in-byte p q e n = rw (e, same-byte) (digit-kept (getD d at 0) j q on n)
 
+-- the bit that a writer of bits wrote is read back, in either order
 pub lsb0-written : (d : List ℕ) (i : ℕ) (on : Bool) → i / 8 < length d → bitLsb0 (stored d (i / 8) (withDigit (getD d (i / 8) 0) (lsb0 i) on ∷ [])) i ≡ on
 unfolding bitLsb0
 lsb0-written d i on h = rw (same-byte d (i / 8) (lsb0 i) on h) (digit-written (getD d (i / 8) 0) (lsb0 i) on)
 
+-- the highest first
 pub msb0-written : (d : List ℕ) (i : ℕ) (on : Bool) → i / 8 < length d → bitMsb0 (stored d (i / 8) (withDigit (getD d (i / 8) 0) (msb0 i) on ∷ [])) i ≡ on
 unfolding bitMsb0
 msb0-written d i on h = rw (same-byte d (i / 8) (msb0 i) on h) (digit-written (getD d (i / 8) 0) (msb0 i) on)
 
+-- and every other bit is what it was, in either order
 pub lsb0-kept : (d : List ℕ) (i k : ℕ) (on : Bool) → i / 8 < length d → (k ≡ i → ⊥) → bitLsb0 (stored d (i / 8) (withDigit (getD d (i / 8) 0) (lsb0 i) on ∷ [])) k ≡ bitLsb0 d k
 unfolding bitLsb0
 lsb0-kept d i k on h n =
@@ -156,6 +159,7 @@ lsb0-kept d i k on h n =
     (λ (e : k / 8 ≡ i / 8 → ⊥). rw (other-byte d (i / 8) (lsb0 i) on h (k / 8) e))
     (same-or-not (k / 8) (i / 8))
 
+-- the highest first
 pub msb0-kept : (d : List ℕ) (i k : ℕ) (on : Bool) → i / 8 < length d → (k ≡ i → ⊥) → bitMsb0 (stored d (i / 8) (withDigit (getD d (i / 8) 0) (msb0 i) on ∷ [])) k ≡ bitMsb0 d k
 unfolding bitMsb0
 msb0-kept d i k on h n =

@@ -64,6 +64,7 @@ pub data Shortest (v : ℕ) : List ℕ → Type 0 where
   itself : v ≤ 250 → Shortest v (v ∷ [])
   behind : (first k least : ℕ) → Tag first k least → least ≤ v → (v < 2 ^ 64 → v < 256 ^ k) → Shortest v (first ∷ leBytes k v)
 
+-- which form is the shortest, by the value
 pub shortest : (v : ℕ) → Shortest v (packedBytes v)
 unfolding packedBytes
 shortest v =
@@ -123,6 +124,7 @@ form-of s at b v next h g e =
     (λ t₂ e₂. by-test (eqb b 254) _ _ _ e₂ (λ t e₃. long-form s at v next eight (g ∙ eqb-true b 254 t) e₃)
     (λ t₃ e₃. absurd (ok-not-refused (sym e₃))))))
 
+-- what was read stands there in one of these forms
 pub read-form : (s : List ℕ) (at v next : ℕ) → readPacked s at ≡ ok (v, next) → Form s at v next
 unfolding readPacked
 read-form s at v next e =
@@ -240,6 +242,7 @@ form-refuses s at b w l h g e =
     let n₃ : b ≡ 254 → ⊥ = eqb-false b 254 t₃ in
     subst (Refuses s at) (same-refused e₃) (none h (dite (decLe b 251) (λ y. inl (g ∙ omega arith)) (λ y. inr (g ∙ omega arith))))))))
 
+-- what was refused, and why: no other number, no other place
 pub read-refuses : (s : List ℕ) (at : ℕ) (w : Refusal) → Bytes s → readPacked s at ≡ refused w → Refuses s at w
 unfolding readPacked
 read-refuses s at w h e =

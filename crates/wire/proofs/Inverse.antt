@@ -16,9 +16,11 @@ bytes-append [] m h k i = k i
 bytes-append (b ∷ l) m h k zero = h 0
 bytes-append (b ∷ l) m h k (suc i) = bytes-append l m (λ j. h (suc j)) k i
 
+-- what is left of bytes
 pub bytes-drop : (n : ℕ) (l : List ℕ) → Bytes l → Bytes (drop n l)
 bytes-drop n l h i = rw getD-drop (h (n + i))
 
+-- the first of bytes
 pub bytes-take : (n : ℕ) (l : List ℕ) → Bytes l → Bytes (take n l)
 bytes-take zero l h i = omega arith
 bytes-take (suc n) [] h i = h i
@@ -29,6 +31,7 @@ bytes-one : (b : ℕ) → b < 256 → Bytes (b ∷ [])
 bytes-one b h zero = h
 bytes-one b h (suc i) = omega arith
 
+-- bytes the other way round
 pub bytes-reverse : (l : List ℕ) → Bytes l → Bytes (reverse l)
 bytes-reverse [] h = h
 bytes-reverse (b ∷ l) h = rw (reverse-cons b l) (bytes-append (reverse l) (b ∷ []) (bytes-reverse l (λ j. h (suc j))) (bytes-one b (h 0)))
@@ -40,6 +43,7 @@ leBytes-bytes zero v i = omega arith
 leBytes-bytes (suc k) v zero = omega arith
 leBytes-bytes (suc k) v (suc i) = leBytes-bytes k (v / 256) i
 
+-- the most significant first
 pub beBytes-bytes : (k v : ℕ) → Bytes (beBytes k v)
 unfolding beBytes
 beBytes-bytes k v = bytes-reverse (leBytes k v) (leBytes-bytes k v)
@@ -52,6 +56,7 @@ le-back (suc k) v h =
     let p : v < 256 ^ k * 256 = rw pow-suc at h in
     rw (le-back k (v / 256) (div-lt-iff-lt-mul {k = 256} (zero-lt-suc 255) .1 p)) (omega arith)
 
+-- the most significant first
 pub be-back : (k v : ℕ) → v < 256 ^ k → beValue (beBytes k v) ≡ v
 unfolding beValue beBytes
 be-back k v h = ap leValue (reverse-reverse (leBytes k v)) ∙ le-back k v h
@@ -66,6 +71,7 @@ le-sound (b ∷ l) h =
     let r : (b + 256 * leValue l) % 256 ≡ b = omega arith in
     rw (q, r, le-sound l (λ i. h (suc i)))
 
+-- the most significant first
 pub be-sound : (l : List ℕ) → Bytes l → beBytes (length l) (beValue l) ≡ l
 unfolding beValue beBytes
 be-sound l h =
@@ -79,6 +85,7 @@ unfolding leValue
 le-bound [] h = omega arith
 le-bound (b ∷ l) h = omega (arith, more (length l) (leValue l) b (le-bound l (λ i. h (suc i))) (h 0))
 
+-- the most significant first
 pub be-bound : (l : List ℕ) → Bytes l → beValue l < 256 ^ length l
 unfolding beValue
 be-bound l h = subst (λ (n : ℕ). leValue (reverse l) < 256 ^ n) (length-reverse l) (le-bound (reverse l) (bytes-reverse l h))
@@ -93,6 +100,7 @@ le-join (b ∷ x) y =
     let q : 256 ^ length x * 256 * leValue y ≡ 256 * (256 ^ length x * leValue y) = omega arith in
     rw e (omega arith)
 
+-- the most significant first: what a packed number of a whole part and a fraction is
 pub be-join : (x y : List ℕ) → beValue (x ++ y) ≡ beValue x * 256 ^ length y + beValue y
 unfolding beValue
 be-join x y =

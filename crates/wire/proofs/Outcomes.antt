@@ -35,6 +35,7 @@ pub test-is-ok : {A : Type 0} (t : Bool) (a : A) (w : Refusal) (b : A) → cond 
 test-is-ok true a w b e = (refl, cc)
 test-is-ok false a w b e = let z : _≡_ {A = ℕ} 0 1 = cc in absurd (omega arith)
 
+-- the other way
 pub test-refuses : {A : Type 0} (t : Bool) (a : A) (w v : Refusal) → cond t (ok a) (refused w) ≡ refused v → (t ≡ false) × (w ≡ v)
 test-refuses true a w v e = let z : _≡_ {A = ℕ} 0 1 = cc in absurd (omega arith)
 test-refuses false a w v e = (refl, cc)
@@ -48,9 +49,11 @@ by-test false x y z e f g = g refl e
 pub ok-not-refused : {A : Type 0} {a : A} {w : Refusal} → ok a ≡ refused w → ⊥
 ok-not-refused e = let z : _≡_ {A = ℕ} 0 1 = cc in omega arith
 
+-- equal answers hold equal things
 pub same-ok : {A : Type 0} {a b : A} → ok a ≡ ok b → a ≡ b
 same-ok e = cc
 
+-- and equal refusals
 pub same-refused : {A : Type 0} {v w : Refusal} → _≡_ {A = Outcome A} (refused v) (refused w) → v ≡ w
 same-refused e = cc
 

@@ -24,6 +24,7 @@ pub length-stored : (d : List ℕ) (at : ℕ) (w : List ℕ) → at + length w �
 unfolding stored
 length-stored d at w h = simp (length-append, length-take, length-drop) (omega arith)
 
+-- nothing stored changes nothing
 pub stored-none : (d : List ℕ) (at : ℕ) → stored d at [] ≡ d
 unfolding stored
 stored-none d at = rw add-zero (take-append-drop at d)
@@ -65,10 +66,12 @@ pub stored-front : (d : List ℕ) (at : ℕ) (w : List ℕ) → at ≤ length d 
 unfolding stored
 stored-front d at w h = take-at (take at d) (w ++ drop (at + length w) d) at (length-take-le at d h)
 
+-- so a reader that goes by the rest of a list reads on from a store
 pub stored-from : (d : List ℕ) (at : ℕ) (w : List ℕ) → at ≤ length d → drop at (stored d at w) ≡ w ++ drop (at + length w) d
 unfolding stored
 stored-from d at w h = drop-at (take at d) (w ++ drop (at + length w) d) at (length-take-le at d h)
 
+-- and a reader that goes by a part gets just what was stored
 pub stored-part : (d : List ℕ) (at : ℕ) (w : List ℕ) → at ≤ length d → take (length w) (drop at (stored d at w)) ≡ w
 stored-part d at w h = rw (stored-from d at w h) (take-at w (drop (at + length w) d) (length w) refl)
 
@@ -76,6 +79,7 @@ stored-part d at w h = rw (stored-from d at w h) (take-at w (drop (at + length w
 pub le-stored : (d : List ℕ) (at k v : ℕ) → at ≤ length d → v < 256 ^ k → leValue (take k (drop at (stored d at (leBytes k v)))) ≡ v
 le-stored d at k v h l = rw (leBytes-length k v) at (ap leValue (stored-part d at (leBytes k v) h)) ∙ le-back k v l
 
+-- the most significant first
 pub be-stored : (d : List ℕ) (at k v : ℕ) → at ≤ length d → v < 256 ^ k → beValue (take k (drop at (stored d at (beBytes k v)))) ≡ v
 be-stored d at k v h l = rw (beBytes-length k v) at (ap beValue (stored-part d at (beBytes k v) h)) ∙ be-back k v l
 
@@ -84,6 +88,7 @@ pub store-fits : (d bs : List ℕ) (at : ℕ) → at + length bs ≤ length d �
 unfolding store
 store-fits d bs at h = rw (le-leb _ _ h)
 
+-- where the bytes do not fit
 pub store-full : (d bs : List ℕ) (at : ℕ) → length d < at + length bs → store d at bs ≡ refuse 8 0
 unfolding store
 store-full d bs at h = rw (lt-leb _ _ h)
@@ -92,12 +97,14 @@ store-full d bs at h = rw (lt-leb _ _ h)
 abbrev pub Wrote : List ℕ → ℕ → List ℕ → Written → List ℕ → Type 0
 Wrote d at bs r x = (writtenOf r ≡ answerOf (store d at bs)) × (x ≡ leftOf d (store d at bs))
 
+-- for a writer that has written: its `returns`, from the length n that its code knows
 pub wrote : (d bs x : List ℕ) (at n next : ℕ) → length bs ≡ n → at + n ≤ length d → next ≡ at + n → x ≡ stored d at bs → Wrote d at bs (Done next) x
 wrote d bs x at n next e h p q =
     let s = store-fits d bs at (omega arith) in
     let m : next ≡ at + length bs = omega arith in
     rw s (ap ok m, q)
 
+-- for a writer that has no room: its `returns`
 pub not-wrote : (d bs : List ℕ) (at n : ℕ) (w : Refusal) → length bs ≡ n → length d < at + n → w ≡ why 8 0 → Wrote d at bs (Refused w) d
 not-wrote d bs at n w e h p =
     let s = store-full d bs at (omega arith) in
@@ -107,5 +114,6 @@ not-wrote d bs at n w e h p =
 pub room : (b : Bool) (at n len : ℕ) → b ≡ leb (at + n) len → b ≡ true → at + n ≤ len
 room b at n len e t = leb-true (at + n) len (sym e ∙ t)
 
+-- and what its failure says
 pub no-room : (b : Bool) (at n len : ℕ) → b ≡ leb (at + n) len → b ≡ false → len < at + n
 no-room b at n len e t = leb-false (at + n) len (sym e ∙ t)

@@ -18,6 +18,7 @@ written-way : (a : Written) → written-back (writtenOf a) ≡ a
 written-way (Done next) = refl
 written-way (Refused r) = refl
 
+-- of writers
 pub same-written : (a b : Written) → writtenOf a ≡ writtenOf b → a ≡ b
 same-written = same-by-back writtenOf written-back written-way
 
@@ -29,5 +30,6 @@ packed-way : (a : Packed) → packed-back (packedOf a) ≡ a
 packed-way (Value value next) = refl
 packed-way (Refused′ r) = refl
 
+-- of packed integers
 pub same-packed : (a b : Packed) → packedOf a ≡ packedOf b → a ≡ b
 same-packed = same-by-back packedOf packed-back packed-way

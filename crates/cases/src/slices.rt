@@ -1,0 +1,40 @@
+// Parts of slices and comparison, total: each function tests what it is given, so that its callers
+// have nothing to prove.
+
+// The bytes from `from` to `to`, or none where there is no such part.
+pub(crate) fn part(s: &[u8], from: usize, to: usize) -> &[u8] {
+    if to < from {
+        return &s[0..0];
+    }
+    if s.len() < to {
+        return &s[0..0];
+    }
+    &s[from..to]
+}
+
+// The place of the first `sought` from `from` on, or the length where there is none.
+pub(crate) fn find(s: &[u8], from: usize, sought: u8) -> usize {
+    let mut i = from;
+    while i < s.len() {
+        if s[i] == sought {
+            return i;
+        }
+        i += 1;
+    }
+    s.len()
+}
+
+// Whether the two hold the same bytes.
+pub(crate) fn same(a: &[u8], b: &[u8]) -> bool {
+    if a.len() != b.len() {
+        return false;
+    }
+    let mut i: usize = 0;
+    while i < a.len() {
+        if a[i] != b[i] {
+            return false;
+        }
+        i += 1;
+    }
+    true
+}
