@@ -142,8 +142,7 @@ datetime2-law m0 = record {
       let h = moment-of w m (a .1) in
       let d = h .date in
       let c = h .clock in
-      let p = datetime2-back w m h in
-      (
+      let p = datetime2-back w m h in (
         rw (le-ltb (549755813888 + momentNumber 64 32 32 13 m) 549755813888 (omega arith)) (ap momentFault p ∙ moment-clear w m h),
         omega arith,
         unit-fits (m .micros) w (c .micros) (fraction-small m0),
@@ -153,8 +152,7 @@ datetime2-law m0 = record {
       let w = fractionBytes m0 in
       dite (decLe 549755813888 a)
       (λ p.
-      let z₁ : momentFault (datetime2Of w a f) ≡ 0 = rw (le-ltb a 549755813888 p) at z in
-      (
+      let z₁ : momentFault (datetime2Of w a f) ≡ 0 = rw (le-ltb a 549755813888 p) at z in (
         moment-sound w (datetime2Of w a f) z₁ (unit-mod w f),
         ap (λ (n : ℕ). 549755813888 + n) (moment-number 64 32 32 13 (a - 549755813888) (f * unitOf w)) ∙ omega arith,
         unit-div w f (fraction-small m0),

@@ -16,6 +16,7 @@ ghost use Rattle.temporal.specs.Moments.{packedDatetime, momentBy, stamp
 ghost use Rattle.temporal.specs.Judgement.{judgement, judgedTime, judgedStamp, judgedDatetime};
 
 pub(crate) const TIMEF_INT_OFS: u64 = 0x80_0000;
+
 pub(crate) const DATETIMEF_INT_OFS: u64 = 0x80_0000_0000;
 
 pub(crate) struct PackedTime {

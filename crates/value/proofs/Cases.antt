@@ -6,12 +6,16 @@ use mathlib.Core.List.{List}
 use native.Mathlib.Omega.{arith}
 use lib.ListN.{length, take, drop, length-drop}
 use lib.Seq.{length-take-le}
-use Rattle.wire.specs.Outcome.{Outcome, ok, refuse}
+use Rattle.wire.specs.Outcome.{Outcome, ok, refuse, after}
+use Rattle.temporal.specs.declared.kind.Kind.{Kind}
+use Rattle.temporal.specs.Reading.{readTemporal}
 use Rattle.value.specs.declared.shape.Shape.{Shape}
+use Rattle.value.specs.declared.shape.Shape.the-variants.{Timed, NotTaken}
 use Rattle.value.specs.declared.datum.Value.{Value}
+use Rattle.value.specs.declared.datum.Value.the-variants.{When}
 use Rattle.value.specs.Columns.{isTaken}
 use Rattle.value.specs.Shapes.{need, decode, fault}
-use Rattle.value.specs.Reading.{readDatum, readValue, placed, short}
+use Rattle.value.specs.Reading.{taken, readDatum, readValue, placed, short}
 use Rattle.value.proofs.Laws.{reads, fails-back}
 
 pub got : (sh : Shape) (p : ℕ) (s : List ℕ) (at n : ℕ) (v : Value) (next : ℕ) → isTaken sh ≡ true → need sh (drop at s) ≡ n → n ≤ length s - at
@@ -33,3 +37,12 @@ part-length s at n h = length-take-le n (drop at s) (rw length-drop h)
 
 pub behind-length : (s : List ℕ) (at k n : ℕ) → k + n ≤ length s - at → length (drop k (take (k + n) (drop at s))) ≡ n
 behind-length s at k n h = length-drop k (take (k + n) (drop at s)) ∙ rw (part-length s at (k + n) h) (omega arith)
+
+-- a shape that there is not
+pub no-column : (n p : ℕ) (s : List ℕ) (at : ℕ) → refuse n p ≡ readValue (NotTaken n) p s at
+unfolding readValue readDatum taken
+no-column n p s at = refl
+
+-- a temporal: read as its own crate says
+pub timed : (k : Kind) (p : ℕ) (s : List ℕ) (at : ℕ) → readValue (Timed k) p s at ≡ after (readTemporal k p s at) (λ x. ok (When (x .0), x .1))
+timed k p s at = ?

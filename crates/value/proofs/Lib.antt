@@ -4,3 +4,4 @@ pub mod Facts
 pub mod Laws
 pub mod Signs
 pub mod Cases
+pub mod Ins

@@ -3,6 +3,8 @@ use crate::datum::Value;
 use crate::shape::Shape;
 use crate::signed::signed;
 use crate::signed::top;
+use temporal::Kind;
+use temporal::TemporalRead;
 use wire::Refusal;
 use wire::refusal::IMAGE_SHORT;
 ghost use mathlib.Core.Path.{_≡_};
@@ -45,7 +47,7 @@ pub(crate) fn read_shape(shape: Shape, s: &[u8], at: usize, place: usize) -> Rea
         Shape::FloatBits => read_float(s, at, place),
         Shape::DoubleBits => read_double(s, at, place),
         Shape::YearByte => read_year(s, at, place),
-        Shape::Timed(_) => short(place),
+        Shape::Timed(kind) => read_timed(kind, s, at, place),
         Shape::Fixed(n) => read_fixed(n, s, at, place),
         Shape::Counted(k) => read_counted(k, s, at, place),
         Shape::NotTaken(n) => Read::Refused(wire::refuse(n, place)),
@@ -112,6 +114,18 @@ fn read_year(s: &[u8], at: usize, place: usize) -> Read
     let year = (1900 + n) as u16;
     let value = Value::Year(year);
     Read::Got { value, next }
+}
+
+fn read_timed(kind: Kind, s: &[u8], at: usize, place: usize) -> Read
+    ensures { λ r. ⌜ readOf r ≡ readValue (Shape.Timed kind) place (now (s .entry)) at ⌝ }
+{
+    match temporal::read_temporal(kind, s, at, place) {
+        TemporalRead::Read { temporal, next } => Read::Got {
+            value: Value::When(temporal),
+            next,
+        },
+        TemporalRead::Refused(why) => Read::Refused(why),
+    }
 }
 
 fn read_fixed(n: usize, s: &[u8], at: usize, place: usize) -> Read

@@ -5,16 +5,19 @@ use crate::datum::FLOAT;
 use crate::datum::INT;
 use crate::datum::UINT;
 use crate::datum::Value;
+use crate::datum::WHEN;
 use crate::datum::YEAR;
 use crate::datum::int_in;
 use crate::datum::len_of;
 use crate::datum::number_in;
 use crate::datum::start_of;
 use crate::datum::tag_of;
+use crate::datum::when_in;
 use crate::shape::Shape;
 use crate::signed::in_halves;
 use crate::signed::top;
 use crate::signed::twos;
+use temporal::Kind;
 use wire::Refusal;
 use wire::Written;
 use wire::refusal::NO_ROOM;
@@ -27,7 +30,8 @@ ghost use lib.Dec.{leb, eqb};
 ghost use Rattle.wire.specs.Number.{leBytes};
 ghost use Rattle.wire.specs.Signed.{inHalves};
 ghost use Rattle.wire.specs.Stored.{store, answerOf, leftOf, writtenOf};
-ghost use Rattle.value.specs.Data.{tag, intIn, numberIn};
+ghost use Rattle.temporal.specs.Domains.{domain as timedDomain};
+ghost use Rattle.value.specs.Data.{tag, intIn, numberIn, whenIn};
 ghost use Rattle.value.specs.Shapes.{Sized, bytesOf};
 ghost use Rattle.value.specs.Reading.{datumOf};
 ghost use Rattle.value.specs.Storing.{startOf, lenOf, isLent, isIn};
@@ -76,6 +80,16 @@ fn is_bytes(value: Value, least: u64, most: u64) -> bool
     n <= most
 }
 
+// Whether a value is a temporal that a column of the kind holds.
+fn is_timed(value: Value, kind: Kind) -> bool
+    ensures { λ r. ⌜ r ≡ (eqb (tag (datumOf [] value)) 6 && timedDomain kind (whenIn (datumOf [] value))) ⌝ }
+{
+    if tag_of(value) != WHEN {
+        return false;
+    }
+    temporal::in_domain(kind, when_in(value))
+}
+
 // Whether all of a value's bytes are among those lent.
 fn is_lent(value: Value, lent: &[u8]) -> bool
     ensures { λ r. ⌜ r ≡ isLent (now (lent .entry)) value ⌝ }
@@ -97,7 +111,7 @@ pub(crate) fn is_in(shape: Shape, value: Value, lent: &[u8]) -> bool
         Shape::FloatBits => is_number(value, FLOAT, 0, top(4)),
         Shape::DoubleBits => is_number(value, DOUBLE, 0, top(8)),
         Shape::YearByte => is_number(value, YEAR, 1900, 2155),
-        Shape::Timed(_) => false,
+        Shape::Timed(kind) => is_timed(value, kind),
         Shape::Fixed(n) => is_bytes(value, n as u64, n as u64),
         Shape::Counted(k) => is_bytes(value, 0, top(k)),
         Shape::NotTaken(_) => false,
@@ -115,7 +129,7 @@ pub(crate) fn size_in(shape: Shape, value: Value, lent: &[u8]) -> usize
         Shape::FloatBits => 4,
         Shape::DoubleBits => 8,
         Shape::YearByte => 1,
-        Shape::Timed(_) => 0,
+        Shape::Timed(kind) => temporal::temporal_size(kind),
         Shape::Fixed(n) => n,
         Shape::Counted(k) => k + len_of(value),
         Shape::NotTaken(_) => 0,
@@ -124,14 +138,51 @@ pub(crate) fn size_in(shape: Shape, value: Value, lent: &[u8]) -> usize
 
 // Writes a length of k bytes, and then the bytes.
 fn write_counted(k: usize, bytes: &[u8], buf: &mut [u8], at: usize) -> Written
-    requires { ⌜ (k ≤ 4) × (length (now bytes) < 2 ^ 32) ⌝ }
+    requires { ⌜ k ≤ 4 ⌝ }
     ensures { λ r. ⌜ writtenOf r ≡ answerOf (store (now (buf .entry)) at (leBytes k (length (now (bytes .entry))) ++ now (bytes .entry))) ⌝ }
     ensures { λ _. ⌜ now (buf .exit) ≡ leftOf (now (buf .entry)) (store (now (buf .entry)) at (leBytes k (length (now (bytes .entry))) ++ now (bytes .entry))) ⌝ }
 {
     let size = k + bytes.len();
     if wire::has_room(buf.len(), at, size) {
         wire::write_le(buf, at, k, bytes.len() as u64);
-        return wire::write_bytes(buf, at + k, bytes);
+        let behind = at + k;
+        return wire::write_bytes(buf, behind, bytes);
     }
     Written::Refused(wire::refuse(NO_ROOM, 0))
+}
+
+// Writes the bytes of a value behind a length of k bytes.
+fn write_part(k: usize, value: Value, lent: &[u8], buf: &mut [u8], at: usize) -> Written
+    requires { ⌜ (k ≤ 4) × (isLent (now lent) value ≡ true) ⌝ }
+    ensures { λ r. ⌜ writtenOf r ≡ answerOf (store (now (buf .entry)) at (leBytes k (lenOf value) ++ take (lenOf value) (drop (startOf value) (now (lent .entry))))) ⌝ }
+    ensures { λ _. ⌜ now (buf .exit) ≡ leftOf (now (buf .entry)) (store (now (buf .entry)) at (leBytes k (lenOf value) ++ take (lenOf value) (drop (startOf value) (now (lent .entry))))) ⌝ }
+{
+    let start = start_of(value);
+    let end = start + len_of(value);
+    write_counted(k, &lent[start..end], buf, at)
+}
+
+// Writes a value that a column of the shape takes.
+pub(crate) fn store_shape(
+    shape: Shape,
+    value: Value,
+    lent: &[u8],
+    buf: &mut [u8],
+    at: usize,
+) -> Written
+    requires { ⌜ Sized shape × (isIn shape (now lent) value ≡ true) ⌝ }
+    ensures { λ r. ⌜ writtenOf r ≡ answerOf (store (now (buf .entry)) at (bytesOf shape (datumOf (now (lent .entry)) value))) ⌝ }
+    ensures { λ _. ⌜ now (buf .exit) ≡ leftOf (now (buf .entry)) (store (now (buf .entry)) at (bytesOf shape (datumOf (now (lent .entry)) value))) ⌝ }
+{
+    match shape {
+        Shape::Unsigned(k) => wire::write_le(buf, at, k, number_in(value)),
+        Shape::Signed(k) => wire::write_le(buf, at, k, twos(int_in(value), top(k))),
+        Shape::FloatBits => wire::write_le(buf, at, 4, number_in(value)),
+        Shape::DoubleBits => wire::write_le(buf, at, 8, number_in(value)),
+        Shape::YearByte => wire::write_le(buf, at, 1, number_in(value) - 1900),
+        Shape::Timed(kind) => temporal::write_temporal(kind, buf, at, when_in(value), 0),
+        Shape::Fixed(_) => write_part(0, value, lent, buf, at),
+        Shape::Counted(k) => write_part(k, value, lent, buf, at),
+        Shape::NotTaken(n) => Written::Refused(wire::refuse(n, 0)),
+    }
 }

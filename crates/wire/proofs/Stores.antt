@@ -117,3 +117,17 @@ room b at n len e t = leb-true (at + n) len (sym e ∙ t)
 -- and what its failure says
 pub no-room : (b : Bool) (at n len : ℕ) → b ≡ leb (at + n) len → b ≡ false → len < at + n
 no-room b at n len e t = leb-false (at + n) len (sym e ∙ t)
+
+-- a write of a, m bytes long, in which there is room for b too, and then a write of b behind it: one write of both
+pub wrote-two : (d a b x₁ x : List ℕ) (at m : ℕ) (r : Written) → length a ≡ m → at + (m + length b) ≤ length d → x₁ ≡ leftOf d (store d at a)
+    → Wrote x₁ (at + m) b r x → Wrote d at (a ++ b) r x
+wrote-two d a b x₁ x at m r e h p w =
+    let s = store-fits d a at (omega arith) in
+    let q : x₁ ≡ stored d at a = p ∙ rw s in
+    let n : length x₁ ≡ length d = ap length q ∙ length-stored d at a (omega arith) in
+    let t = store-fits x₁ b (at + m) (omega arith) in
+    let l : length (a ++ b) ≡ m + length b = length-append a b ∙ ap (λ (k : ℕ). k + length b) e in
+    let u = store-fits d (a ++ b) at (omega arith) in
+    let o : at + m + length b ≡ at + length (a ++ b) = omega arith in
+    let y : stored x₁ (at + m) b ≡ stored d at (a ++ b) = rw (q, ← e) (stored-stored d at a b (omega arith)) in
+    rw u (w .0 ∙ rw t (ap ok o), w .1 ∙ rw t y)

@@ -34,8 +34,8 @@ holds-time-requires c κs = search needs
 returns-2 : tie.Need-returns-2
 unfolding domain
 returns-2 c = let t = c .before .before .before .args .temporal in
-      let n : timeIn t .negative ≡ false = ap (λ (x : Time). x .negative) (sym (c .before .before .time-in .ensures)) ∙ c .before .if1 .left in
-      c .holds-time .ensures ∙ ap (λ (b : Bool). eqb (sort t) 3 && (not b && timeDomain 0 (timeIn t))) (sym n)
+    let n : timeIn t .negative ≡ false = ap (λ (x : Time). x .negative) (sym (c .before .before .time-in .ensures)) ∙ c .before .if1 .left in
+    c .holds-time .ensures ∙ ap (λ (b : Bool). eqb (sort t) 3 && (not b && timeDomain 0 (timeIn t))) (sym n)
 
 pub holds-old-time-spec : {M : Type 1} → statement M
 holds-old-time-spec = tie.close (tie.spec time-in-requires returns holds-time-requires returns-2)

@@ -20,8 +20,8 @@ day-fault-requires c κs = search needs
 returns : tie.Need-returns
 unfolding judgedMoment
 returns c = let a = c .before .before .args in
-      let g : dayFault (a .y) (a .mo) (a .d) 0 ≡ 0 → ⊥ = λ z. c .if1 .taken (c .before .day-fault .ensures ∙ z) in
-      rw (day-first (a .y) (a .mo) (a .d) (clockFault 23 (a .h) (a .mi) (a .s) (a .u)) g, ← c .before .day-fault .ensures, ne-eqb _ _ (c .if1 .taken))
+    let g : dayFault (a .y) (a .mo) (a .d) 0 ≡ 0 → ⊥ = λ z. c .if1 .taken (c .before .day-fault .ensures ∙ z) in
+    rw (day-first (a .y) (a .mo) (a .d) (clockFault 23 (a .h) (a .mi) (a .s) (a .u)) g, ← c .before .day-fault .ensures, ne-eqb _ _ (c .if1 .taken))
 
 -- src/judge.rt:107:9
 clock-fault-requires : tie.Need-clock-fault-requires
@@ -31,7 +31,7 @@ clock-fault-requires c κs = search needs
 returns-2 : tie.Need-returns-2
 unfolding judgedMoment
 returns-2 c = let d = day-clear (c .before .before .before .before .args .y) (c .before .before .before .before .args .mo) (c .before .before .before .before .args .d) 0 (sym (c .before .before .before .day-fault .ensures) ∙ c .before .before .if1 .left) .0 in
-      rw (day-none (clockFault 23 (c .before .before .before .before .args .h) (c .before .before .before .before .args .mi) (c .before .before .before .before .args .s) (c .before .before .before .before .args .u)) d, ← c .before .clock-fault .ensures, ne-eqb _ _ (c .if2 .taken))
+    rw (day-none (clockFault 23 (c .before .before .before .before .args .h) (c .before .before .before .before .args .mi) (c .before .before .before .before .args .s) (c .before .before .before .before .args .u)) d, ← c .before .clock-fault .ensures, ne-eqb _ _ (c .if2 .taken))
 
 -- src/judge.rt:111:16
 cast-year : tie.Need-cast-year
@@ -65,7 +65,7 @@ cast-micros c = let k = clock-clear _ _ _ _ _ (sym (c .before .clock-fault .ensu
 returns-3 : tie.Need-returns-3
 unfolding judgedMoment
 returns-3 c = let d = day-clear (c .before .before .before .before .args .y) (c .before .before .before .before .args .mo) (c .before .before .before .before .args .d) 0 (sym (c .before .before .before .day-fault .ensures) ∙ c .before .before .if1 .left) .0 in
-      rw (day-none (clockFault 23 (c .before .before .before .before .args .h) (c .before .before .before .before .args .mi) (c .before .before .before .before .args .s) (c .before .before .before .before .args .u)) d, ← c .before .clock-fault .ensures, eq-eqb _ _ (c .if2 .left))
+    rw (day-none (clockFault 23 (c .before .before .before .before .args .h) (c .before .before .before .before .args .mi) (c .before .before .before .before .args .s) (c .before .before .before .before .args .u)) d, ← c .before .clock-fault .ensures, eq-eqb _ _ (c .if2 .left))
 
 pub moment-of-spec : {M : Type 1} → statement M
 moment-of-spec =

@@ -68,8 +68,8 @@ fraction-bytes-requires c κs = search needs
 my-timestamp-from-binary-requires-2 : tie.Need-my-timestamp-from-binary-requires-2
 unfolding wholeBytes fractionOf
 my-timestamp-from-binary-requires-2 c κs = let p : c .before .before .before .before .args .whole < 256 ^ 4 = rw (c .before .before .kind .given .1) at (c .before .before .before .before .pre .0) in
-      let q : c .before .before .before .before .args .fraction < 256 ^ c .fraction-bytes .result = rw (c .fraction-bytes .ensures .0) (rw (c .before .before .kind .given .1) at (c .before .before .before .before .pre .1)) in
-      (c .fraction-bytes .ensures .1, q, omega arith)
+    let q : c .before .before .before .before .args .fraction < 256 ^ c .fraction-bytes .result = rw (c .fraction-bytes .ensures .0) (rw (c .before .before .kind .given .1) at (c .before .before .before .before .pre .1)) in
+    (c .fraction-bytes .ensures .1, q, omega arith)
 
 -- src/read.rt:89:27
 enum-known-kind-2 : tie.Need-enum-known-kind-2
@@ -83,7 +83,7 @@ fraction-bytes-requires-2 c κs = search needs
 my-datetime-packed-from-binary-requires : tie.Need-my-datetime-packed-from-binary-requires
 unfolding fractionOf
 my-datetime-packed-from-binary-requires c κs = let q : c .before .before .before .before .args .fraction < 256 ^ c .fraction-bytes2 .result = rw (c .fraction-bytes2 .ensures .0) (rw (c .before .before .kind2 .given .1) at (c .before .before .before .before .pre .1)) in
-      (c .fraction-bytes2 .ensures .1, q)
+    (c .fraction-bytes2 .ensures .1, q)
 
 -- src/read.rt:89:35
 datetime-from-packed-requires : tie.Need-datetime-from-packed-requires
@@ -101,7 +101,7 @@ fraction-bytes-requires-3 c κs = search needs
 my-time-packed-from-binary-requires : tie.Need-my-time-packed-from-binary-requires
 unfolding fractionOf
 my-time-packed-from-binary-requires c κs = let q : c .before .before .before .before .args .fraction < 256 ^ c .fraction-bytes3 .result = rw (c .fraction-bytes3 .ensures .0) (rw (c .before .before .kind3 .given .1) at (c .before .before .before .before .pre .1)) in
-      (c .fraction-bytes3 .ensures .1, q)
+    (c .fraction-bytes3 .ensures .1, q)
 
 -- src/read.rt:90:31
 time-from-packed-requires : tie.Need-time-from-packed-requires

@@ -57,12 +57,12 @@ refuse-requires c κs = search needs
 -- src/read.rt:45:9
 returns : tie.Need-returns
 returns c = let r : c .before .before .before .before .before .before .before .before .before .before .args .at + sizeOf (c .before .before .before .before .before .before .before .before .before .before .args .kind) ≤ length (c .before .before .before .before .before .before .before .before .before .before .args .s .now) = rw (← c .before .before .before .before .before .before .before .before .temporal-size .ensures) (room _ _ _ _ (c .before .before .before .before .before .before .before .has-room .ensures) (c .before .before .before .before .before .before .if1 .taken)) in
-      rw (c .before .before .before .before .before .before .before .before .temporal-size .ensures) (sym (read-in (c .before .before .before .before .before .before .before .before .before .before .args .kind) (c .before .before .before .before .before .before .before .before .before .before .args .place) (c .before .before .before .before .before .before .before .before .before .before .args .s .now) (c .before .before .before .before .before .before .before .before .before .before .args .at) _ _ r (c .before .before .before .before .before .whole-at .ensures .0) (c .before .before .before .before .fraction-at .ensures .0) _ (sym (c .before .before .before .judge .ensures) ∙ c .before .temporal .given .1)))
+    rw (c .before .before .before .before .before .before .before .before .temporal-size .ensures) (sym (read-in (c .before .before .before .before .before .before .before .before .before .before .args .kind) (c .before .before .before .before .before .before .before .before .before .before .args .place) (c .before .before .before .before .before .before .before .before .before .before .args .s .now) (c .before .before .before .before .before .before .before .before .before .before .args .at) _ _ r (c .before .before .before .before .before .whole-at .ensures .0) (c .before .before .before .before .fraction-at .ensures .0) _ (sym (c .before .before .before .judge .ensures) ∙ c .before .temporal .given .1)))
 
 -- src/read.rt:45:9
 returns-2 : tie.Need-returns-2
 returns-2 c = let r : c .before .before .before .before .before .before .before .before .before .before .args .at + sizeOf (c .before .before .before .before .before .before .before .before .before .before .args .kind) ≤ length (c .before .before .before .before .before .before .before .before .before .before .args .s .now) = rw (← c .before .before .before .before .before .before .before .before .temporal-size .ensures) (room _ _ _ _ (c .before .before .before .before .before .before .before .has-room .ensures) (c .before .before .before .before .before .before .if1 .taken)) in
-      ap refused (c .refuse .ensures) ∙ sym (read-out (c .before .before .before .before .before .before .before .before .before .before .args .kind) (c .before .before .before .before .before .before .before .before .before .before .args .place) (c .before .before .before .before .before .before .before .before .before .before .args .s .now) (c .before .before .before .before .before .before .before .before .before .before .args .at) _ _ r (c .before .before .before .before .before .whole-at .ensures .0) (c .before .before .before .before .fraction-at .ensures .0) _ (sym (c .before .before .before .judge .ensures) ∙ c .before .enum-told .given .1))
+    ap refused (c .refuse .ensures) ∙ sym (read-out (c .before .before .before .before .before .before .before .before .before .before .args .kind) (c .before .before .before .before .before .before .before .before .before .before .args .place) (c .before .before .before .before .before .before .before .before .before .before .args .s .now) (c .before .before .before .before .before .before .before .before .before .before .args .at) _ _ r (c .before .before .before .before .before .whole-at .ensures .0) (c .before .before .before .before .fraction-at .ensures .0) _ (sym (c .before .before .before .judge .ensures) ∙ c .before .enum-told .given .1))
 
 -- src/read.rt:50:27
 refuse-requires-2 : tie.Need-refuse-requires-2

@@ -81,7 +81,7 @@ time-in-requires c κs = search needs
 -- src/write.rt:102:31
 time2-fraction-requires : tie.Need-time2-fraction-requires
 time2-fraction-requires c κs = let d : domain (Time2 _) (c .before .before .before .before .before .args .temporal) ≡ true = rw (c .before .before .before .kind3 .given .1) at (c .before .before .before .before .before .pre) in
-      (c .before .fraction-bytes3 .ensures .1, rw (c .time-in .ensures) (time2-room _ _ d .1))
+    (c .before .fraction-bytes3 .ensures .1, rw (c .time-in .ensures) (time2-room _ _ d .1))
 
 -- src/write.rt:91:1
 returns : tie.Need-returns

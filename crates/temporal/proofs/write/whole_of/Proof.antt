@@ -112,7 +112,7 @@ time-in-requires-2 c κs = search needs
 -- src/write.rt:86:31
 time2-whole-requires : tie.Need-time2-whole-requires
 time2-whole-requires c κs = let d : domain (Time2 _) (c .before .before .before .before .before .args .temporal) ≡ true = rw (c .before .before .before .kind .given .1) at (c .before .before .before .before .before .pre) in
-      (c .before .fraction-bytes .ensures .1, rw (c .time-in2 .ensures) (time2-room _ _ d .0))
+    (c .before .fraction-bytes .ensures .1, rw (c .time-in2 .ensures) (time2-room _ _ d .0))
 
 -- src/write.rt:75:1
 returns : tie.Need-returns

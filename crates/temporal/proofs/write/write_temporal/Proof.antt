@@ -72,7 +72,7 @@ refuse-requires c κs = search needs
 -- src/write.rt:38:1
 returns-3 : tie.Need-returns-3
 returns-3 c = let z = write-none (c .before .before .before .before .args .kind) (c .before .before .before .before .args .place) (c .before .before .before .before .args .buf .now) (c .before .before .before .before .args .at) (c .before .before .before .before .args .temporal) (sym (c .before .before .in-domain .ensures) ∙ c .before .if1 .left) in
-      rw z (ap refused (c .refuse .ensures), refl)
+    rw z (ap refused (c .refuse .ensures), refl)
 
 pub write-temporal-spec : {M : Type 1} → statement M
 write-temporal-spec =

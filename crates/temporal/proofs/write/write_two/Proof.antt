@@ -47,11 +47,11 @@ same-length c = search needs
 -- src/write.rt:69:9
 returns : tie.Need-returns
 returns c = let a = c .before .before .before .before .before .before .before .before .before .before .before .args in
-      let r : a .at + (a .k + a .w) ≤ length (a .buf .now) = room _ _ _ _ (c .before .before .before .before .before .before .before .before .before .has-room .ensures) (c .before .before .before .before .before .before .before .before .if1 .taken) in
-      let k : min (a .k) 8 ≡ a .k = omega arith in
-      let w : min (a .w) 8 ≡ a .w = omega arith in
-      two-writes (a .buf .now) (beBytes (a .k) (a .whole)) (beBytes (a .w) (a .units)) _ _ (a .at) (a .k) (a .w) (beBytes-length (a .k) (a .whole)) (beBytes-length (a .w) (a .units)) r
-      (rw k at (c .before .before .before .before .before .before .write-be .ensures .1)) (rw w at (c .before .before .write-be2 .ensures .1))
+    let r : a .at + (a .k + a .w) ≤ length (a .buf .now) = room _ _ _ _ (c .before .before .before .before .before .before .before .before .before .has-room .ensures) (c .before .before .before .before .before .before .before .before .if1 .taken) in
+    let k : min (a .k) 8 ≡ a .k = omega arith in
+    let w : min (a .w) 8 ≡ a .w = omega arith in
+    two-writes (a .buf .now) (beBytes (a .k) (a .whole)) (beBytes (a .w) (a .units)) _ _ (a .at) (a .k) (a .w) (beBytes-length (a .k) (a .whole)) (beBytes-length (a .w) (a .units)) r
+    (rw k at (c .before .before .before .before .before .before .write-be .ensures .1)) (rw w at (c .before .before .write-be2 .ensures .1))
 
 -- src/write.rt:71:22
 refuse-requires : tie.Need-refuse-requires
@@ -60,8 +60,8 @@ refuse-requires c κs = search needs
 -- src/write.rt:57:1
 returns-2 : tie.Need-returns-2
 returns-2 c = let a = c .before .before .before .before .args in
-      let l : length (beBytes (a .k) (a .whole) ++ beBytes (a .w) (a .units)) ≡ a .k + a .w = rw (length-append, beBytes-length (a .k) (a .whole), beBytes-length (a .w) (a .units)) in
-      not-wrote (a .buf .now) (beBytes (a .k) (a .whole) ++ beBytes (a .w) (a .units)) (a .at) (a .k + a .w) _ l (no-room _ _ _ _ (c .before .before .has-room .ensures) (c .before .if1 .left)) (c .refuse .ensures)
+    let l : length (beBytes (a .k) (a .whole) ++ beBytes (a .w) (a .units)) ≡ a .k + a .w = rw (length-append, beBytes-length (a .k) (a .whole), beBytes-length (a .w) (a .units)) in
+    not-wrote (a .buf .now) (beBytes (a .k) (a .whole) ++ beBytes (a .w) (a .units)) (a .at) (a .k + a .w) _ l (no-room _ _ _ _ (c .before .before .has-room .ensures) (c .before .if1 .left)) (c .refuse .ensures)
 
 pub write-two-spec : {M : Type 1} → statement M
 write-two-spec =

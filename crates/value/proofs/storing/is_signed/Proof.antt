@@ -1,3 +1,19 @@
+use mathlib.Core.Bool.{true, false}
+use mathlib.Core.List.{List, [], _++_}
+use borrow.Author.Tests.{lt-ltb, le-ltb, le-leb, lt-leb, eq-eqb, ne-eqb, not-true, not-false}
+use lib.ListN.{length, take, drop, length-append}
+use lib.Dec.{leb}
+use Rattle.value.specs.declared.shape.Shape.{Shape}
+use Rattle.value.specs.declared.shape.Shape.the-variants.{Unsigned, Signed, FloatBits, DoubleBits, YearByte, Timed, Fixed, Counted, NotTaken}
+use Rattle.value.specs.Shapes.{Sized, need, bytesOf, decode, fault}
+use Rattle.value.specs.Data.{tag, intIn, numberIn, whenIn, magnitudeOf}
+use Rattle.value.specs.Reading.{readOf, readValue, datumOf, placed}
+use Rattle.value.specs.Storing.{isIn, isLent, lenOf, startOf}
+use Rattle.wire.specs.Outcome.{refused}
+use Rattle.wire.specs.Stored.{store, answerOf, leftOf, writtenOf}
+use mir.Syntax.{w64}
+use mir.Val.{toZ, ofZ}
+use mir.ValLaws.{toZ-ofZ}
 use Prim.Native.Nat.{ℕ, _+_, _-_, _*_, _/_, _%_, _^_, _≤_, _<_, min}
 use mathlib.Core.Path.{_≡_, refl, sym, ap, subst, _∙_}
 use native.Mathlib.Omega.{arith}
@@ -37,7 +53,7 @@ in-halves-requires c κs = search needs
 returns-2 : tie.Need-returns-2
 returns-2 c = let a = c .before .before .before .before .args in
     let d = datumOf [] (a .value) in
-    rw (eq-eqb (tag d) 1 (sym (c .before .before .before .tag-of .ensures) ∙ c .before .before .if1 .left)) (c .in-halves .ensures ∙ ap (inHalves (a .most + 1)) ?)
+    rw (eq-eqb (tag d) 1 (sym (c .before .before .before .tag-of .ensures) ∙ c .before .before .if1 .left)) (c .in-halves .ensures ∙ ap (inHalves (a .most + 1)) (toZ-ofZ w64 (c .before .int-in .result) (record { sfits = c .before .int-in .ok }) ∙ c .before .int-in .ensures))
 
 pub is-signed-spec : {M : Type 1} → statement M
 is-signed-spec =

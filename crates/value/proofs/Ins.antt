@@ -1,0 +1,280 @@
+-- Values and what they say: which a column takes, and the bytes that it stores. Laws for the writers of the code. Assumes nothing.
+use Prim.Native.Nat.{ℕ, _+_, _-_, _/_, _^_, _≤_, _<_, min}
+use mathlib.Core.Path.{_≡_, refl, sym, ap, _∙_, subst}
+use mathlib.Core.Bool.{Bool, true, false, cond, _&&_}
+use mathlib.Core.Logic.{dite}
+use mathlib.Core.List.{List, [], _∷_, _++_, append-nil}
+use native.Mathlib.Decide.{decLe}
+use native.Mathlib.Omega.{arith}
+use borrow.Author.Tests.{lt-ltb, le-ltb, le-leb, lt-leb, eq-eqb, ne-eqb, leb-true, ltb-true, eqb-true}
+use lib.ListN.{length, take, drop, length-drop, length-append}
+use lib.Seq.{length-take-le}
+use lib.Dec.{leb, ltb, eqb}
+use lib.IntN.{ℤ}
+use Rattle.wire.specs.Outcome.{Outcome, ok, refuse, after}
+use Rattle.wire.specs.Number.{leBytes}
+use Rattle.wire.specs.Signed.{twosOf, inHalves}
+use Rattle.wire.specs.Stored.{store}
+use Rattle.wire.proofs.Bytes.{leBytes-length}
+use Rattle.temporal.specs.declared.kind.Kind.{Kind}
+use Rattle.temporal.specs.declared.parts.Temporal.{Temporal}
+use Rattle.temporal.specs.Domains.{domain as timedDomain}
+use Rattle.temporal.specs.Reading.{bytesOf as timedBytes, writeTemporal}
+use Rattle.value.specs.declared.shape.Shape.{Shape}
+use Rattle.value.specs.declared.shape.Shape.the-variants.{Unsigned, Signed, FloatBits, DoubleBits, YearByte, Timed, Fixed, Counted, NotTaken}
+use Rattle.value.specs.declared.datum.Value.{Value}
+use Rattle.value.specs.declared.datum.Value.the-variants.{Null, Int, Uint, Float, Double, Year, When, Bytes}
+use Rattle.value.specs.Data.{Datum, tag, intIn, numberIn, whenIn, bytesIn, magnitudeOf}
+use Rattle.value.specs.Domains.{domain}
+use Rattle.value.specs.Shapes.{bytesOf, need}
+use Rattle.value.specs.Columns.{isTaken, refusalOf}
+use Rattle.value.specs.Reading.{taken, datumOf}
+use Rattle.value.specs.Storing.{startOf, lenOf, isLent, isIn, storedBytes, writeValue, sizeOf}
+use Rattle.value.proofs.Facts.{both, need-bytes}
+use Rattle.value.proofs.Laws.{taken-at}
+use Rattle.value.proofs.Signs.{halves-is}
+
+-- ---- all but its bytes a value says whatever is lent
+pub tag-any : (s : List ℕ) (v : Value) → tag (datumOf s v) ≡ tag (datumOf [] v)
+unfolding tag datumOf
+tag-any s Null = refl
+tag-any s (Int z) = refl
+tag-any s (Uint n) = refl
+tag-any s (Float n) = refl
+tag-any s (Double n) = refl
+tag-any s (Year n) = refl
+tag-any s (When t) = refl
+tag-any s (Bytes start len) = refl
+
+pub number-any : (s : List ℕ) (v : Value) → numberIn (datumOf s v) ≡ numberIn (datumOf [] v)
+unfolding numberIn datumOf
+number-any s Null = refl
+number-any s (Int z) = refl
+number-any s (Uint n) = refl
+number-any s (Float n) = refl
+number-any s (Double n) = refl
+number-any s (Year n) = refl
+number-any s (When t) = refl
+number-any s (Bytes start len) = refl
+
+pub int-any : (s : List ℕ) (v : Value) → intIn (datumOf s v) ≡ intIn (datumOf [] v)
+unfolding intIn datumOf
+int-any s Null = refl
+int-any s (Int z) = refl
+int-any s (Uint n) = refl
+int-any s (Float n) = refl
+int-any s (Double n) = refl
+int-any s (Year n) = refl
+int-any s (When t) = refl
+int-any s (Bytes start len) = refl
+
+pub when-any : (s : List ℕ) (v : Value) → whenIn (datumOf s v) ≡ whenIn (datumOf [] v)
+unfolding whenIn datumOf
+when-any s Null = refl
+when-any s (Int z) = refl
+when-any s (Uint n) = refl
+when-any s (Float n) = refl
+when-any s (Double n) = refl
+when-any s (Year n) = refl
+when-any s (When t) = refl
+when-any s (Bytes start len) = refl
+
+-- its bytes are a part of what is lent
+pub bytes-part : (s : List ℕ) (v : Value) → bytesIn (datumOf s v) ≡ take (lenOf v) (drop (startOf v) s)
+unfolding bytesIn datumOf startOf lenOf
+bytes-part s Null = refl
+bytes-part s (Int z) = refl
+bytes-part s (Uint n) = refl
+bytes-part s (Float n) = refl
+bytes-part s (Double n) = refl
+bytes-part s (Year n) = refl
+bytes-part s (When t) = refl
+bytes-part s (Bytes start len) = refl
+
+pub bytes-length : (s : List ℕ) (v : Value) → isLent s v ≡ true → length (bytesIn (datumOf s v)) ≡ lenOf v
+unfolding isLent
+bytes-length s v h =
+    let l : startOf v + lenOf v ≤ length s = leb-true (startOf v + lenOf v) (length s) h in
+    ap length (bytes-part s v) ∙ length-take-le (lenOf v) (drop (startOf v) s) (rw length-drop (omega arith))
+
+-- ---- which values a column takes, as the code tests it
+pub not-in : (sh : Shape) (s : List ℕ) (v : Value) → isLent s v ≡ false → false ≡ isIn sh s v
+unfolding isIn
+not-in sh s v h = rw h
+
+below : (n most k : ℕ) → most + 1 ≡ 256 ^ k → (leb 0 n && leb n most) ≡ ltb n (256 ^ k)
+below n most k e =
+    rw (le-leb 0 n (omega arith), ← e)
+    (dite (decLe n most)
+    (λ h. le-leb n most h ∙ sym (lt-ltb n (most + 1) (omega arith)))
+    (λ h. lt-leb n most (omega arith) ∙ sym (le-ltb n (most + 1) (omega arith))))
+
+-- a number of k bytes, of the sort t
+pub in-plain : (sh : Shape) (t k most : ℕ) (s : List ℕ) (v : Value) → ((d : Datum) → domain sh d ≡ (eqb (tag d) t && ltb (numberIn d) (256 ^ k))) → most + 1 ≡ 256 ^ k
+    → isLent s v ≡ true → (eqb (tag (datumOf [] v)) t && (leb 0 (numberIn (datumOf [] v)) && leb (numberIn (datumOf [] v)) most)) ≡ isIn sh s v
+unfolding isIn
+in-plain sh t k most s v f e h = rw (h, f (datumOf s v), tag-any s v, number-any s v, below (numberIn (datumOf [] v)) most k e)
+
+pub unsigned-domain : (k : ℕ) (d : Datum) → domain (Unsigned k) d ≡ (eqb (tag d) 2 && ltb (numberIn d) (256 ^ k))
+unfolding domain
+unsigned-domain k d = refl
+
+pub float-domain : (d : Datum) → domain FloatBits d ≡ (eqb (tag d) 3 && ltb (numberIn d) (256 ^ 4))
+unfolding domain
+float-domain d = refl
+
+pub double-domain : (d : Datum) → domain DoubleBits d ≡ (eqb (tag d) 4 && ltb (numberIn d) (256 ^ 8))
+unfolding domain
+double-domain d = refl
+
+pub in-year : (s : List ℕ) (v : Value) → isLent s v ≡ true
+    → (eqb (tag (datumOf [] v)) 5 && (leb 1900 (numberIn (datumOf [] v)) && leb (numberIn (datumOf [] v)) 2155)) ≡ isIn YearByte s v
+unfolding isIn domain
+in-year s v h = rw (h, tag-any s v, number-any s v)
+
+pub in-signed : (k most : ℕ) (s : List ℕ) (v : Value) → most + 1 ≡ 256 ^ k → isLent s v ≡ true
+    → (eqb (tag (datumOf [] v)) 1 && inHalves (most + 1) (intIn (datumOf [] v))) ≡ isIn (Signed k) s v
+unfolding isIn domain
+in-signed k most s v e h = rw (h, tag-any s v, int-any s v, e)
+
+pub in-timed : (k : Kind) (s : List ℕ) (v : Value) → isLent s v ≡ true
+    → (eqb (tag (datumOf [] v)) 6 && timedDomain k (whenIn (datumOf [] v))) ≡ isIn (Timed k) s v
+unfolding isIn domain
+in-timed k s v h = rw (h, tag-any s v, when-any s v)
+
+just : (n m : ℕ) → (leb n m && leb m n) ≡ eqb m n
+just n m =
+    dite (decLe n m)
+    (λ h. dite (decLe m n)
+    (λ g. rw (le-leb n m h, le-leb m n g) (sym (eq-eqb m n (omega arith))))
+    (λ g. rw (le-leb n m h, lt-leb m n (omega arith)) (sym (ne-eqb m n (λ e. omega arith)))))
+    (λ h. rw (lt-leb n m (omega arith)) (sym (ne-eqb m n (λ e. omega arith))))
+
+pub in-fixed : (n : ℕ) (s : List ℕ) (v : Value) → isLent s v ≡ true → (eqb (tag (datumOf [] v)) 7 && (leb n (lenOf v) && leb (lenOf v) n)) ≡ isIn (Fixed n) s v
+unfolding isIn domain
+in-fixed n s v h = rw (h, tag-any s v, bytes-length s v h, just n (lenOf v))
+
+pub in-counted : (k most : ℕ) (s : List ℕ) (v : Value) → most + 1 ≡ 256 ^ k → isLent s v ≡ true
+    → (eqb (tag (datumOf [] v)) 7 && (leb 0 (lenOf v) && leb (lenOf v) most)) ≡ isIn (Counted k) s v
+unfolding isIn domain
+in-counted k most s v e h = rw (h, tag-any s v, bytes-length s v h, below (lenOf v) most k e)
+
+pub in-none : (n : ℕ) (s : List ℕ) (v : Value) → isLent s v ≡ true → false ≡ isIn (NotTaken n) s v
+unfolding isIn domain
+in-none n s v h = rw h
+
+-- what is lent is no longer than the list
+pub lent-fits : (s : List ℕ) (v : Value) → isLent s v ≡ true → startOf v + lenOf v ≤ length s
+unfolding isLent
+lent-fits s v h = leb-true (startOf v + lenOf v) (length s) h
+
+-- a value that a column takes is lent, and in the domain
+pub is-in : (sh : Shape) (s : List ℕ) (v : Value) → isIn sh s v ≡ true → (isLent s v ≡ true) × (domain sh (datumOf s v) ≡ true)
+unfolding isIn
+is-in sh s v h = both (isLent s v) (domain sh (datumOf s v)) h
+
+-- ---- how many bytes it is stored in
+pub size-is : (sh : Shape) (s : List ℕ) (v : Value) → isIn sh s v ≡ true → need sh (bytesOf sh (datumOf s v)) ≡ length (bytesOf sh (datumOf s v))
+size-is sh s v h = rw (append-nil (bytesOf sh (datumOf s v))) at (need-bytes sh (datumOf s v) [] (is-in sh s v h .1))
+
+-- where the shape's need is n whatever the bytes
+pub size-at : (sh sh′ : Shape) (n : ℕ) (s : List ℕ) (v : Value) → sh ≡ sh′ → isIn sh s v ≡ true → ((b : List ℕ) → need sh′ b ≡ n) → n ≡ length (bytesOf sh (datumOf s v))
+size-at sh sh′ n s v e h f = sym (f (bytesOf sh (datumOf s v))) ∙ ap (λ (x : Shape). need x (bytesOf sh (datumOf s v))) (sym e) ∙ size-is sh s v h
+
+pub size-counted : (k : ℕ) (s : List ℕ) (v : Value) → isIn (Counted k) s v ≡ true → k + lenOf v ≡ length (bytesOf (Counted k) (datumOf s v))
+unfolding bytesOf
+size-counted k s v h =
+    let l = bytes-length s v (is-in (Counted k) s v h .0) in
+    sym (length-append (leBytes k (length (bytesIn (datumOf s v)))) (bytesIn (datumOf s v)) ∙ rw (leBytes-length, l))
+
+-- ---- numbers that the code may take apart
+pub signed-small : (k most : ℕ) (s : List ℕ) (v : Value) → most + 1 ≡ 256 ^ k → isIn (Signed k) s v ≡ true → magnitudeOf (intIn (datumOf [] v)) ≤ most
+unfolding isIn domain
+signed-small k most s v e h =
+    let w = both (isLent s v) _ h in
+    let d = both (eqb (tag (datumOf s v)) 1) _ (w .1) in
+    let t : ltb (magnitudeOf (intIn (datumOf [] v))) ((most + 1) / 2) ≡ true =
+    sym (halves-is (most + 1) (intIn (datumOf [] v))) ∙ ap (λ (m : ℕ). inHalves m (intIn (datumOf [] v))) e ∙ rw (int-any s v) at (d .1) in
+    let l = ltb-true (magnitudeOf (intIn (datumOf [] v))) ((most + 1) / 2) t in
+    omega arith
+
+pub year-least : (s : List ℕ) (v : Value) → isIn YearByte s v ≡ true → 1900 ≤ numberIn (datumOf [] v)
+unfolding isIn domain
+year-least s v h =
+    let w = both (isLent s v) _ h in
+    let d = both (eqb (tag (datumOf s v)) 5) _ (w .1) in
+    let t = both (leb 1900 (numberIn (datumOf s v))) _ (d .1) in
+    rw (number-any s v) at (leb-true 1900 (numberIn (datumOf s v)) (t .0))
+
+-- ---- and which bytes these are
+pub put-unsigned : (k : ℕ) (s : List ℕ) (v : Value) → k ≤ 8 → bytesOf (Unsigned k) (datumOf s v) ≡ leBytes (min k 8) (numberIn (datumOf [] v))
+unfolding bytesOf
+put-unsigned k s v h = let e : min k 8 ≡ k = omega arith in rw (e, number-any s v)
+
+pub put-signed : (k most : ℕ) (s : List ℕ) (v : Value) → k ≤ 8 → most + 1 ≡ 256 ^ k → bytesOf (Signed k) (datumOf s v) ≡ leBytes (min k 8) (twosOf (most + 1) (intIn (datumOf [] v)))
+unfolding bytesOf
+put-signed k most s v h m = let e : min k 8 ≡ k = omega arith in rw (e, m, int-any s v)
+
+pub put-float : (s : List ℕ) (v : Value) → bytesOf FloatBits (datumOf s v) ≡ leBytes 4 (numberIn (datumOf [] v))
+unfolding bytesOf
+put-float s v = ap (leBytes 4) (number-any s v)
+
+pub put-double : (s : List ℕ) (v : Value) → bytesOf DoubleBits (datumOf s v) ≡ leBytes 8 (numberIn (datumOf [] v))
+unfolding bytesOf
+put-double s v = ap (leBytes 8) (number-any s v)
+
+pub put-year : (s : List ℕ) (v : Value) → bytesOf YearByte (datumOf s v) ≡ leBytes 1 (numberIn (datumOf [] v) - 1900)
+unfolding bytesOf
+put-year s v = ap (λ (n : ℕ). leBytes 1 (n - 1900)) (number-any s v)
+
+pub put-fixed : (n : ℕ) (s : List ℕ) (v : Value) → bytesOf (Fixed n) (datumOf s v) ≡ leBytes 0 (lenOf v) ++ take (lenOf v) (drop (startOf v) s)
+unfolding bytesOf leBytes
+put-fixed n s v = bytes-part s v
+
+pub put-counted : (k : ℕ) (s : List ℕ) (v : Value) → isLent s v ≡ true → bytesOf (Counted k) (datumOf s v) ≡ leBytes k (lenOf v) ++ take (lenOf v) (drop (startOf v) s)
+unfolding bytesOf
+put-counted k s v h = rw (bytes-length s v h, bytes-part s v)
+
+pub put-timed : (k : Kind) (s : List ℕ) (v : Value) (buf : List ℕ) (at : ℕ) → isIn (Timed k) s v ≡ true
+    → store buf at (bytesOf (Timed k) (datumOf s v)) ≡ writeTemporal k 0 buf at (whenIn (datumOf [] v))
+unfolding isIn domain bytesOf writeTemporal
+put-timed k s v buf at h =
+    let w = both (isLent s v) _ h in
+    let d = both (eqb (tag (datumOf s v)) 6) _ (w .1) in
+    let t : timedDomain k (whenIn (datumOf [] v)) ≡ true = rw (when-any s v) at (d .1) in
+    rw (t, when-any s v)
+
+-- ---- the refusals before that
+pub not-taken : (sh : Shape) (p : ℕ) → isTaken sh ≡ false → taken sh p ≡ refuse (refusalOf sh) p
+unfolding isTaken taken refusalOf
+not-taken (Unsigned k) p h = let z : _≡_ {A = ℕ} 0 1 = cc in absurd (omega arith)
+not-taken (Signed k) p h = let z : _≡_ {A = ℕ} 0 1 = cc in absurd (omega arith)
+not-taken FloatBits p h = let z : _≡_ {A = ℕ} 0 1 = cc in absurd (omega arith)
+not-taken DoubleBits p h = let z : _≡_ {A = ℕ} 0 1 = cc in absurd (omega arith)
+not-taken YearByte p h = let z : _≡_ {A = ℕ} 0 1 = cc in absurd (omega arith)
+not-taken (Timed k) p h = let z : _≡_ {A = ℕ} 0 1 = cc in absurd (omega arith)
+not-taken (Fixed n) p h = let z : _≡_ {A = ℕ} 0 1 = cc in absurd (omega arith)
+not-taken (Counted k) p h = let z : _≡_ {A = ℕ} 0 1 = cc in absurd (omega arith)
+not-taken (NotTaken n) p h = refl
+
+-- what a value is stored as, by the two tests
+pub stored-not : (sh : Shape) (p : ℕ) (s : List ℕ) (v : Value) → isTaken sh ≡ false → storedBytes sh p s v ≡ refuse (refusalOf sh) p
+unfolding storedBytes
+stored-not sh p s v h = rw (not-taken sh p h)
+
+pub stored-out : (sh : Shape) (p : ℕ) (s : List ℕ) (v : Value) → isTaken sh ≡ true → isIn sh s v ≡ false → storedBytes sh p s v ≡ refuse 13 p
+unfolding storedBytes
+stored-out sh p s v t h = rw (taken-at sh p t, h)
+
+pub stored-in : (sh : Shape) (p : ℕ) (s : List ℕ) (v : Value) → isTaken sh ≡ true → isIn sh s v ≡ true → storedBytes sh p s v ≡ ok (bytesOf sh (datumOf s v))
+unfolding storedBytes
+stored-in sh p s v t h = rw (taken-at sh p t, h)
+
+-- the part that the code lends, from a start to an end that it added up
+pub lent-part : (s : List ℕ) (v : Value) (k start len : ℕ) → isLent s v ≡ true → start ≡ startOf v → len ≡ lenOf v
+    → leBytes k (length (take (start + len - start) (drop start s))) ++ take (start + len - start) (drop start s) ≡ leBytes k (lenOf v) ++ take (lenOf v) (drop (startOf v) s)
+lent-part s v k start len h e f =
+    let l = lent-fits s v h in
+    let d : startOf v + lenOf v - startOf v ≡ lenOf v = omega arith in
+    let n : length (take (lenOf v) (drop (startOf v) s)) ≡ lenOf v = length-take-le (lenOf v) (drop (startOf v) s) (rw length-drop (omega arith)) in
+    rw (e, f, d, n)
