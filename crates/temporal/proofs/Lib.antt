@@ -5,3 +5,6 @@ pub mod Radices
 pub mod Holds
 pub mod Numbers
 pub mod Steps
+pub mod Forms
+pub mod Views
+pub mod Words

@@ -7,8 +7,8 @@ use crate::kind::Kind;
 use crate::parts::Date;
 use crate::parts::Moment;
 use crate::parts::Stamp;
-use crate::parts::Time;
 use crate::parts::Temporal;
+use crate::parts::Time;
 use crate::sort::date_in;
 use crate::sort::moment_in;
 use crate::sort::sort_of;
@@ -71,7 +71,15 @@ fn holds_moment(w: usize, temporal: Temporal) -> bool
     if day_fault(m.year as u64, m.month as u64, m.day as u64) != 0 {
         return false;
     }
-    if clock_fault(23, m.hour as u64, m.minute as u64, m.second as u64, m.micros as u64) != 0 {
+    if clock_fault(
+        23,
+        m.hour as u64,
+        m.minute as u64,
+        m.second as u64,
+        m.micros as u64,
+    )
+        != 0
+    {
         return false;
     }
     in_units(w, m.micros)

@@ -12,10 +12,11 @@ use crate::parts::Temporal;
 ghost use mathlib.Core.Path.{_≡_};
 ghost use Prim.Native.Nat.{_≤_, _<_, _^_};
 ghost use Rattle.temporal.specs.Times.{packedTime, timeBy};
-ghost use Rattle.temporal.specs.Moments.{packedDatetime, momentBy, stampOf};
-ghost use Rattle.temporal.specs.Judgement.{judgement, judgedTime, judgedStamp, judgedDatetime};
+ghost use Rattle.temporal.specs.Moments.{packedDatetime, stampOf};
+ghost use Rattle.temporal.specs.Judgement.{judgedTime, judgedStamp, judgedDatetime};
 
 pub(crate) const TIMEF_INT_OFS: u64 = 0x80_0000;
+
 pub(crate) const DATETIMEF_INT_OFS: u64 = 0x80_0000_0000;
 
 pub(crate) struct PackedTime {

@@ -86,7 +86,15 @@ fn judge(kind: Kind, whole: u64, fraction: u64) -> Judged
         Kind::OldDatetime => moment_by(100, 100, 100, 100, whole, 0),
         Kind::Newdate => date_of(whole),
         Kind::Timestamp2 { m0 } => my_timestamp_from_binary(fraction_bytes(m0), whole, fraction),
-        Kind::Datetime2 { m0 } => datetime_from_packed(my_datetime_packed_from_binary(fraction_bytes(m0), whole, fraction)),
-        Kind::Time2 { m0 } => time_from_packed(my_time_packed_from_binary(fraction_bytes(m0), whole, fraction)),
+        Kind::Datetime2 { m0 } => datetime_from_packed(my_datetime_packed_from_binary(
+            fraction_bytes(m0),
+            whole,
+            fraction,
+        )),
+        Kind::Time2 { m0 } => time_from_packed(my_time_packed_from_binary(
+            fraction_bytes(m0),
+            whole,
+            fraction,
+        )),
     }
 }

@@ -18,13 +18,13 @@ use crate::sort::moment_in;
 use crate::sort::stamp_in;
 use crate::sort::time_in;
 use wire::Written;
-use wire::refusal::NOT_TAKEN;
 use wire::refusal::NO_ROOM;
+use wire::refusal::NOT_TAKEN;
 use wire::refuse;
 ghost use mathlib.Core.Path.{_≡_};
-ghost use mathlib.Core.Bool.{Bool, true};
+ghost use mathlib.Core.Bool.{true};
 ghost use mathlib.Core.List.{_++_};
-ghost use Prim.Native.Nat.{_+_, _*_, _/_, _≤_, _<_, _^_};
+ghost use Prim.Native.Nat.{_+_, _*_, _/_, _≤_, _<_};
 ghost use Rattle.wire.specs.Number.{beBytes};
 ghost use Rattle.wire.specs.Stored.{store, answerOf, leftOf, writtenOf};
 ghost use Rattle.temporal.specs.Fraction.{unitOf};
@@ -35,7 +35,13 @@ ghost use Rattle.temporal.specs.Domains.{domain};
 ghost use Rattle.temporal.specs.Reading.{writeTemporal};
 
 // Writes the temporal from at on; place is what a refusal tells of one that the column cannot hold.
-pub fn write_temporal(kind: Kind, buf: &mut [u8], at: usize, temporal: Temporal, place: usize) -> Written
+pub fn write_temporal(
+    kind: Kind,
+    buf: &mut [u8],
+    at: usize,
+    temporal: Temporal,
+    place: usize,
+) -> Written
     ensures { λ r. ⌜ writtenOf r ≡ answerOf (writeTemporal kind place (now (buf .entry)) at temporal) ⌝ }
     ensures { λ _. ⌜ now (buf .exit) ≡ leftOf (now (buf .entry)) (writeTemporal kind place (now (buf .entry)) at temporal) ⌝ }
 {
@@ -82,7 +88,8 @@ fn whole_of(kind: Kind, temporal: Temporal) -> u64
         Kind::OldDatetime => moment_number(100, 100, 100, 100, moment_in(temporal)),
         Kind::Newdate => date_number(date_in(temporal)),
         Kind::Timestamp2 { m0: _ } => stamp_in(temporal).seconds as u64,
-        Kind::Datetime2 { m0: _ } => DATETIMEF_INT_OFS + moment_number(64, 32, 32, 13, moment_in(temporal)),
+        Kind::Datetime2 { m0: _ } => DATETIMEF_INT_OFS
+            + moment_number(64, 32, 32, 13, moment_in(temporal)),
         Kind::Time2 { m0 } => time2_whole(fraction_bytes(m0), time_in(temporal)),
     }
 }

@@ -1,5 +1,4 @@
-use native.Mathlib.Omega.{arith}
-use mathlib.Core.Path.{_≡_, refl, sym, ap, _∙_}
+-- `temporal::domain::holds_date` meets its contract. Assumes nothing.
 use Rattle.temporal.specs.Domains.{dateDomain}
 use Rattle.temporal.proofs.Ranges.{day-same}
 use borrow.Author.Tests.{eq-eqb, ne-eqb}
@@ -12,35 +11,27 @@ use Rattle.temporal.proofs.judge.day_fault.Reads as day-fault-reads
 use Rattle.temporal.proofs.sort.date_in.Reads as date-in-reads
 use Rattle.temporal.proofs.sort.sort_of.Reads as sort-of-reads
 
--- src/domain.rt:56:8
 sort-of-requires : tie.Need-sort-of-requires
 sort-of-requires c κs = search needs
 
--- src/domain.rt:57:9
 returns : tie.Need-returns
 returns c = rw (← c .before .sort-of .ensures, ne-eqb _ _ (c .if1 .taken))
 
--- src/domain.rt:59:9
 date-in-requires : tie.Need-date-in-requires
 date-in-requires c κs = search needs
 
--- src/domain.rt:60:15
 cast-day-fault : tie.Need-cast-day-fault
 cast-day-fault c = search needs
 
--- src/domain.rt:60:30
 cast-day-fault-2 : tie.Need-cast-day-fault-2
 cast-day-fault-2 c = search needs
 
--- src/domain.rt:60:46
 cast-day-fault-3 : tie.Need-cast-day-fault-3
 cast-day-fault-3 c = search needs
 
--- src/domain.rt:60:5
 day-fault-requires : tie.Need-day-fault-requires
 day-fault-requires c κs = search needs
 
--- src/domain.rt:53:1
 returns-2 : tie.Need-returns-2
 unfolding dateDomain
 returns-2 c = rw (← c .before .before .before .before .before .before .sort-of .ensures, eq-eqb _ _ (c .before .before .before .before .before .if1 .left), ← c .before .before .before .before .date-in .ensures, day-same, ← c .day-fault .ensures)

@@ -1,9 +1,9 @@
+-- `temporal::domain::holds_old_time` meets its contract. A negative time fails one test of the conjunction, whichever it is. Assumes nothing.
 use mathlib.Core.Bool.{Bool, not, _&&_}
 use lib.Dec.{eqb}
 use Rattle.temporal.specs.Kinds.{sort}
 use Rattle.temporal.specs.Domains.{timeDomain}
-use native.Mathlib.Omega.{arith}
-use mathlib.Core.Path.{_≡_, refl, sym, ap, _∙_}
+use mathlib.Core.Path.{_≡_, sym, ap, _∙_}
 use mathlib.Core.Bool.{false}
 use Rattle.temporal.specs.declared.parts.Time.{Time}
 use Rattle.temporal.specs.Kinds.{timeIn}
@@ -17,25 +17,21 @@ use Rattle.temporal.proofs.domain.holds_old_time.Lts as lts
 use Rattle.temporal.proofs.domain.holds_time.Reads as holds-time-reads
 use Rattle.temporal.proofs.sort.time_in.Reads as time-in-reads
 
--- src/domain.rt:108:9
 time-in-requires : tie.Need-time-in-requires
 time-in-requires c κs = search needs
 
--- src/domain.rt:110:9
 returns : tie.Need-returns
 unfolding domain
 returns c = rw (← c .before .time-in .ensures, c .if1 .taken) (sym (and-no (eqb (sort (c .before .before .args .temporal)) 3)))
 
--- src/domain.rt:112:5
 holds-time-requires : tie.Need-holds-time-requires
 holds-time-requires c κs = search needs
 
--- src/domain.rt:105:1
 returns-2 : tie.Need-returns-2
 unfolding domain
 returns-2 c = let t = c .before .before .before .args .temporal in
-      let n : timeIn t .negative ≡ false = ap (λ (x : Time). x .negative) (sym (c .before .before .time-in .ensures)) ∙ c .before .if1 .left in
-      c .holds-time .ensures ∙ ap (λ (b : Bool). eqb (sort t) 3 && (not b && timeDomain 0 (timeIn t))) (sym n)
+    let n : timeIn t .negative ≡ false = ap (λ (x : Time). x .negative) (sym (c .before .before .time-in .ensures)) ∙ c .before .if1 .left in
+    c .holds-time .ensures ∙ ap (λ (b : Bool). eqb (sort t) 3 && (not b && timeDomain 0 (timeIn t))) (sym n)
 
 pub holds-old-time-spec : {M : Type 1} → statement M
 holds-old-time-spec = tie.close (tie.spec time-in-requires returns holds-time-requires returns-2)

@@ -1,6 +1,7 @@
+-- `temporal::misc::my_datetime_packed_from_binary` meets its contract. Assumes nothing.
 use Prim.Native.Nat.{_-_, _*_, _^_, _<_}
 use native.Mathlib.Omega.{arith}
-use mathlib.Core.Path.{_≡_, refl, sym, ap, _∙_}
+use mathlib.Core.Path.{_≡_}
 use Rattle.temporal.specs.Moments.{packedDatetime}
 use Rattle.temporal.proofs.Units.{unit-room}
 use borrow.Author.Tests.{lt-ltb, le-ltb}
@@ -11,20 +12,16 @@ use Rattle.temporal.proofs.misc.my_datetime_packed_from_binary.Reads as
 use Rattle.temporal.proofs.misc.my_datetime_packed_from_binary.Lts as lts
 use Rattle.temporal.proofs.fraction.unit.Reads as unit-reads
 
--- src/misc.rt:71:25
 unit-requires : tie.Need-unit-requires
 unit-requires c κs = search needs
 
--- src/misc.rt:71:18
 mul-micros : tie.Need-mul-micros
 mul-micros c = let m : c .before .args .frac * c .unit .result < 2 ^ 64 = rw (c .unit .ensures) (unit-room (c .before .args .frac) (c .before .args .w) (omega arith) (omega arith)) in omega arith
 
--- src/misc.rt:74:9
 returns : tie.Need-returns
 unfolding packedDatetime
 returns c = rw (c .before .unit .ensures, le-ltb _ _ (c .if1 .taken))
 
--- src/misc.rt:67:1
 returns-2 : tie.Need-returns-2
 unfolding packedDatetime
 returns-2 c = let z : c .before .before .args .intpart - 549755813888 ≡ 0 = omega arith in rw (c .before .unit .ensures, lt-ltb _ _ (c .if1 .left), z)
