@@ -1,13 +1,10 @@
 -- `temporal::domain::holds_old_time` meets its contract. A negative time fails one test of the conjunction, whichever it is. Assumes nothing.
-use mathlib.Core.Bool.{Bool, not, _&&_}
-use lib.Dec.{eqb}
-use Rattle.temporal.specs.Kinds.{sort}
-use Rattle.temporal.specs.Domains.{timeDomain}
 use mathlib.Core.Path.{_≡_, sym, ap, _∙_}
-use mathlib.Core.Bool.{false}
+use mathlib.Core.Bool.{Bool, false, not, _&&_}
+use lib.Dec.{eqb}
 use Rattle.temporal.specs.declared.parts.Time.{Time}
-use Rattle.temporal.specs.Kinds.{timeIn}
-use Rattle.temporal.specs.Domains.{domain}
+use Rattle.temporal.specs.Kinds.{sort, timeIn}
+use Rattle.temporal.specs.Domains.{timeDomain, domain}
 use Rattle.temporal.proofs.Ranges.{and-no}
 use borrow.Author.Needs.{needs}
 use Rattle.temporal.proofs.domain.holds_old_time.Statement.{statement}

@@ -8,8 +8,8 @@ use Rattle.temporal.proofs.write.moment_number.Reads as reads
 use Rattle.temporal.proofs.write.moment_number.Lts as lts
 use Rattle.temporal.proofs.write.append.Reads as append-reads
 
-cast-append : tie.Need-cast-append
-cast-append c = search needs
+cast-year : tie.Need-cast-year
+cast-year c = search needs
 
 append-requires : tie.Need-append-requires
 append-requires c κs = search needs
@@ -33,7 +33,7 @@ pub moment-number-spec : {M : Type 1} → statement M
 moment-number-spec =
     tie.close
     (tie.spec
-    cast-append
+    cast-year
     append-requires
     append-requires-2
     append-requires-3

@@ -8,8 +8,8 @@ use Rattle.temporal.proofs.write.time_number.Reads as reads
 use Rattle.temporal.proofs.write.time_number.Lts as lts
 use Rattle.temporal.proofs.write.append.Reads as append-reads
 
-cast-append : tie.Need-cast-append
-cast-append c = search needs
+cast-hours : tie.Need-cast-hours
+cast-hours c = search needs
 
 append-requires : tie.Need-append-requires
 append-requires c κs = search needs
@@ -21,4 +21,4 @@ returns : tie.Need-returns
 returns c = (c .append2 .ensures .0 ∙ rw (c .before .append .ensures .0), omega arith)
 
 pub time-number-spec : {M : Type 1} → statement M
-time-number-spec = tie.close (tie.spec cast-append append-requires append-requires-2 returns)
+time-number-spec = tie.close (tie.spec cast-hours append-requires append-requires-2 returns)
