@@ -1,20 +1,35 @@
 -- The worked readings of document 01 that it marks P: one statement over one table, computed from the definitions. Assumes nothing.
 use Prim.Native.Nat.{ℕ}
+use mathlib.Core.Bool.{true}
 use mathlib.Core.List.{List, [], _∷_}
 use mathlib.Core.Path.{_≡_, refl}
 use lib.ListN.{length}
-use Rattle.wire.specs.Outcome.{ok}
+use Rattle.wire.specs.Outcome.{Outcome, ok, refused, refuse}
 use Rattle.wire.specs.Number.{leValue, leBytes}
 use Rattle.wire.specs.Packed.{readPacked, formOf, longForm, packedBytes}
+use Rattle.temporal.specs.declared.kind.Kind.{Kind}
+use Rattle.temporal.specs.declared.kind.Kind.the-variants.{Datetime2, Time2}
+use Rattle.temporal.specs.declared.parts.Temporal.{Temporal}
+use Rattle.temporal.specs.declared.parts.Temporal.the-variants.{At, Lasts}
+use Rattle.temporal.specs.Ranges.{clockFault, dayFault}
+use Rattle.temporal.specs.Reading.{readTemporal}
 
 -- a reading: what is read, and the bytes that say it
 pub data Reading : Type 0 where
   packed : ℕ → List ℕ → Reading
+  temporal : Kind → List ℕ → Outcome Temporal → Reading
+
+-- a temporal, read to the end of its bytes, or a refusal
+abbrev pub whole : List ℕ → Outcome Temporal → Outcome (Temporal × ℕ)
+whole bytes (ok t) = ok (t, length bytes)
+whole bytes (refused w) = refused w
 
 -- what the paper means by it
 abbrev pub Holds : Reading → Type 0
 -- the number is written as these bytes, and they are read as it, to their end
 Holds (packed number bytes) = (packedBytes number ≡ bytes) × (readPacked bytes 0 ≡ ok (number, length bytes))
+-- these bytes of a column of this kind are read as the temporal, to their end, or refused
+Holds (temporal kind bytes answer) = readTemporal kind 0 bytes 0 ≡ whole bytes answer
 
 abbrev pub Each : {A : Type 0} → (A → Type 0) → List A → Type 0
 Each P [] = Unit {0}
@@ -25,8 +40,18 @@ table =
     packed 250 (0xfa ∷ [])
     ∷ packed 251 (0xfc ∷ 0xfb ∷ 0x00 ∷ [])
     ∷ packed 65536 (0xfd ∷ 0x00 ∷ 0x00 ∷ 0x01 ∷ [])
+    -- -00:00:01.500000
+    ∷ temporal (Time2 2) (0x7f ∷ 0xff ∷ 0xfe ∷ 0xce ∷ [])
+    (ok (Lasts record { negative = true; hours = 0; minutes = 0; seconds = 1; micros = 500000 }))
+    -- -00:00:00.990000
+    ∷ temporal (Time2 2) (0x7f ∷ 0xff ∷ 0xff ∷ 0x9d ∷ [])
+    (ok (Lasts record { negative = true; hours = 0; minutes = 0; seconds = 0; micros = 990000 }))
+    ∷ temporal (Time2 2) (0x7f ∷ 0xff ∷ 0xff ∷ 0x9c ∷ []) (refuse 10 0)
+    -- 2000-01-01 00:00:00
+    ∷ temporal (Datetime2 0) (0x99 ∷ 0x64 ∷ 0x42 ∷ 0x00 ∷ 0x00 ∷ [])
+    (ok (At record { year = 2000; month = 1; day = 1; hour = 0; minute = 0; second = 0; micros = 0 }))
     ∷ []
 
 pub readings : Each Holds table
-unfolding table packedBytes leBytes readPacked formOf longForm leValue
-readings = ((refl, refl), ((refl, refl), ((refl, refl), tt)))
+unfolding table packedBytes leBytes readPacked formOf longForm leValue readTemporal clockFault dayFault
+readings = ((refl, refl), ((refl, refl), ((refl, refl), (refl, (refl, (refl, (refl, tt)))))))

@@ -4,15 +4,13 @@ use mathlib.Core.Path.{_≡_, refl, sym}
 use mathlib.Core.Bool.{Bool, true, false, not, _&&_}
 use native.Mathlib.Omega.{arith}
 use borrow.Author.Tests.{le-leb, leb-true, eq-eqb, ne-eqb, eqb-true, eqb-false}
-use lib.Dec.{leb, eqb}
-use Rattle.temporal.specs.declared.kind.Kind.{Kind}
+use lib.Dec.{eqb}
 use Rattle.temporal.specs.declared.kind.Kind.the-variants.{Time2}
 use Rattle.temporal.specs.declared.parts.Stamp.{Stamp}
 use Rattle.temporal.specs.declared.parts.Moment.{Moment}
 use Rattle.temporal.specs.declared.parts.Time.{Time}
 use Rattle.temporal.specs.declared.parts.Temporal.{Temporal}
 use Rattle.temporal.specs.Fraction.{fractionBytes, unitOf}
-use Rattle.temporal.specs.Ranges.{clockFault, dayFault}
 use Rattle.temporal.specs.Times.{timeNumber}
 use Rattle.temporal.specs.Kinds.{sort, timeIn}
 use Rattle.temporal.specs.Domains.{stampDomain, momentDomain, timeDomain, domain}

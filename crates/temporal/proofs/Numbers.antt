@@ -1,30 +1,29 @@
 -- Each kind's two numbers, both ways: those of what it can hold say just that, and what two numbers say with no part out of range can be held, and has
 -- just these numbers. No bytes yet. Assumes nothing.
-use Prim.Native.Nat.{ℕ, zero, suc, _+_, _-_, _*_, _/_, _%_, _^_, _≤_, _<_}
+use Prim.Native.Nat.{ℕ, _+_, _-_, _*_, _/_, _%_, _^_, _≤_, _<_}
 use mathlib.Core.Path.{_≡_, refl, sym, ap, _∙_, subst}
 use mathlib.Core.Logic.{dite}
 use mathlib.Core.Bool.{Bool, true, false, not, _&&_}
 use native.Mathlib.Decide.{decLe}
 use native.Mathlib.Nat.{zero-mul, zero-mod}
 use native.Mathlib.Omega.{arith}
-use borrow.Author.Tests.{le-leb, lt-leb, lt-ltb, le-ltb, eq-eqb, ne-eqb, eqb-true, not-true}
-use lib.Dec.{leb, eqb}
+use borrow.Author.Tests.{le-leb, lt-leb, lt-ltb, le-ltb, eq-eqb, ne-eqb, not-true}
+use lib.Dec.{eqb}
 use Rattle.temporal.specs.declared.kind.Kind.{Kind}
 use Rattle.temporal.specs.declared.kind.Kind.the-variants.{Timestamp, OldTime, OldDatetime, Newdate, Timestamp2, Datetime2, Time2}
 use Rattle.temporal.specs.declared.parts.Stamp.{Stamp}
-use Rattle.temporal.specs.declared.parts.Date.{Date}
 use Rattle.temporal.specs.declared.parts.Moment.{Moment}
 use Rattle.temporal.specs.declared.parts.Time.{Time}
 use Rattle.temporal.specs.declared.parts.Temporal.{Temporal}
 use Rattle.temporal.specs.declared.parts.Temporal.the-variants.{Since, On, At, Lasts}
 use Rattle.temporal.specs.Fraction.{fractionBytes, unitOf}
-use Rattle.temporal.specs.Ranges.{clockFault, dayFault}
+use Rattle.temporal.specs.Ranges.{clockFault}
 use Rattle.temporal.specs.Times.{timeBy, timeNumber, packedTime, time2Of, time2Whole, time2Fraction}
 use Rattle.temporal.specs.Moments.{momentBy, momentNumber, momentFault, packedDatetime, datetime2Of, datetime2Fault, datetimeOf, dateOf, dateNumber, dateFault, stampOf, stampFault}
 use Rattle.temporal.specs.Kinds.{wholeBytes, fractionOf, partsOf, faultOf, wholeOf, unitsOf, clockTimeFault, sort, stampIn, dateIn, momentIn, timeIn}
 use Rattle.temporal.specs.Domains.{domain, stampDomain, dateDomain, momentDomain, timeDomain}
 use Rattle.temporal.proofs.Units.{fraction-small, unit-div, unit-mod, unit-whole, unit-fits, unit-some, unit-none, unit-zero}
-use Rattle.temporal.proofs.Ranges.{Clock, Day, and-true, clock-clear, clock-none, day-clear, day-none, day-of, day-in}
+use Rattle.temporal.proofs.Ranges.{and-true, clock-clear, clock-none, day-clear, day-none, day-of, day-in}
 use Rattle.temporal.proofs.Radices.{Below, time-back, time-number, moment-back, moment-number}
 use Rattle.temporal.proofs.Holds.{HoldsStamp, HoldsMoment, HoldsTime, sum, stamp-of, stamp-in, moment-of, moment-in, time-of, time-in}
 

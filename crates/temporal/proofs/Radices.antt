@@ -1,7 +1,7 @@
 -- The fields of a number over their radices, whatever these are: a number of fields is split into them, and the fields of a number make it. Bits
 -- (64, 32, 32, 13) and decimals (100) are the same law. Assumes nothing.
-use Prim.Native.Nat.{ℕ, zero, suc, _+_, _*_, _/_, _%_, _≤_, _<_}
-use mathlib.Core.Path.{_≡_, refl, sym, ap, _∙_}
+use Prim.Native.Nat.{ℕ, _+_, _*_, _/_, _%_, _≤_, _<_}
+use mathlib.Core.Path.{_≡_, ap, _∙_}
 use mathlib.Core.Bool.{Bool}
 use native.Mathlib.Nat.{mul-add-div-right, mul-add-mod-self-right, div-eq-of-lt, mod-eq-of-lt, div-add-mod', add-zero, mul-le-mul-left}
 use native.Mathlib.Omega.{arith}

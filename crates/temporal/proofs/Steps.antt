@@ -1,14 +1,14 @@
 -- What the functions of the crate do, step by step, is what the definitions say. Assumes nothing.
 use Prim.Native.Nat.{ℕ, zero, suc, _+_, _^_, _≤_, _<_, min}
-use mathlib.Core.Path.{_≡_, refl, sym, ap, _∙_, subst}
-use mathlib.Core.Bool.{Bool, true, false, _&&_}
+use mathlib.Core.Path.{_≡_, refl, sym, ap, _∙_}
+use mathlib.Core.Bool.{true, false}
 use mathlib.Core.List.{List, [], _∷_, _++_}
 use native.Mathlib.Nat.{zero-add, add-zero}
 use native.Mathlib.Omega.{arith}
 use borrow.Author.Tests.{le-leb, lt-leb}
 use lib.ListN.{length, take, drop, length-append}
 use lib.Seq.{take-take, drop-drop, take-nil}
-use lib.Dec.{leb, eqb}
+use lib.Dec.{eqb}
 use Rattle.wire.specs.Outcome.{ok, refuse}
 use Rattle.wire.specs.Number.{leValue, beValue, leBytes, beBytes}
 use Rattle.wire.specs.Stored.{store, stored, answerOf, leftOf, writtenOf}
@@ -19,7 +19,6 @@ use Rattle.wire.proofs.Stores.{Wrote, wrote, store-fits, length-stored, stored-
 use Rattle.temporal.specs.declared.kind.Kind.{Kind}
 use Rattle.temporal.specs.declared.kind.Kind.the-variants.{Timestamp, OldTime, OldDatetime, Newdate, Timestamp2, Datetime2, Time2}
 use Rattle.temporal.specs.declared.parts.Temporal.{Temporal}
-use Rattle.temporal.specs.declared.judge.Judged.{Judged}
 use Rattle.temporal.specs.declared.judge.Judged.the-variants.{In, Out}
 use Rattle.temporal.specs.Kinds.{wholeBytes, fractionOf, isBig, partsOf, faultOf, wholeOf, unitsOf}
 use Rattle.temporal.specs.Judgement.{judgement}

@@ -1,5 +1,5 @@
 -- The fraction of a second, once over its width w and its unit. Assumes nothing.
-use Prim.Native.Nat.{ℕ, zero, suc, _+_, _-_, _*_, _/_, _%_, _^_, _≤_, _<_}
+use Prim.Native.Nat.{ℕ, zero, suc, _+_, _*_, _/_, _%_, _^_, _≤_, _<_}
 use mathlib.Core.Path.{_≡_, refl, sym, ap, _∙_}
 use mathlib.Core.Logic.{dite}
 use native.Mathlib.Nat.{mul-div-cancel, mul-mod-left, div-add-mod', add-zero}

@@ -1,7 +1,7 @@
 -- The stored form of each column type: how many bytes, which parts their numbers say, which of these is out of range, and the numbers that parts are
 -- stored as. One table. Assumes nothing.
 use Prim.Native.Nat.{ℕ, _+_, _/_}
-use mathlib.Core.Bool.{Bool, true, false, cond}
+use mathlib.Core.Bool.{Bool, true, false}
 use Rattle.temporal.specs.declared.kind.Kind.{Kind}
 use Rattle.temporal.specs.declared.kind.Kind.the-variants.{Timestamp, OldTime, OldDatetime, Newdate, Timestamp2, Datetime2, Time2}
 use Rattle.temporal.specs.declared.parts.Stamp.{Stamp}
@@ -11,7 +11,7 @@ use Rattle.temporal.specs.declared.parts.Time.{Time}
 use Rattle.temporal.specs.declared.parts.Temporal.{Temporal}
 use Rattle.temporal.specs.declared.parts.Temporal.the-variants.{Since, On, At, Lasts}
 use Rattle.temporal.specs.Fraction.{fractionBytes, unitOf}
-use Rattle.temporal.specs.Ranges.{clockFault, dayFault}
+use Rattle.temporal.specs.Ranges.{clockFault}
 use Rattle.temporal.specs.Times.{timeBy, timeNumber, time2Of, time2Whole, time2Fraction}
 use Rattle.temporal.specs.Moments.{momentNumber, momentFault, datetime2Of, datetime2Fault, datetimeOf, dateOf, dateNumber, dateFault, stampOf, stampFault}
 

@@ -18,6 +18,7 @@ ghost use mathlib.Core.Path.{_≡_};
 ghost use mathlib.Core.Bool.{_&&_};
 ghost use Prim.Native.Nat.{_+_, _≤_};
 ghost use lib.Dec.{eqb};
+ghost use Rattle.temporal.specs.Ranges.{inDay, inClock};
 ghost use Rattle.temporal.specs.Kinds.{sort, stampIn, dateIn, momentIn, timeIn};
 ghost use Rattle.temporal.specs.Domains.{inUnits, stampDomain, dateDomain, momentDomain, timeDomain, domain};
 
@@ -57,7 +58,7 @@ fn holds_date(temporal: Temporal) -> bool
         return false;
     }
     let d = date_in(temporal);
-    day_fault(d.year as u64, d.month as u64, d.day as u64) == 0
+    in_day(d.year, d.month, d.day)
 }
 
 fn holds_moment(w: usize, temporal: Temporal) -> bool
@@ -68,24 +69,16 @@ fn holds_moment(w: usize, temporal: Temporal) -> bool
         return false;
     }
     let m = moment_in(temporal);
-    if day_fault(m.year as u64, m.month as u64, m.day as u64) != 0 {
+    if !in_day(m.year, m.month, m.day) {
         return false;
     }
-    if clock_fault(
-        23,
-        m.hour as u64,
-        m.minute as u64,
-        m.second as u64,
-        m.micros as u64,
-    )
-        != 0
-    {
+    let hour = m.hour as u16;
+    if !in_clock(23, hour, m.minute, m.second, m.micros) {
         return false;
     }
     in_units(w, m.micros)
 }
 
-// A negative time with all parts zero is in no domain.
 fn holds_time(w: usize, temporal: Temporal) -> bool
     requires { ⌜ w ≤ 3 ⌝ }
     ensures { λ r. ⌜ r ≡ eqb (sort temporal) 3 && timeDomain w (timeIn temporal) ⌝ }
@@ -94,11 +87,7 @@ fn holds_time(w: usize, temporal: Temporal) -> bool
         return false;
     }
     let t = time_in(temporal);
-    let h = t.hours as u64;
-    let m = t.minutes as u64;
-    let s = t.seconds as u64;
-    let u = t.micros as u64;
-    if clock_fault(838, h, m, s, u) != 0 {
+    if !in_clock(838, t.hours, t.minutes, t.seconds, t.micros) {
         return false;
     }
     if negative_zero(t) {
@@ -107,6 +96,38 @@ fn holds_time(w: usize, temporal: Temporal) -> bool
     in_units(w, t.micros)
 }
 
+// TIME has no bit for a sign.
+fn holds_old_time(temporal: Temporal) -> bool
+    ensures { λ r. ⌜ r ≡ domain Kind.OldTime temporal ⌝ }
+{
+    let t = time_in(temporal);
+    if t.negative {
+        return false;
+    }
+    holds_time(0, temporal)
+}
+
+fn in_day(y: u16, mo: u8, d: u8) -> bool
+    ensures { λ r. ⌜ r ≡ inDay y mo d ⌝ }
+{
+    let year = y as u64;
+    let month = mo as u64;
+    let day = d as u64;
+    day_fault(year, month, day) == 0
+}
+
+// Hours up to top.
+fn in_clock(top: u64, h: u16, m: u8, s: u8, u: u32) -> bool
+    ensures { λ r. ⌜ r ≡ inClock top h m s u ⌝ }
+{
+    let hours = h as u64;
+    let minutes = m as u64;
+    let seconds = s as u64;
+    let micros = u as u64;
+    clock_fault(top, hours, minutes, seconds, micros) == 0
+}
+
+// Whether a negative time has all parts zero: it would be read as one that is not negative.
 fn negative_zero(t: Time) -> bool
     ensures { λ r. ⌜ r ≡ t .negative && eqb (t .hours + t .minutes + t .seconds + t .micros) 0 ⌝ }
 {
@@ -121,16 +142,7 @@ fn negative_zero(t: Time) -> bool
     false
 }
 
-fn holds_old_time(temporal: Temporal) -> bool
-    ensures { λ r. ⌜ r ≡ domain Kind.OldTime temporal ⌝ }
-{
-    let t = time_in(temporal);
-    if t.negative {
-        return false;
-    }
-    holds_time(0, temporal)
-}
-
+// Whether the microseconds are whole units of a fraction of w bytes.
 fn in_units(w: usize, micros: u32) -> bool
     requires { ⌜ w ≤ 3 ⌝ }
     ensures { λ r. ⌜ r ≡ inUnits w micros ⌝ }

@@ -4,7 +4,7 @@ use crate::parts::Moment;
 use crate::parts::Temporal;
 use crate::parts::Time;
 ghost use mathlib.Core.Path.{_≡_};
-ghost use Prim.Native.Nat.{_≤_, _<_};
+ghost use Prim.Native.Nat.{_<_};
 ghost use Rattle.temporal.specs.Ranges.{clockFault, dayFault};
 ghost use Rattle.temporal.specs.Times.{timeBy};
 ghost use Rattle.temporal.specs.Moments.{momentBy, dateOf};

@@ -12,8 +12,8 @@ use crate::parts::Temporal;
 ghost use mathlib.Core.Path.{_≡_};
 ghost use Prim.Native.Nat.{_≤_, _<_, _^_};
 ghost use Rattle.temporal.specs.Times.{packedTime, timeBy};
-ghost use Rattle.temporal.specs.Moments.{packedDatetime, momentBy, stampOf};
-ghost use Rattle.temporal.specs.Judgement.{judgement, judgedTime, judgedStamp, judgedDatetime};
+ghost use Rattle.temporal.specs.Moments.{packedDatetime, stampOf};
+ghost use Rattle.temporal.specs.Judgement.{judgedTime, judgedStamp, judgedDatetime};
 
 pub(crate) const TIMEF_INT_OFS: u64 = 0x80_0000;
 
@@ -25,6 +25,16 @@ pub(crate) struct PackedTime {
     pub(crate) micros: u64,
 }
 
+pub(crate) fn my_packed_time_make(negative: bool, whole: u64, micros: u64) -> PackedTime
+    ensures { λ r. ⌜ r ≡ record { negative = negative; whole = whole; micros = micros } ⌝ }
+{
+    PackedTime {
+        negative,
+        whole,
+        micros,
+    }
+}
+
 // A fraction of a negative time counts up from the whole second below it.
 pub(crate) fn my_time_packed_from_binary(w: usize, intpart: u64, frac: u64) -> PackedTime
     requires { ⌜ (w ≤ 3) × (frac < 256 ^ w) ⌝ }
@@ -33,28 +43,16 @@ pub(crate) fn my_time_packed_from_binary(w: usize, intpart: u64, frac: u64) -> P
     if TIMEF_INT_OFS <= intpart {
         let whole = intpart - TIMEF_INT_OFS;
         let micros = frac * unit(w);
-        return PackedTime {
-            negative: false,
-            whole,
-            micros,
-        };
+        return my_packed_time_make(false, whole, micros);
     }
     if frac == 0 {
         let whole = TIMEF_INT_OFS - intpart;
-        return PackedTime {
-            negative: true,
-            whole,
-            micros: 0,
-        };
+        return my_packed_time_make(true, whole, 0);
     }
     let whole = TIMEF_INT_OFS - intpart - 1;
     let units = span(w) - frac;
     let micros = units * unit(w);
-    PackedTime {
-        negative: true,
-        whole,
-        micros,
-    }
+    my_packed_time_make(true, whole, micros)
 }
 
 // Hours are not split into days and hours, and not cut to 10 bits.
@@ -72,17 +70,9 @@ pub(crate) fn my_datetime_packed_from_binary(w: usize, intpart: u64, frac: u64) 
     let micros = frac * unit(w);
     if DATETIMEF_INT_OFS <= intpart {
         let whole = intpart - DATETIMEF_INT_OFS;
-        return PackedTime {
-            negative: false,
-            whole,
-            micros,
-        };
+        return my_packed_time_make(false, whole, micros);
     }
-    PackedTime {
-        negative: true,
-        whole: 0,
-        micros,
-    }
+    my_packed_time_make(true, 0, micros)
 }
 
 // One below zero is refused, where the Rust takes its absolute value.

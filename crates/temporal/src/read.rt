@@ -37,17 +37,17 @@ pub fn read_temporal(kind: Kind, s: &[u8], at: usize, place: usize) -> TemporalR
     ensures { λ r. ⌜ temporalOf r ≡ readTemporal kind place (now (s .entry)) at ⌝ }
 {
     let size = temporal_size(kind);
-    let room = wire::has_room(s.len(), at, size);
-    if room {
-        let whole = whole_at(kind, s, at);
-        let fraction = fraction_at(kind, s, at);
-        let next = at + size;
-        return match judge(kind, whole, fraction) {
-            Judged::In(temporal) => TemporalRead::Read { temporal, next },
-            Judged::Out(_) => TemporalRead::Refused(refuse(OUT_OF_RANGE, place)),
-        };
+    if !wire::has_room(s.len(), at, size) {
+        return TemporalRead::Refused(refuse(IMAGE_SHORT, place));
     }
-    TemporalRead::Refused(refuse(IMAGE_SHORT, place))
+    let whole = whole_at(kind, s, at);
+    let fraction = fraction_at(kind, s, at);
+    let next = at + size;
+    match judge(kind, whole, fraction) {
+        Judged::In(temporal) => TemporalRead::Read { temporal, next },
+        // Which part it is goes no further: the table has one number for all.
+        Judged::Out(_) => TemporalRead::Refused(refuse(OUT_OF_RANGE, place)),
+    }
 }
 
 // The number that the whole part of the bytes at `at` is.

@@ -22,9 +22,9 @@ use wire::refusal::NO_ROOM;
 use wire::refusal::NOT_TAKEN;
 use wire::refuse;
 ghost use mathlib.Core.Path.{_≡_};
-ghost use mathlib.Core.Bool.{Bool, true};
+ghost use mathlib.Core.Bool.{true};
 ghost use mathlib.Core.List.{_++_};
-ghost use Prim.Native.Nat.{_+_, _*_, _/_, _≤_, _<_, _^_};
+ghost use Prim.Native.Nat.{_+_, _*_, _/_, _≤_, _<_};
 ghost use Rattle.wire.specs.Number.{beBytes};
 ghost use Rattle.wire.specs.Stored.{store, answerOf, leftOf, writtenOf};
 ghost use Rattle.temporal.specs.Fraction.{unitOf};
@@ -45,18 +45,17 @@ pub fn write_temporal(
     ensures { λ r. ⌜ writtenOf r ≡ answerOf (writeTemporal kind place (now (buf .entry)) at temporal) ⌝ }
     ensures { λ _. ⌜ now (buf .exit) ≡ leftOf (now (buf .entry)) (writeTemporal kind place (now (buf .entry)) at temporal) ⌝ }
 {
-    let holds = in_domain(kind, temporal);
-    if holds {
-        let k = whole_bytes(kind);
-        let whole = whole_of(kind, temporal);
-        if is_big(kind) {
-            let w = fraction_size(kind);
-            let units = units_of(kind, temporal);
-            return write_two(buf, at, k, whole, w, units);
-        }
-        return wire::write_le(buf, at, k, whole);
+    if !in_domain(kind, temporal) {
+        return Written::Refused(refuse(NOT_TAKEN, place));
     }
-    Written::Refused(refuse(NOT_TAKEN, place))
+    let k = whole_bytes(kind);
+    let whole = whole_of(kind, temporal);
+    if is_big(kind) {
+        let w = fraction_size(kind);
+        let units = units_of(kind, temporal);
+        return write_two(buf, at, k, whole, w, units);
+    }
+    wire::write_le(buf, at, k, whole)
 }
 
 // Writes the k low bytes of a whole part and the w low bytes of a fraction behind them, all of them or none.
@@ -66,15 +65,14 @@ fn write_two(buf: &mut [u8], at: usize, k: usize, whole: u64, w: usize, units: u
     ensures { λ _. ⌜ now (buf .exit) ≡ leftOf (now (buf .entry)) (store (now (buf .entry)) at (beBytes k whole ++ beBytes w units)) ⌝ }
 {
     let size = k + w;
-    let room = wire::has_room(buf.len(), at, size);
-    if room {
-        wire::write_be(buf, at, k, whole);
-        let middle = at + k;
-        wire::write_be(buf, middle, w, units);
-        let next = middle + w;
-        return Written::Done { next };
+    if !wire::has_room(buf.len(), at, size) {
+        return Written::Refused(refuse(NO_ROOM, 0));
     }
-    Written::Refused(refuse(NO_ROOM, 0))
+    wire::write_be(buf, at, k, whole);
+    let middle = at + k;
+    wire::write_be(buf, middle, w, units);
+    let next = middle + w;
+    Written::Done { next }
 }
 
 // The number that the whole part is stored as.
@@ -150,7 +148,8 @@ fn time_number(radix: u64, t: Time) -> u64
     requires { ⌜ radix ≤ 100 ⌝ }
     ensures { λ r. ⌜ (r ≡ timeNumber radix t) × (r ≤ 1000000000) ⌝ }
 {
-    let minutes = append(t.hours as u64, radix, t.minutes);
+    let hours = t.hours as u64;
+    let minutes = append(hours, radix, t.minutes);
     append(minutes, radix, t.seconds)
 }
 
@@ -158,7 +157,8 @@ fn moment_number(radix: u64, hours: u64, days: u64, months: u64, m: Moment) -> u
     requires { ⌜ (radix ≤ 100) × (hours ≤ 100) × (days ≤ 100) × (months ≤ 100) ⌝ }
     ensures { λ r. ⌜ (r ≡ momentNumber radix hours days months m) × (r ≤ 1000000000000000) ⌝ }
 {
-    let to_months = append(m.year as u64, months, m.month);
+    let year = m.year as u64;
+    let to_months = append(year, months, m.month);
     let to_days = append(to_months, days, m.day);
     let to_hours = append(to_days, hours, m.hour);
     let to_minutes = append(to_hours, radix, m.minute);
@@ -168,11 +168,12 @@ fn moment_number(radix: u64, hours: u64, days: u64, months: u64, m: Moment) -> u
 fn date_number(d: Date) -> u64
     ensures { λ r. ⌜ r ≡ dateNumber d ⌝ }
 {
-    let months = append(d.year as u64, 16, d.month);
+    let year = d.year as u64;
+    let months = append(year, 16, d.month);
     append(months, 32, d.day)
 }
 
-// One more field behind a number.
+// One more field behind a number. No radix is above 100, so no number of fields is too large.
 fn append(n: u64, radix: u64, field: u8) -> u64
     requires { ⌜ (radix ≤ 100) × (n ≤ 100000000000000) ⌝ }
     ensures { λ r. ⌜ (r ≡ n * radix + field) × (r ≤ n * 100 + 255) ⌝ }

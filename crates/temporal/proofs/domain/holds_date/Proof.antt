@@ -1,59 +1,31 @@
-use native.Mathlib.Omega.{arith}
-use mathlib.Core.Path.{_≡_, refl, sym, ap, _∙_}
+-- `temporal::domain::holds_date` meets its contract. Assumes nothing.
 use Rattle.temporal.specs.Domains.{dateDomain}
-use Rattle.temporal.proofs.Ranges.{day-same}
 use borrow.Author.Tests.{eq-eqb, ne-eqb}
 use borrow.Author.Needs.{needs}
 use Rattle.temporal.proofs.domain.holds_date.Statement.{statement}
 use Rattle.temporal.proofs.domain.holds_date.Tie as tie
 use Rattle.temporal.proofs.domain.holds_date.Reads as reads
 use Rattle.temporal.proofs.domain.holds_date.Lts as lts
-use Rattle.temporal.proofs.judge.day_fault.Reads as day-fault-reads
+use Rattle.temporal.proofs.domain.in_day.Reads as in-day-reads
 use Rattle.temporal.proofs.sort.date_in.Reads as date-in-reads
 use Rattle.temporal.proofs.sort.sort_of.Reads as sort-of-reads
 
--- src/domain.rt:56:8
 sort-of-requires : tie.Need-sort-of-requires
 sort-of-requires c κs = search needs
 
--- src/domain.rt:57:9
 returns : tie.Need-returns
 returns c = rw (← c .before .sort-of .ensures, ne-eqb _ _ (c .if1 .taken))
 
--- src/domain.rt:59:9
 date-in-requires : tie.Need-date-in-requires
 date-in-requires c κs = search needs
 
--- src/domain.rt:60:15
-cast-day-fault : tie.Need-cast-day-fault
-cast-day-fault c = search needs
+in-day-requires : tie.Need-in-day-requires
+in-day-requires c κs = search needs
 
--- src/domain.rt:60:30
-cast-day-fault-2 : tie.Need-cast-day-fault-2
-cast-day-fault-2 c = search needs
-
--- src/domain.rt:60:46
-cast-day-fault-3 : tie.Need-cast-day-fault-3
-cast-day-fault-3 c = search needs
-
--- src/domain.rt:60:5
-day-fault-requires : tie.Need-day-fault-requires
-day-fault-requires c κs = search needs
-
--- src/domain.rt:53:1
 returns-2 : tie.Need-returns-2
 unfolding dateDomain
-returns-2 c = rw (← c .before .before .before .before .before .before .sort-of .ensures, eq-eqb _ _ (c .before .before .before .before .before .if1 .left), ← c .before .before .before .before .date-in .ensures, day-same, ← c .day-fault .ensures)
+returns-2 c = rw (← c .before .before .before .sort-of .ensures, eq-eqb _ _ (c .before .before .if1 .left), ← c .before .date-in .ensures) (c .in-day .ensures)
 
 pub holds-date-spec : {M : Type 1} → statement M
 holds-date-spec =
-    tie.close
-    (tie.spec
-    sort-of-requires
-    returns
-    date-in-requires
-    cast-day-fault
-    cast-day-fault-2
-    cast-day-fault-3
-    day-fault-requires
-    returns-2)
+    tie.close (tie.spec sort-of-requires returns date-in-requires in-day-requires returns-2)

@@ -1,85 +1,49 @@
-use native.Mathlib.Omega.{arith}
-use mathlib.Core.Path.{_≡_, refl, sym, ap, _∙_}
+-- `temporal::domain::holds_moment` meets its contract. Assumes nothing.
 use Rattle.temporal.specs.Domains.{momentDomain}
-use Rattle.temporal.proofs.Ranges.{day-same, clock-same}
-use borrow.Author.Tests.{eq-eqb, ne-eqb}
+use borrow.Author.Tests.{eq-eqb, ne-eqb, not-true, not-false}
 use borrow.Author.Needs.{needs}
 use Rattle.temporal.proofs.domain.holds_moment.Statement.{statement}
 use Rattle.temporal.proofs.domain.holds_moment.Tie as tie
 use Rattle.temporal.proofs.domain.holds_moment.Reads as reads
 use Rattle.temporal.proofs.domain.holds_moment.Lts as lts
+use Rattle.temporal.proofs.domain.in_clock.Reads as in-clock-reads
+use Rattle.temporal.proofs.domain.in_day.Reads as in-day-reads
 use Rattle.temporal.proofs.domain.in_units.Reads as in-units-reads
-use Rattle.temporal.proofs.judge.clock_fault.Reads as clock-fault-reads
-use Rattle.temporal.proofs.judge.day_fault.Reads as day-fault-reads
 use Rattle.temporal.proofs.sort.moment_in.Reads as moment-in-reads
 use Rattle.temporal.proofs.sort.sort_of.Reads as sort-of-reads
 
--- src/domain.rt:67:8
 sort-of-requires : tie.Need-sort-of-requires
 sort-of-requires c κs = search needs
 
--- src/domain.rt:68:9
 returns : tie.Need-returns
 returns c = rw (← c .before .sort-of .ensures, ne-eqb _ _ (c .if1 .taken))
 
--- src/domain.rt:70:9
 moment-in-requires : tie.Need-moment-in-requires
 moment-in-requires c κs = search needs
 
--- src/domain.rt:71:18
-cast-day-fault : tie.Need-cast-day-fault
-cast-day-fault c = search needs
+in-day-requires : tie.Need-in-day-requires
+in-day-requires c κs = search needs
 
--- src/domain.rt:71:33
-cast-day-fault-2 : tie.Need-cast-day-fault-2
-cast-day-fault-2 c = search needs
-
--- src/domain.rt:71:49
-cast-day-fault-3 : tie.Need-cast-day-fault-3
-cast-day-fault-3 c = search needs
-
--- src/domain.rt:71:8
-day-fault-requires : tie.Need-day-fault-requires
-day-fault-requires c κs = search needs
-
--- src/domain.rt:72:9
 returns-2 : tie.Need-returns-2
 unfolding momentDomain
-returns-2 c = rw (← c .before .before .before .before .before .before .before .sort-of .ensures, eq-eqb _ _ (c .before .before .before .before .before .before .if1 .left), ← c .before .before .before .before .before .moment-in .ensures, day-same, ← c .before .day-fault .ensures, ne-eqb _ _ (c .if2 .taken))
+returns-2 c = rw (← c .before .before .before .before .sort-of .ensures, eq-eqb _ _ (c .before .before .before .if1 .left), ← c .before .before .moment-in .ensures, ← c .before .in-day .ensures, not-true (c .before .in-day .result) (c .if2 .taken))
 
--- src/domain.rt:74:24
-cast-clock-fault : tie.Need-cast-clock-fault
-cast-clock-fault c = search needs
+cast-hour : tie.Need-cast-hour
+cast-hour c = search needs
 
--- src/domain.rt:74:39
-cast-clock-fault-2 : tie.Need-cast-clock-fault-2
-cast-clock-fault-2 c = search needs
+in-clock-requires : tie.Need-in-clock-requires
+in-clock-requires c κs = search needs
 
--- src/domain.rt:74:56
-cast-clock-fault-3 : tie.Need-cast-clock-fault-3
-cast-clock-fault-3 c = search needs
-
--- src/domain.rt:74:73
-cast-clock-fault-4 : tie.Need-cast-clock-fault-4
-cast-clock-fault-4 c = search needs
-
--- src/domain.rt:74:8
-clock-fault-requires : tie.Need-clock-fault-requires
-clock-fault-requires c κs = search needs
-
--- src/domain.rt:75:9
 returns-3 : tie.Need-returns-3
 unfolding momentDomain
-returns-3 c = rw (← c .before .before .before .before .before .before .before .before .before .before .before .before .before .sort-of .ensures, eq-eqb _ _ (c .before .before .before .before .before .before .before .before .before .before .before .before .if1 .left), ← c .before .before .before .before .before .before .before .before .before .before .before .moment-in .ensures, day-same, ← c .before .before .before .before .before .before .before .day-fault .ensures, eq-eqb _ _ (c .before .before .before .before .before .before .if2 .left), clock-same, ← c .before .clock-fault .ensures, ne-eqb _ _ (c .if3 .taken))
+returns-3 c = rw (← c .before .before .before .before .before .before .before .sort-of .ensures, eq-eqb _ _ (c .before .before .before .before .before .before .if1 .left), ← c .before .before .before .before .before .moment-in .ensures, ← c .before .before .before .before .in-day .ensures, not-false (c .before .before .before .before .in-day .result) (c .before .before .before .if2 .left), ← c .before .in-clock .ensures, not-true (c .before .in-clock .result) (c .if3 .taken))
 
--- src/domain.rt:77:5
 in-units-requires : tie.Need-in-units-requires
 in-units-requires c κs = search needs
 
--- src/domain.rt:63:1
 returns-4 : tie.Need-returns-4
 unfolding momentDomain
-returns-4 c = rw (← c .before .before .before .before .before .before .before .before .before .before .before .before .before .before .sort-of .ensures, eq-eqb _ _ (c .before .before .before .before .before .before .before .before .before .before .before .before .before .if1 .left), ← c .before .before .before .before .before .before .before .before .before .before .before .before .moment-in .ensures, day-same, ← c .before .before .before .before .before .before .before .before .day-fault .ensures, eq-eqb _ _ (c .before .before .before .before .before .before .before .if2 .left), clock-same, ← c .before .before .clock-fault .ensures, eq-eqb _ _ (c .before .if3 .left)) (c .in-units .ensures)
+returns-4 c = rw (← c .before .before .before .before .before .before .before .before .sort-of .ensures, eq-eqb _ _ (c .before .before .before .before .before .before .before .if1 .left), ← c .before .before .before .before .before .before .moment-in .ensures, ← c .before .before .before .before .before .in-day .ensures, not-false (c .before .before .before .before .before .in-day .result) (c .before .before .before .before .if2 .left), ← c .before .before .in-clock .ensures, not-false (c .before .before .in-clock .result) (c .before .if3 .left)) (c .in-units .ensures)
 
 pub holds-moment-spec : {M : Type 1} → statement M
 holds-moment-spec =
@@ -88,16 +52,10 @@ holds-moment-spec =
     sort-of-requires
     returns
     moment-in-requires
-    cast-day-fault
-    cast-day-fault-2
-    cast-day-fault-3
-    day-fault-requires
+    in-day-requires
     returns-2
-    cast-clock-fault
-    cast-clock-fault-2
-    cast-clock-fault-3
-    cast-clock-fault-4
-    clock-fault-requires
+    cast-hour
+    in-clock-requires
     returns-3
     in-units-requires
     returns-4)

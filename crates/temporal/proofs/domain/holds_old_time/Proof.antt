@@ -1,13 +1,10 @@
-use mathlib.Core.Bool.{Bool, not, _&&_}
+-- `temporal::domain::holds_old_time` meets its contract. A negative time fails one test of the conjunction, whichever it is. Assumes nothing.
+use mathlib.Core.Path.{_≡_, sym, ap, _∙_}
+use mathlib.Core.Bool.{Bool, false, not, _&&_}
 use lib.Dec.{eqb}
-use Rattle.temporal.specs.Kinds.{sort}
-use Rattle.temporal.specs.Domains.{timeDomain}
-use native.Mathlib.Omega.{arith}
-use mathlib.Core.Path.{_≡_, refl, sym, ap, _∙_}
-use mathlib.Core.Bool.{false}
 use Rattle.temporal.specs.declared.parts.Time.{Time}
-use Rattle.temporal.specs.Kinds.{timeIn}
-use Rattle.temporal.specs.Domains.{domain}
+use Rattle.temporal.specs.Kinds.{sort, timeIn}
+use Rattle.temporal.specs.Domains.{timeDomain, domain}
 use Rattle.temporal.proofs.Ranges.{and-no}
 use borrow.Author.Needs.{needs}
 use Rattle.temporal.proofs.domain.holds_old_time.Statement.{statement}
@@ -17,20 +14,16 @@ use Rattle.temporal.proofs.domain.holds_old_time.Lts as lts
 use Rattle.temporal.proofs.domain.holds_time.Reads as holds-time-reads
 use Rattle.temporal.proofs.sort.time_in.Reads as time-in-reads
 
--- src/domain.rt:108:9
 time-in-requires : tie.Need-time-in-requires
 time-in-requires c κs = search needs
 
--- src/domain.rt:110:9
 returns : tie.Need-returns
 unfolding domain
 returns c = rw (← c .before .time-in .ensures, c .if1 .taken) (sym (and-no (eqb (sort (c .before .before .args .temporal)) 3)))
 
--- src/domain.rt:112:5
 holds-time-requires : tie.Need-holds-time-requires
 holds-time-requires c κs = search needs
 
--- src/domain.rt:105:1
 returns-2 : tie.Need-returns-2
 unfolding domain
 returns-2 c = let t = c .before .before .before .args .temporal in

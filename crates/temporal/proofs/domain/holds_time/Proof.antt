@@ -1,74 +1,48 @@
-use Rattle.temporal.specs.Domains.{inUnits}
-use native.Mathlib.Omega.{arith}
-use mathlib.Core.Path.{_≡_, refl, sym, ap, _∙_}
-use Rattle.temporal.specs.Domains.{timeDomain}
-use Rattle.temporal.proofs.Ranges.{clock-same, and-no, and-yes}
-use borrow.Author.Tests.{eq-eqb, ne-eqb}
+-- `temporal::domain::holds_time` meets its contract. Assumes nothing.
+use mathlib.Core.Path.{sym, _∙_}
+use Rattle.temporal.specs.Domains.{timeDomain, inUnits}
+use Rattle.temporal.proofs.Ranges.{and-no, and-yes}
+use borrow.Author.Tests.{eq-eqb, ne-eqb, not-true, not-false}
 use borrow.Author.Needs.{needs}
 use Rattle.temporal.proofs.domain.holds_time.Statement.{statement}
 use Rattle.temporal.proofs.domain.holds_time.Tie as tie
 use Rattle.temporal.proofs.domain.holds_time.Reads as reads
 use Rattle.temporal.proofs.domain.holds_time.Lts as lts
+use Rattle.temporal.proofs.domain.in_clock.Reads as in-clock-reads
 use Rattle.temporal.proofs.domain.in_units.Reads as in-units-reads
 use Rattle.temporal.proofs.domain.negative_zero.Reads as negative-zero-reads
-use Rattle.temporal.proofs.judge.clock_fault.Reads as clock-fault-reads
 use Rattle.temporal.proofs.sort.sort_of.Reads as sort-of-reads
 use Rattle.temporal.proofs.sort.time_in.Reads as time-in-reads
 
--- src/domain.rt:85:8
 sort-of-requires : tie.Need-sort-of-requires
 sort-of-requires c κs = search needs
 
--- src/domain.rt:86:9
 returns : tie.Need-returns
 returns c = rw (← c .before .sort-of .ensures, ne-eqb _ _ (c .if1 .taken))
 
--- src/domain.rt:88:9
 time-in-requires : tie.Need-time-in-requires
 time-in-requires c κs = search needs
 
--- src/domain.rt:89:13
-cast-h : tie.Need-cast-h
-cast-h c = search needs
+in-clock-requires : tie.Need-in-clock-requires
+in-clock-requires c κs = search needs
 
--- src/domain.rt:90:13
-cast-m : tie.Need-cast-m
-cast-m c = search needs
-
--- src/domain.rt:91:13
-cast-s : tie.Need-cast-s
-cast-s c = search needs
-
--- src/domain.rt:92:13
-cast-u : tie.Need-cast-u
-cast-u c = search needs
-
--- src/domain.rt:93:8
-clock-fault-requires : tie.Need-clock-fault-requires
-clock-fault-requires c κs = search needs
-
--- src/domain.rt:94:9
 returns-2 : tie.Need-returns-2
 unfolding timeDomain
-returns-2 c = rw (← c .before .before .before .before .before .before .before .before .sort-of .ensures, eq-eqb _ _ (c .before .before .before .before .before .before .before .if1 .left), ← c .before .before .before .before .before .before .time-in .ensures, clock-same, ← c .before .clock-fault .ensures, ne-eqb _ _ (c .if2 .taken))
+returns-2 c = rw (← c .before .before .before .before .sort-of .ensures, eq-eqb _ _ (c .before .before .before .if1 .left), ← c .before .before .time-in .ensures, ← c .before .in-clock .ensures, not-true (c .before .in-clock .result) (c .if2 .taken))
 
--- src/domain.rt:96:8
 negative-zero-requires : tie.Need-negative-zero-requires
 negative-zero-requires c κs = search needs
 
--- src/domain.rt:97:9
 returns-3 : tie.Need-returns-3
 unfolding timeDomain
-returns-3 c = rw (← c .before .before .before .before .before .before .before .before .before .before .sort-of .ensures, eq-eqb _ _ (c .before .before .before .before .before .before .before .before .before .if1 .left), ← c .before .before .before .before .before .before .before .before .time-in .ensures, clock-same, ← c .before .before .before .clock-fault .ensures, eq-eqb _ _ (c .before .before .if2 .left), ← c .before .negative-zero .ensures, c .if3 .taken) (sym (and-no (inUnits (c .before .before .before .before .before .before .before .before .before .before .before .args .w) (c .before .before .before .before .before .before .before .before .time-in .result .micros))))
+returns-3 c = rw (← c .before .before .before .before .before .before .sort-of .ensures, eq-eqb _ _ (c .before .before .before .before .before .if1 .left), ← c .before .before .before .before .time-in .ensures, ← c .before .before .before .in-clock .ensures, not-false (c .before .before .before .in-clock .result) (c .before .before .if2 .left), ← c .before .negative-zero .ensures, c .if3 .taken) (sym (and-no (inUnits (c .before .before .before .before .before .before .before .args .w) (c .before .before .before .before .time-in .result .micros))))
 
--- src/domain.rt:99:5
 in-units-requires : tie.Need-in-units-requires
 in-units-requires c κs = search needs
 
--- src/domain.rt:81:1
 returns-4 : tie.Need-returns-4
 unfolding timeDomain
-returns-4 c = rw (← c .before .before .before .before .before .before .before .before .before .before .before .sort-of .ensures, eq-eqb _ _ (c .before .before .before .before .before .before .before .before .before .before .if1 .left), ← c .before .before .before .before .before .before .before .before .before .time-in .ensures, clock-same, ← c .before .before .before .before .clock-fault .ensures, eq-eqb _ _ (c .before .before .before .if2 .left), ← c .before .before .negative-zero .ensures, c .before .if3 .left) (c .in-units .ensures ∙ sym (and-yes (inUnits (c .before .before .before .before .before .before .before .before .before .before .before .before .args .w) (c .before .before .before .before .before .before .before .before .before .time-in .result .micros))))
+returns-4 c = rw (← c .before .before .before .before .before .before .before .sort-of .ensures, eq-eqb _ _ (c .before .before .before .before .before .before .if1 .left), ← c .before .before .before .before .before .time-in .ensures, ← c .before .before .before .before .in-clock .ensures, not-false (c .before .before .before .before .in-clock .result) (c .before .before .before .if2 .left), ← c .before .before .negative-zero .ensures, c .before .if3 .left) (c .in-units .ensures ∙ sym (and-yes (inUnits (c .before .before .before .before .before .before .before .before .args .w) (c .before .before .before .before .before .time-in .result .micros))))
 
 pub holds-time-spec : {M : Type 1} → statement M
 holds-time-spec =
@@ -77,11 +51,7 @@ holds-time-spec =
     sort-of-requires
     returns
     time-in-requires
-    cast-h
-    cast-m
-    cast-s
-    cast-u
-    clock-fault-requires
+    in-clock-requires
     returns-2
     negative-zero-requires
     returns-3

@@ -1,5 +1,4 @@
-use native.Mathlib.Omega.{arith}
-use mathlib.Core.Path.{_≡_, refl, sym, ap, _∙_}
+-- `temporal::domain::in_domain` meets its contract. Assumes nothing.
 use Rattle.temporal.specs.Domains.{domain}
 use borrow.Author.Needs.{needs}
 use Rattle.temporal.proofs.domain.in_domain.Statement.{statement}
@@ -13,104 +12,80 @@ use Rattle.temporal.proofs.domain.holds_stamp.Reads as holds-stamp-read
 use Rattle.temporal.proofs.domain.holds_time.Reads as holds-time-reads
 use Rattle.temporal.proofs.fraction.fraction_bytes.Reads as fraction-bytes-reads
 
--- src/domain.rt:29:28
 enum-told : tie.Need-enum-told
 enum-told c = search needs
 
--- src/domain.rt:29:28
 holds-stamp-requires : tie.Need-holds-stamp-requires
 holds-stamp-requires c κs = search needs
 
--- src/domain.rt:30:26
 enum-told-2 : tie.Need-enum-told-2
 enum-told-2 c = search needs
 
--- src/domain.rt:30:26
 holds-old-time-requires : tie.Need-holds-old-time-requires
 holds-old-time-requires c κs = search needs
 
--- src/domain.rt:31:30
 enum-told-3 : tie.Need-enum-told-3
 enum-told-3 c = search needs
 
--- src/domain.rt:31:30
 holds-moment-requires : tie.Need-holds-moment-requires
 holds-moment-requires c κs = search needs
 
--- src/domain.rt:32:26
 enum-told-4 : tie.Need-enum-told-4
 enum-told-4 c = search needs
 
--- src/domain.rt:32:26
 holds-date-requires : tie.Need-holds-date-requires
 holds-date-requires c κs = search needs
 
--- src/domain.rt:33:28
 enum-known-kind : tie.Need-enum-known-kind
 enum-known-kind c = search needs
 
--- src/domain.rt:33:48
 fraction-bytes-requires : tie.Need-fraction-bytes-requires
 fraction-bytes-requires c κs = search needs
 
--- src/domain.rt:33:36
 holds-stamp-requires-2 : tie.Need-holds-stamp-requires-2
 holds-stamp-requires-2 c κs = search needs
 
--- src/domain.rt:34:27
 enum-known-kind-2 : tie.Need-enum-known-kind-2
 enum-known-kind-2 c = search needs
 
--- src/domain.rt:34:48
 fraction-bytes-requires-2 : tie.Need-fraction-bytes-requires-2
 fraction-bytes-requires-2 c κs = search needs
 
--- src/domain.rt:34:35
 holds-moment-requires-2 : tie.Need-holds-moment-requires-2
 holds-moment-requires-2 c κs = search needs
 
--- src/domain.rt:35:23
 enum-known-kind-3 : tie.Need-enum-known-kind-3
 enum-known-kind-3 c = search needs
 
--- src/domain.rt:35:42
 fraction-bytes-requires-3 : tie.Need-fraction-bytes-requires-3
 fraction-bytes-requires-3 c κs = search needs
 
--- src/domain.rt:35:31
 holds-time-requires : tie.Need-holds-time-requires
 holds-time-requires c κs = search needs
 
--- src/domain.rt:25:1
 returns : tie.Need-returns
 unfolding domain
 returns c = rw (c .before .enum-told .given .1) (c .holds-stamp .ensures)
 
--- src/domain.rt:25:1
 returns-2 : tie.Need-returns-2
 returns-2 c = rw (c .before .enum-told2 .given .1) (c .holds-old-time .ensures)
 
--- src/domain.rt:25:1
 returns-3 : tie.Need-returns-3
 unfolding domain
 returns-3 c = rw (c .before .enum-told3 .given .1) (c .holds-moment .ensures)
 
--- src/domain.rt:25:1
 returns-4 : tie.Need-returns-4
 unfolding domain
 returns-4 c = rw (c .before .enum-told4 .given .1) (c .holds-date .ensures)
 
--- src/domain.rt:25:1
 returns-5 : tie.Need-returns-5
 unfolding domain
 returns-5 c = rw (c .before .before .before .kind .given .1, ← c .before .fraction-bytes .ensures .0) (c .holds-stamp2 .ensures)
 
--- src/domain.rt:25:1
 returns-6 : tie.Need-returns-6
 unfolding domain
 returns-6 c = rw (c .before .before .before .kind2 .given .1, ← c .before .fraction-bytes2 .ensures .0) (c .holds-moment2 .ensures)
 
--- src/domain.rt:25:1
 returns-7 : tie.Need-returns-7
 unfolding domain
 returns-7 c = rw (c .before .before .before .kind3 .given .1, ← c .before .fraction-bytes3 .ensures .0) (c .holds-time .ensures)

@@ -1,5 +1,4 @@
-use native.Mathlib.Omega.{arith}
-use mathlib.Core.Path.{_≡_, refl, sym, ap, _∙_}
+-- `temporal::fraction::fraction_bytes` meets its contract. Assumes nothing.
 use Rattle.temporal.specs.Fraction.{fractionBytes}
 use Rattle.wire.proofs.Rules.{tests}
 use Rattle.temporal.proofs.fraction.fraction_bytes.Statement.{statement}
@@ -7,22 +6,18 @@ use Rattle.temporal.proofs.fraction.fraction_bytes.Tie as tie
 use Rattle.temporal.proofs.fraction.fraction_bytes.Reads as reads
 use Rattle.temporal.proofs.fraction.fraction_bytes.Lts as lts
 
--- src/fraction.rt:11:9
 returns : tie.Need-returns
 unfolding fractionBytes
 returns c = search tests
 
--- src/fraction.rt:14:9
 returns-2 : tie.Need-returns-2
 unfolding fractionBytes
 returns-2 c = search tests
 
--- src/fraction.rt:17:9
 returns-3 : tie.Need-returns-3
 unfolding fractionBytes
 returns-3 c = search tests
 
--- src/fraction.rt:7:1
 returns-4 : tie.Need-returns-4
 unfolding fractionBytes
 returns-4 c = search tests

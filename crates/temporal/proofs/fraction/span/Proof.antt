@@ -1,23 +1,20 @@
+-- `temporal::fraction::span` meets its contract. Assumes nothing.
 use native.Mathlib.Omega.{arith}
-use mathlib.Core.Path.{_≡_, refl, sym, ap, _∙_}
+use mathlib.Core.Path.{_≡_}
 use Rattle.temporal.proofs.fraction.span.Statement.{statement}
 use Rattle.temporal.proofs.fraction.span.Tie as tie
 use Rattle.temporal.proofs.fraction.span.Reads as reads
 use Rattle.temporal.proofs.fraction.span.Lts as lts
 
--- src/fraction.rt:45:9
 returns : tie.Need-returns
 returns c = let e : c .before .args .w ≡ 0 = omega arith in rw e
 
--- src/fraction.rt:48:9
 returns-2 : tie.Need-returns-2
 returns-2 c = let e : c .before .before .args .w ≡ 1 = omega arith in rw e
 
--- src/fraction.rt:51:9
 returns-3 : tie.Need-returns-3
 returns-3 c = let e : c .before .before .before .args .w ≡ 2 = omega arith in rw e
 
--- src/fraction.rt:40:1
 returns-4 : tie.Need-returns-4
 returns-4 c = let e : c .before .before .before .args .w ≡ 3 = omega arith in rw e
 

@@ -1,5 +1,4 @@
-use native.Mathlib.Omega.{arith}
-use mathlib.Core.Path.{_≡_, refl, sym, ap, _∙_}
+-- `temporal::judge::clock_fault` meets its contract. Assumes nothing.
 use Rattle.temporal.specs.Ranges.{clockFault}
 use Rattle.wire.proofs.Rules.{tests}
 use Rattle.temporal.proofs.judge.clock_fault.Statement.{statement}
@@ -7,27 +6,22 @@ use Rattle.temporal.proofs.judge.clock_fault.Tie as tie
 use Rattle.temporal.proofs.judge.clock_fault.Reads as reads
 use Rattle.temporal.proofs.judge.clock_fault.Lts as lts
 
--- src/judge.rt:25:9
 returns : tie.Need-returns
 unfolding clockFault
 returns c = search tests
 
--- src/judge.rt:28:9
 returns-2 : tie.Need-returns-2
 unfolding clockFault
 returns-2 c = search tests
 
--- src/judge.rt:31:9
 returns-3 : tie.Need-returns-3
 unfolding clockFault
 returns-3 c = search tests
 
--- src/judge.rt:34:9
 returns-4 : tie.Need-returns-4
 unfolding clockFault
 returns-4 c = search tests
 
--- src/judge.rt:21:1
 returns-5 : tie.Need-returns-5
 unfolding clockFault
 returns-5 c = search tests

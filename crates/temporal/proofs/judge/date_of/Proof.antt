@@ -1,5 +1,6 @@
+-- `temporal::judge::date_of` meets its contract. Assumes nothing.
 use native.Mathlib.Omega.{arith}
-use mathlib.Core.Path.{_≡_, refl, sym, ap, _∙_}
+use mathlib.Core.Path.{sym, _∙_}
 use Rattle.temporal.specs.Moments.{dateOf}
 use Rattle.temporal.specs.Judgement.{judgedDate}
 use Rattle.temporal.proofs.Ranges.{day-clear}
@@ -11,28 +12,22 @@ use Rattle.temporal.proofs.judge.date_of.Reads as reads
 use Rattle.temporal.proofs.judge.date_of.Lts as lts
 use Rattle.temporal.proofs.judge.day_fault.Reads as day-fault-reads
 
--- src/judge.rt:137:9
 day-fault-requires : tie.Need-day-fault-requires
 day-fault-requires c κs = search needs
 
--- src/judge.rt:139:9
 returns : tie.Need-returns
 unfolding judgedDate dateOf
 returns c = rw (← c .before .day-fault .ensures, ne-eqb _ _ (c .if1 .taken))
 
--- src/judge.rt:141:16
 cast-year : tie.Need-cast-year
 cast-year c = let k = day-clear _ _ _ 0 (sym (c .before .day-fault .ensures) ∙ c .if1 .left) .0 in omega arith
 
--- src/judge.rt:142:17
 cast-month : tie.Need-cast-month
 cast-month c = search needs
 
--- src/judge.rt:143:15
 cast-day : tie.Need-cast-day
 cast-day c = search needs
 
--- src/judge.rt:130:1
 returns-2 : tie.Need-returns-2
 unfolding judgedDate dateOf
 returns-2 c = rw (← c .before .day-fault .ensures, eq-eqb _ _ (c .if1 .left))

@@ -1,5 +1,4 @@
-use native.Mathlib.Omega.{arith}
-use mathlib.Core.Path.{_≡_, refl, sym, ap, _∙_}
+-- `temporal::judge::moment_by` meets its contract. Assumes nothing.
 use Rattle.temporal.specs.Moments.{momentBy}
 use borrow.Author.Needs.{needs}
 use Rattle.temporal.proofs.judge.moment_by.Statement.{statement}
@@ -8,51 +7,39 @@ use Rattle.temporal.proofs.judge.moment_by.Reads as reads
 use Rattle.temporal.proofs.judge.moment_by.Lts as lts
 use Rattle.temporal.proofs.judge.moment_of.Reads as moment-of-reads
 
--- src/judge.rt:84:22
 div-to-minutes : tie.Need-div-to-minutes
 div-to-minutes c = search needs
 
--- src/judge.rt:85:20
 div-to-hours : tie.Need-div-to-hours
 div-to-hours c = search needs
 
--- src/judge.rt:86:19
 div-to-days : tie.Need-div-to-days
 div-to-days c = search needs
 
--- src/judge.rt:87:21
 div-to-months : tie.Need-div-to-months
 div-to-months c = search needs
 
--- src/judge.rt:89:9
 div-moment-of : tie.Need-div-moment-of
 div-moment-of c = search needs
 
--- src/judge.rt:90:9
 rem-moment-of : tie.Need-rem-moment-of
 rem-moment-of c = search needs
 
--- src/judge.rt:91:9
 rem-moment-of-2 : tie.Need-rem-moment-of-2
 rem-moment-of-2 c = search needs
 
--- src/judge.rt:92:9
 rem-moment-of-3 : tie.Need-rem-moment-of-3
 rem-moment-of-3 c = search needs
 
--- src/judge.rt:93:9
 rem-moment-of-4 : tie.Need-rem-moment-of-4
 rem-moment-of-4 c = search needs
 
--- src/judge.rt:94:9
 rem-moment-of-5 : tie.Need-rem-moment-of-5
 rem-moment-of-5 c = search needs
 
--- src/judge.rt:88:5
 moment-of-requires : tie.Need-moment-of-requires
 moment-of-requires c κs = search needs
 
--- src/judge.rt:80:1
 returns : tie.Need-returns
 unfolding momentBy
 returns c = c .moment-of .ensures

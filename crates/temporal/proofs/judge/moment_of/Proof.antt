@@ -1,5 +1,6 @@
+-- `temporal::judge::moment_of` meets its contract. A date's own part is out of range before the clock's. Assumes nothing.
 use native.Mathlib.Omega.{arith}
-use mathlib.Core.Path.{_≡_, refl, sym, ap, _∙_}
+use mathlib.Core.Path.{_≡_, sym, _∙_}
 use Rattle.temporal.specs.Judgement.{judgedMoment}
 use Rattle.temporal.proofs.Ranges.{clock-clear, day-clear, day-none, day-first}
 use borrow.Author.Tests.{eq-eqb, ne-eqb}
@@ -12,56 +13,44 @@ use Rattle.temporal.proofs.judge.moment_of.Lts as lts
 use Rattle.temporal.proofs.judge.clock_fault.Reads as clock-fault-reads
 use Rattle.temporal.proofs.judge.day_fault.Reads as day-fault-reads
 
--- src/judge.rt:103:9
 day-fault-requires : tie.Need-day-fault-requires
 day-fault-requires c κs = search needs
 
--- src/judge.rt:105:9
 returns : tie.Need-returns
 unfolding judgedMoment
 returns c = let a = c .before .before .args in
     let g : dayFault (a .y) (a .mo) (a .d) 0 ≡ 0 → ⊥ = λ z. c .if1 .taken (c .before .day-fault .ensures ∙ z) in
     rw (day-first (a .y) (a .mo) (a .d) (clockFault 23 (a .h) (a .mi) (a .s) (a .u)) g, ← c .before .day-fault .ensures, ne-eqb _ _ (c .if1 .taken))
 
--- src/judge.rt:107:9
 clock-fault-requires : tie.Need-clock-fault-requires
 clock-fault-requires c κs = search needs
 
--- src/judge.rt:109:9
 returns-2 : tie.Need-returns-2
 unfolding judgedMoment
 returns-2 c = let d = day-clear (c .before .before .before .before .args .y) (c .before .before .before .before .args .mo) (c .before .before .before .before .args .d) 0 (sym (c .before .before .before .day-fault .ensures) ∙ c .before .before .if1 .left) .0 in
     rw (day-none (clockFault 23 (c .before .before .before .before .args .h) (c .before .before .before .before .args .mi) (c .before .before .before .before .args .s) (c .before .before .before .before .args .u)) d, ← c .before .clock-fault .ensures, ne-eqb _ _ (c .if2 .taken))
 
--- src/judge.rt:111:16
 cast-year : tie.Need-cast-year
 cast-year c = let k = day-clear _ _ _ 0 (sym (c .before .before .before .day-fault .ensures) ∙ c .before .before .if1 .left) .0 in omega arith
 
--- src/judge.rt:112:17
 cast-month : tie.Need-cast-month
 cast-month c = let k = day-clear _ _ _ 0 (sym (c .before .before .before .day-fault .ensures) ∙ c .before .before .if1 .left) .0 in omega arith
 
--- src/judge.rt:113:15
 cast-day : tie.Need-cast-day
 cast-day c = let k = day-clear _ _ _ 0 (sym (c .before .before .before .day-fault .ensures) ∙ c .before .before .if1 .left) .0 in omega arith
 
--- src/judge.rt:114:16
 cast-hour : tie.Need-cast-hour
 cast-hour c = let k = clock-clear _ _ _ _ _ (sym (c .before .clock-fault .ensures) ∙ c .if2 .left) in omega arith
 
--- src/judge.rt:115:18
 cast-minute : tie.Need-cast-minute
 cast-minute c = let k = clock-clear _ _ _ _ _ (sym (c .before .clock-fault .ensures) ∙ c .if2 .left) in omega arith
 
--- src/judge.rt:116:18
 cast-second : tie.Need-cast-second
 cast-second c = let k = clock-clear _ _ _ _ _ (sym (c .before .clock-fault .ensures) ∙ c .if2 .left) in omega arith
 
--- src/judge.rt:117:18
 cast-micros : tie.Need-cast-micros
 cast-micros c = let k = clock-clear _ _ _ _ _ (sym (c .before .clock-fault .ensures) ∙ c .if2 .left) in omega arith
 
--- src/judge.rt:100:1
 returns-3 : tie.Need-returns-3
 unfolding judgedMoment
 returns-3 c = let d = day-clear (c .before .before .before .before .args .y) (c .before .before .before .before .args .mo) (c .before .before .before .before .args .d) 0 (sym (c .before .before .before .day-fault .ensures) ∙ c .before .before .if1 .left) .0 in

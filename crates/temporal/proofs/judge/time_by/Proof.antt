@@ -1,5 +1,6 @@
+-- `temporal::judge::time_by` meets its contract. Assumes nothing.
 use native.Mathlib.Omega.{arith}
-use mathlib.Core.Path.{_≡_, refl, sym, ap, _∙_}
+use mathlib.Core.Path.{sym, _∙_}
 use Rattle.temporal.specs.Times.{timeBy}
 use Rattle.temporal.specs.Judgement.{judgedTime}
 use Rattle.temporal.proofs.Ranges.{clock-clear}
@@ -11,52 +12,40 @@ use Rattle.temporal.proofs.judge.time_by.Reads as reads
 use Rattle.temporal.proofs.judge.time_by.Lts as lts
 use Rattle.temporal.proofs.judge.clock_fault.Reads as clock-fault-reads
 
--- src/judge.rt:59:13
 div-h : tie.Need-div-h
 div-h c = search needs
 
--- src/judge.rt:59:13
 div-h-2 : tie.Need-div-h-2
 div-h-2 c = search needs
 
--- src/judge.rt:60:13
 div-m : tie.Need-div-m
 div-m c = search needs
 
--- src/judge.rt:60:13
 rem-m : tie.Need-rem-m
 rem-m c = search needs
 
--- src/judge.rt:61:13
 rem-s : tie.Need-rem-s
 rem-s c = search needs
 
--- src/judge.rt:62:9
 clock-fault-requires : tie.Need-clock-fault-requires
 clock-fault-requires c κs = search needs
 
--- src/judge.rt:64:9
 returns : tie.Need-returns
 unfolding judgedTime timeBy
 returns c = rw (← c .before .clock-fault .ensures, ne-eqb _ _ (c .if1 .taken))
 
--- src/judge.rt:66:17
 cast-hours : tie.Need-cast-hours
 cast-hours c = let k = clock-clear _ _ _ _ _ (sym (c .before .clock-fault .ensures) ∙ c .if1 .left) in omega arith
 
--- src/judge.rt:67:19
 cast-minutes : tie.Need-cast-minutes
 cast-minutes c = let k = clock-clear _ _ _ _ _ (sym (c .before .clock-fault .ensures) ∙ c .if1 .left) in omega arith
 
--- src/judge.rt:68:19
 cast-seconds : tie.Need-cast-seconds
 cast-seconds c = let k = clock-clear _ _ _ _ _ (sym (c .before .clock-fault .ensures) ∙ c .if1 .left) in omega arith
 
--- src/judge.rt:69:18
 cast-micros : tie.Need-cast-micros
 cast-micros c = let k = clock-clear _ _ _ _ _ (sym (c .before .clock-fault .ensures) ∙ c .if1 .left) in omega arith
 
--- src/judge.rt:55:1
 returns-2 : tie.Need-returns-2
 unfolding judgedTime timeBy
 returns-2 c = rw (← c .before .clock-fault .ensures, eq-eqb _ _ (c .if1 .left))

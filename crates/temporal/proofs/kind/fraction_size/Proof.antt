@@ -1,5 +1,6 @@
+-- `temporal::kind::fraction_size` meets its contract. Assumes nothing.
 use native.Mathlib.Omega.{arith}
-use mathlib.Core.Path.{_≡_, refl, sym, ap, _∙_}
+use mathlib.Core.Path.{refl}
 use Rattle.temporal.specs.Kinds.{fractionOf}
 use borrow.Author.Needs.{needs}
 use Rattle.temporal.proofs.kind.fraction_size.Statement.{statement}
@@ -8,77 +9,60 @@ use Rattle.temporal.proofs.kind.fraction_size.Reads as reads
 use Rattle.temporal.proofs.kind.fraction_size.Lts as lts
 use Rattle.temporal.proofs.fraction.fraction_bytes.Reads as fraction-bytes-reads
 
--- src/kind.rt:54:28
 enum-told : tie.Need-enum-told
 enum-told c = search needs
 
--- src/kind.rt:55:26
 enum-told-2 : tie.Need-enum-told-2
 enum-told-2 c = search needs
 
--- src/kind.rt:56:30
 enum-told-3 : tie.Need-enum-told-3
 enum-told-3 c = search needs
 
--- src/kind.rt:57:26
 enum-told-4 : tie.Need-enum-told-4
 enum-told-4 c = search needs
 
--- src/kind.rt:58:28
 enum-known-kind : tie.Need-enum-known-kind
 enum-known-kind c = search needs
 
--- src/kind.rt:58:36
 fraction-bytes-requires : tie.Need-fraction-bytes-requires
 fraction-bytes-requires c κs = search needs
 
--- src/kind.rt:59:27
 enum-known-kind-2 : tie.Need-enum-known-kind-2
 enum-known-kind-2 c = search needs
 
--- src/kind.rt:59:35
 fraction-bytes-requires-2 : tie.Need-fraction-bytes-requires-2
 fraction-bytes-requires-2 c κs = search needs
 
--- src/kind.rt:60:23
 enum-known-kind-3 : tie.Need-enum-known-kind-3
 enum-known-kind-3 c = search needs
 
--- src/kind.rt:60:31
 fraction-bytes-requires-3 : tie.Need-fraction-bytes-requires-3
 fraction-bytes-requires-3 c κs = search needs
 
--- src/kind.rt:50:1
 returns : tie.Need-returns
 unfolding fractionOf
 returns c = rw (c .enum-told .given .1) (refl, omega arith)
 
--- src/kind.rt:50:1
 returns-2 : tie.Need-returns-2
 unfolding fractionOf
 returns-2 c = rw (c .enum-told2 .given .1) (refl, omega arith)
 
--- src/kind.rt:50:1
 returns-3 : tie.Need-returns-3
 unfolding fractionOf
 returns-3 c = rw (c .enum-told3 .given .1) (refl, omega arith)
 
--- src/kind.rt:50:1
 returns-4 : tie.Need-returns-4
 unfolding fractionOf
 returns-4 c = rw (c .enum-told4 .given .1) (refl, omega arith)
 
--- src/kind.rt:50:1
 returns-5 : tie.Need-returns-5
 unfolding fractionOf
 returns-5 c = rw (c .before .before .kind .given .1) (c .fraction-bytes .ensures .0, c .fraction-bytes .ensures .1)
 
--- src/kind.rt:50:1
 returns-6 : tie.Need-returns-6
 unfolding fractionOf
 returns-6 c = rw (c .before .before .kind2 .given .1) (c .fraction-bytes2 .ensures .0, c .fraction-bytes2 .ensures .1)
 
--- src/kind.rt:50:1
 returns-7 : tie.Need-returns-7
 unfolding fractionOf
 returns-7 c = rw (c .before .before .kind3 .given .1) (c .fraction-bytes3 .ensures .0, c .fraction-bytes3 .ensures .1)

@@ -1,5 +1,4 @@
-use native.Mathlib.Omega.{arith}
-use mathlib.Core.Path.{_≡_, refl, sym, ap, _∙_}
+-- `temporal::kind::temporal_size` meets its contract. Assumes nothing.
 use Rattle.temporal.specs.Reading.{sizeOf}
 use borrow.Author.Needs.{needs}
 use Rattle.temporal.proofs.kind.temporal_size.Statement.{statement}
@@ -9,19 +8,15 @@ use Rattle.temporal.proofs.kind.temporal_size.Lts as lts
 use Rattle.temporal.proofs.kind.fraction_size.Reads as fraction-size-reads
 use Rattle.temporal.proofs.kind.whole_bytes.Reads as whole-bytes-reads
 
--- src/kind.rt:30:9
 whole-bytes-requires : tie.Need-whole-bytes-requires
 whole-bytes-requires c κs = search needs
 
--- src/kind.rt:31:9
 fraction-size-requires : tie.Need-fraction-size-requires
 fraction-size-requires c κs = search needs
 
--- src/kind.rt:32:5
 add-result : tie.Need-add-result
 add-result c = search needs
 
--- src/kind.rt:27:1
 returns : tie.Need-returns
 unfolding sizeOf
 returns c = rw (c .before .whole-bytes .ensures .0, c .fraction-size .ensures .0)

@@ -1,5 +1,4 @@
-use native.Mathlib.Omega.{arith}
-use mathlib.Core.Path.{_≡_, refl, sym, ap, _∙_}
+-- `temporal::misc::datetime_from_packed` meets its contract. Assumes nothing.
 use Rattle.temporal.specs.Judgement.{judgedDatetime, judgedMoment}
 use borrow.Author.Needs.{needs}
 use Rattle.temporal.proofs.misc.datetime_from_packed.Statement.{statement}
@@ -8,16 +7,13 @@ use Rattle.temporal.proofs.misc.datetime_from_packed.Reads as reads
 use Rattle.temporal.proofs.misc.datetime_from_packed.Lts as lts
 use Rattle.temporal.proofs.judge.moment_by.Reads as moment-by-reads
 
--- src/misc.rt:92:9
 returns : tie.Need-returns
 unfolding judgedDatetime
 returns c = rw (c .if1 .taken)
 
--- src/misc.rt:94:5
 moment-by-requires : tie.Need-moment-by-requires
 moment-by-requires c κs = search needs
 
--- src/misc.rt:88:1
 returns-2 : tie.Need-returns-2
 unfolding judgedDatetime judgedMoment
 returns-2 c = rw (c .before .if1 .left) (c .moment-by .ensures)

@@ -1,6 +1,7 @@
-use Prim.Native.Nat.{_-_, _*_, _^_, _<_}
+-- `temporal::misc::my_time_packed_from_binary` meets its contract. At each return the tests that led there say which of the three rules it is. Assumes nothing.
 use native.Mathlib.Omega.{arith}
-use mathlib.Core.Path.{_≡_, refl, sym, ap, _∙_}
+use mathlib.Core.Path.{_∙_}
+use Prim.Native.Nat.{_-_, _*_, _^_, _<_}
 use Rattle.temporal.specs.Times.{packedTime}
 use Rattle.temporal.proofs.Units.{unit-room}
 use borrow.Author.Tests.{le-leb, lt-leb, eq-eqb, ne-eqb}
@@ -11,57 +12,55 @@ use Rattle.temporal.proofs.misc.my_time_packed_from_binary.Reads as rea
 use Rattle.temporal.proofs.misc.my_time_packed_from_binary.Lts as lts
 use Rattle.temporal.proofs.fraction.span.Reads as span-reads
 use Rattle.temporal.proofs.fraction.unit.Reads as unit-reads
+use Rattle.temporal.proofs.misc.my_packed_time_make.Reads as my-packed-time-make-reads
 
--- src/misc.rt:34:29
 unit-requires : tie.Need-unit-requires
 unit-requires c κs = search needs
 
--- src/misc.rt:34:22
 mul-micros : tie.Need-mul-micros
 mul-micros c = let m : c .before .before .args .frac * c .unit .result < 2 ^ 64 = rw (c .unit .ensures) (unit-room (c .before .before .args .frac) (c .before .before .args .w) (omega arith) (omega arith)) in omega arith
 
--- src/misc.rt:35:9
+my-packed-time-make-requires : tie.Need-my-packed-time-make-requires
+my-packed-time-make-requires c κs = search needs
+
 returns : tie.Need-returns
 unfolding packedTime
-returns c = rw (c .unit .ensures, le-leb _ _ (c .before .if1 .taken))
+returns c = c .my-packed-time-make .ensures ∙ rw (c .before .unit .ensures, le-leb _ _ (c .before .before .if1 .taken))
 
--- src/misc.rt:42:21
 sub-whole : tie.Need-sub-whole
 sub-whole c = search needs
 
--- src/misc.rt:43:9
+my-packed-time-make-requires-2 : tie.Need-my-packed-time-make-requires-2
+my-packed-time-make-requires-2 c κs = search needs
+
 returns-2 : tie.Need-returns-2
 unfolding packedTime
-returns-2 c = rw (lt-leb _ _ (c .before .if1 .left), eq-eqb _ _ (c .if2 .taken))
+returns-2 c = c .my-packed-time-make2 .ensures ∙ rw (lt-leb _ _ (c .before .before .if1 .left), eq-eqb _ _ (c .before .if2 .taken))
 
--- src/misc.rt:49:17
 sub-whole-2 : tie.Need-sub-whole-2
 sub-whole-2 c = search needs
 
--- src/misc.rt:49:17
 sub-whole-3 : tie.Need-sub-whole-3
 sub-whole-3 c = search needs
 
--- src/misc.rt:50:17
 span-requires : tie.Need-span-requires
 span-requires c κs = search needs
 
--- src/misc.rt:50:17
 sub-units : tie.Need-sub-units
 sub-units c = search needs
 
--- src/misc.rt:51:26
 unit-requires-2 : tie.Need-unit-requires-2
 unit-requires-2 c κs = search needs
 
--- src/misc.rt:51:18
 mul-micros-2 : tie.Need-mul-micros-2
 mul-micros-2 c = let u = c .before .span .result - c .before .before .before .before .args .frac in let m : u * c .unit2 .result < 2 ^ 64 = rw (c .unit2 .ensures) (unit-room u (c .before .before .before .before .args .w) (omega arith) (omega arith)) in omega arith
 
--- src/misc.rt:28:1
+my-packed-time-make-requires-3 : tie.Need-my-packed-time-make-requires-3
+my-packed-time-make-requires-3 c κs = search needs
+
 returns-3 : tie.Need-returns-3
 unfolding packedTime
-returns-3 c = rw (c .unit2 .ensures, c .before .span .ensures, lt-leb _ _ (c .before .before .before .if1 .left), ne-eqb _ _ (c .before .before .if2 .left))
+returns-3 c = c .my-packed-time-make3 .ensures ∙ rw (c .before .unit2 .ensures, c .before .before .span .ensures, lt-leb _ _ (c .before .before .before .before .if1 .left), ne-eqb _ _ (c .before .before .before .if2 .left))
 
 pub my-time-packed-from-binary-spec : {M : Type 1} → statement M
 my-time-packed-from-binary-spec =
@@ -69,8 +68,10 @@ my-time-packed-from-binary-spec =
     (tie.spec
     unit-requires
     mul-micros
+    my-packed-time-make-requires
     returns
     sub-whole
+    my-packed-time-make-requires-2
     returns-2
     sub-whole-2
     sub-whole-3
@@ -78,4 +79,5 @@ my-time-packed-from-binary-spec =
     sub-units
     unit-requires-2
     mul-micros-2
+    my-packed-time-make-requires-3
     returns-3)

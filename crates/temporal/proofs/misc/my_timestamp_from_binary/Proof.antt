@@ -1,6 +1,7 @@
-use Prim.Native.Nat.{_-_, _*_, _^_, _<_}
+-- `temporal::misc::my_timestamp_from_binary` meets its contract. Assumes nothing.
+use Prim.Native.Nat.{_*_, _^_, _<_}
 use native.Mathlib.Omega.{arith}
-use mathlib.Core.Path.{_≡_, refl, sym, ap, _∙_}
+use mathlib.Core.Path.{sym, _∙_}
 use Rattle.temporal.specs.Judgement.{judgedStamp}
 use Rattle.temporal.specs.Moments.{stampOf}
 use Rattle.temporal.proofs.Units.{unit-room}
@@ -14,32 +15,25 @@ use Rattle.temporal.proofs.misc.my_timestamp_from_binary.Lts as lts
 use Rattle.temporal.proofs.fraction.unit.Reads as unit-reads
 use Rattle.temporal.proofs.judge.clock_fault.Reads as clock-fault-reads
 
--- src/misc.rt:102:23
 unit-requires : tie.Need-unit-requires
 unit-requires c κs = search needs
 
--- src/misc.rt:102:16
 mul-usec : tie.Need-mul-usec
 mul-usec c = let m : c .before .args .frac * c .unit .result < 2 ^ 64 = rw (c .unit .ensures) (unit-room (c .before .args .frac) (c .before .args .w) (omega arith) (omega arith)) in omega arith
 
--- src/misc.rt:103:9
 clock-fault-requires : tie.Need-clock-fault-requires
 clock-fault-requires c κs = search needs
 
--- src/misc.rt:105:9
 returns : tie.Need-returns
 unfolding judgedStamp stampOf
 returns c = rw (← c .before .before .unit .ensures, ← c .before .clock-fault .ensures, ne-eqb _ _ (c .if1 .taken))
 
--- src/misc.rt:107:19
 cast-seconds : tie.Need-cast-seconds
 cast-seconds c = search needs
 
--- src/misc.rt:108:18
 cast-micros : tie.Need-cast-micros
 cast-micros c = let k = clock-clear _ _ _ _ _ (sym (c .before .clock-fault .ensures) ∙ c .if1 .left) in omega arith
 
--- src/misc.rt:98:1
 returns-2 : tie.Need-returns-2
 unfolding judgedStamp stampOf
 returns-2 c = rw (← c .before .before .unit .ensures, ← c .before .clock-fault .ensures, eq-eqb _ _ (c .if1 .left))

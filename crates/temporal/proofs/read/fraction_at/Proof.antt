@@ -1,5 +1,5 @@
-use native.Mathlib.Omega.{arith}
-use mathlib.Core.Path.{_≡_, refl, sym, ap, _∙_}
+-- `temporal::read::fraction_at` meets its contract. The fraction stands behind the whole part; the least significant byte first there is none. Assumes nothing.
+use mathlib.Core.Path.{sym, _∙_}
 use Rattle.temporal.proofs.Steps.{units-big, units-little}
 use borrow.Author.Needs.{needs}
 use Rattle.temporal.proofs.read.fraction_at.Statement.{statement}
@@ -11,31 +11,24 @@ use Rattle.temporal.proofs.kind.is_big.Reads as is-big-reads
 use Rattle.temporal.proofs.kind.whole_bytes.Reads as whole-bytes-reads
 use Rattle.wire.proofs.read_be.Reads as read-be-reads
 
--- src/read.rt:69:9
 whole-bytes-requires : tie.Need-whole-bytes-requires
 whole-bytes-requires c κs = search needs
 
--- src/read.rt:70:9
 fraction-size-requires : tie.Need-fraction-size-requires
 fraction-size-requires c κs = search needs
 
--- src/read.rt:71:8
 is-big-requires : tie.Need-is-big-requires
 is-big-requires c κs = search needs
 
--- src/read.rt:72:22
 add-middle : tie.Need-add-middle
 add-middle c = search needs
 
--- src/read.rt:73:9
 read-be-requires : tie.Need-read-be-requires
 read-be-requires c κs = search needs
 
--- src/read.rt:73:9
 returns : tie.Need-returns
 returns c = units-big (c .before .before .before .before .before .before .args .kind) (c .before .before .before .before .before .before .args .s .now) (c .before .before .before .before .before .before .args .at) _ _ _ (c .before .before .before .before .whole-bytes .ensures .0) (c .before .before .before .fraction-size .ensures .0) (c .before .before .before .fraction-size .ensures .1) (sym (c .before .before .is-big .ensures) ∙ c .before .if1 .taken) (c .read-be .ensures .0) (c .read-be .ensures .1)
 
--- src/read.rt:65:1
 returns-2 : tie.Need-returns-2
 returns-2 c = units-little (c .before .before .before .before .before .args .kind) _ (sym (c .before .is-big .ensures) ∙ c .if1 .left)
 

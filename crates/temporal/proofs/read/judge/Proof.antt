@@ -1,11 +1,12 @@
+-- `temporal::read::judge` meets its contract. Each arm is its kind's row of the table. Assumes nothing.
 use native.Mathlib.Omega.{arith}
-use mathlib.Core.Path.{_≡_, refl, sym, ap, _∙_}
-use Prim.Native.Nat.{ℕ, _^_, _<_}
+use mathlib.Core.Path.{ap, _∙_}
+use Prim.Native.Nat.{_^_, _<_}
 use Rattle.temporal.specs.declared.misc.PackedTime.{PackedTime}
 use Rattle.temporal.specs.Fraction.{unitOf}
 use Rattle.temporal.specs.Ranges.{clockFault}
-use Rattle.temporal.specs.Times.{packedTime, time2Of, timeBy}
-use Rattle.temporal.specs.Moments.{packedDatetime, datetime2Of, datetime2Fault, datetimeOf, stampOf}
+use Rattle.temporal.specs.Times.{time2Of, timeBy}
+use Rattle.temporal.specs.Moments.{datetime2Of, datetime2Fault, datetimeOf, stampOf}
 use Rattle.temporal.specs.Kinds.{wholeBytes, fractionOf, partsOf, faultOf}
 use Rattle.temporal.specs.Judgement.{judgedTime, judgedMoment, judgedDatetime, judgedDate, judgedStamp}
 use borrow.Author.Needs.{needs}
@@ -23,121 +24,95 @@ use Rattle.temporal.proofs.misc.my_time_packed_from_binary.Reads as my-
 use Rattle.temporal.proofs.misc.my_timestamp_from_binary.Reads as my-timestamp-from-binary-reads
 use Rattle.temporal.proofs.misc.time_from_packed.Reads as time-from-packed-reads
 
--- src/read.rt:84:28
 enum-told : tie.Need-enum-told
 enum-told c = search needs
 
--- src/read.rt:84:28
 my-timestamp-from-binary-requires : tie.Need-my-timestamp-from-binary-requires
 unfolding wholeBytes
 my-timestamp-from-binary-requires c κs = let p : c .before .before .args .whole < 256 ^ 4 = rw (c .enum-told .given .1) at (c .before .before .pre .0) in (omega arith, omega arith, omega arith)
 
--- src/read.rt:85:26
 enum-told-2 : tie.Need-enum-told-2
 enum-told-2 c = search needs
 
--- src/read.rt:85:26
 time-by-requires : tie.Need-time-by-requires
 time-by-requires c κs = search needs
 
--- src/read.rt:86:30
 enum-told-3 : tie.Need-enum-told-3
 enum-told-3 c = search needs
 
--- src/read.rt:86:30
 moment-by-requires : tie.Need-moment-by-requires
 moment-by-requires c κs = search needs
 
--- src/read.rt:87:26
 enum-told-4 : tie.Need-enum-told-4
 enum-told-4 c = search needs
 
--- src/read.rt:87:26
 date-of-requires : tie.Need-date-of-requires
 date-of-requires c κs = search needs
 
--- src/read.rt:88:28
 enum-known-kind : tie.Need-enum-known-kind
 enum-known-kind c = search needs
 
--- src/read.rt:88:61
 fraction-bytes-requires : tie.Need-fraction-bytes-requires
 fraction-bytes-requires c κs = search needs
 
--- src/read.rt:88:36
 my-timestamp-from-binary-requires-2 : tie.Need-my-timestamp-from-binary-requires-2
 unfolding wholeBytes fractionOf
 my-timestamp-from-binary-requires-2 c κs = let p : c .before .before .before .before .args .whole < 256 ^ 4 = rw (c .before .before .kind .given .1) at (c .before .before .before .before .pre .0) in
     let q : c .before .before .before .before .args .fraction < 256 ^ c .fraction-bytes .result = rw (c .fraction-bytes .ensures .0) (rw (c .before .before .kind .given .1) at (c .before .before .before .before .pre .1)) in
     (c .fraction-bytes .ensures .1, q, omega arith)
 
--- src/read.rt:89:27
 enum-known-kind-2 : tie.Need-enum-known-kind-2
 enum-known-kind-2 c = search needs
 
--- src/read.rt:89:87
 fraction-bytes-requires-2 : tie.Need-fraction-bytes-requires-2
 fraction-bytes-requires-2 c κs = search needs
 
--- src/read.rt:89:56
 my-datetime-packed-from-binary-requires : tie.Need-my-datetime-packed-from-binary-requires
 unfolding fractionOf
 my-datetime-packed-from-binary-requires c κs = let q : c .before .before .before .before .args .fraction < 256 ^ c .fraction-bytes2 .result = rw (c .fraction-bytes2 .ensures .0) (rw (c .before .before .kind2 .given .1) at (c .before .before .before .before .pre .1)) in
     (c .fraction-bytes2 .ensures .1, q)
 
--- src/read.rt:89:35
 datetime-from-packed-requires : tie.Need-datetime-from-packed-requires
 datetime-from-packed-requires c κs = search needs
 
--- src/read.rt:90:23
 enum-known-kind-3 : tie.Need-enum-known-kind-3
 enum-known-kind-3 c = search needs
 
--- src/read.rt:90:75
 fraction-bytes-requires-3 : tie.Need-fraction-bytes-requires-3
 fraction-bytes-requires-3 c κs = search needs
 
--- src/read.rt:90:48
 my-time-packed-from-binary-requires : tie.Need-my-time-packed-from-binary-requires
 unfolding fractionOf
 my-time-packed-from-binary-requires c κs = let q : c .before .before .before .before .args .fraction < 256 ^ c .fraction-bytes3 .result = rw (c .fraction-bytes3 .ensures .0) (rw (c .before .before .kind3 .given .1) at (c .before .before .before .before .pre .1)) in
     (c .fraction-bytes3 .ensures .1, q)
 
--- src/read.rt:90:31
 time-from-packed-requires : tie.Need-time-from-packed-requires
 time-from-packed-requires c κs = search needs
 
--- src/read.rt:79:1
 returns : tie.Need-returns
 unfolding partsOf faultOf judgedStamp stampOf clockFault unitOf
 returns c = rw (c .before .enum-told .given .1) (c .my-timestamp-from-binary .ensures)
 
--- src/read.rt:79:1
 returns-2 : tie.Need-returns-2
 unfolding partsOf faultOf judgedTime
 returns-2 c = rw (c .before .enum-told2 .given .1) (c .time-by .ensures)
 
--- src/read.rt:79:1
 returns-3 : tie.Need-returns-3
 unfolding partsOf faultOf judgedMoment datetimeOf
 returns-3 c = rw (c .before .enum-told3 .given .1) (c .moment-by .ensures)
 
--- src/read.rt:79:1
 returns-4 : tie.Need-returns-4
 unfolding partsOf faultOf judgedDate
 returns-4 c = rw (c .before .enum-told4 .given .1) (c .date-of .ensures)
 
--- src/read.rt:79:1
 returns-5 : tie.Need-returns-5
 unfolding partsOf faultOf judgedStamp
 returns-5 c = rw (c .before .before .before .kind .given .1, ← c .before .fraction-bytes .ensures .0) (c .my-timestamp-from-binary2 .ensures)
 
--- src/read.rt:79:1
 returns-6 : tie.Need-returns-6
 unfolding partsOf faultOf judgedDatetime datetime2Of datetime2Fault
 returns-6 c = rw (c .before .before .before .before .kind2 .given .1, ← c .before .before .fraction-bytes2 .ensures .0) (c .datetime-from-packed .ensures ∙ ap judgedDatetime (c .before .my-datetime-packed-from-binary .ensures))
 
--- src/read.rt:79:1
 returns-7 : tie.Need-returns-7
 unfolding partsOf faultOf judgedTime time2Of
 returns-7 c = rw (c .before .before .before .before .kind3 .given .1, ← c .before .before .fraction-bytes3 .ensures .0) (c .time-from-packed .ensures ∙ ap (λ (p : PackedTime). judgedTime (timeBy 64 (p .negative) (p .whole) (p .micros))) (c .before .my-time-packed-from-binary .ensures))

@@ -1,7 +1,9 @@
+-- `temporal::read::read_temporal` meets its contract. The test for room says whether the bytes are there; what `judge` answers of their two numbers is what is read. Assumes nothing.
 use native.Mathlib.Omega.{arith}
-use mathlib.Core.Path.{_≡_, refl, sym, ap, _∙_}
+use mathlib.Core.Path.{sym, ap, _∙_}
 use Prim.Native.Nat.{_+_, _≤_}
 use lib.ListN.{length}
+use borrow.Author.Tests.{not-true, not-false}
 use Rattle.wire.specs.Outcome.{refused}
 use Rattle.wire.proofs.Stores.{room, no-room}
 use Rattle.temporal.specs.Reading.{sizeOf}
@@ -18,59 +20,46 @@ use Rattle.temporal.proofs.read.whole_at.Reads as whole-at-reads
 use Rattle.wire.proofs.refuse.Reads as refuse-reads
 use Rattle.wire.proofs.has_room.Reads as has-room-reads
 
--- src/read.rt:39:9
 temporal-size-requires : tie.Need-temporal-size-requires
 temporal-size-requires c κs = search needs
 
--- src/read.rt:40:9
 has-room-requires : tie.Need-has-room-requires
 has-room-requires c κs = search needs
 
--- src/read.rt:42:13
-whole-at-requires : tie.Need-whole-at-requires
-whole-at-requires c κs = search needs
-
--- src/read.rt:43:13
-fraction-at-requires : tie.Need-fraction-at-requires
-fraction-at-requires c κs = rw (← c .before .before .before .temporal-size .ensures) (room _ _ _ _ (c .before .before .has-room .ensures) (c .before .if1 .taken))
-
--- src/read.rt:44:20
-add-next : tie.Need-add-next
-add-next c = let r : c .before .before .before .before .before .before .args .at + c .before .before .before .before .temporal-size .result ≤ length (c .before .before .before .before .before .before .args .s .now) = room _ _ _ _ (c .before .before .before .has-room .ensures) (c .before .before .if1 .taken) in omega arith
-
--- src/read.rt:45:22
-judge-requires : tie.Need-judge-requires
-judge-requires c κs = search needs
-
--- src/read.rt:46:24
-enum-known-temporal : tie.Need-enum-known-temporal
-enum-known-temporal c = search needs
-
--- src/read.rt:47:53
-enum-told : tie.Need-enum-told
-enum-told c = search needs
-
--- src/read.rt:47:53
 refuse-requires : tie.Need-refuse-requires
 refuse-requires c κs = search needs
 
--- src/read.rt:45:9
 returns : tie.Need-returns
-returns c = let r : c .before .before .before .before .before .before .before .before .before .before .args .at + sizeOf (c .before .before .before .before .before .before .before .before .before .before .args .kind) ≤ length (c .before .before .before .before .before .before .before .before .before .before .args .s .now) = rw (← c .before .before .before .before .before .before .before .before .temporal-size .ensures) (room _ _ _ _ (c .before .before .before .before .before .before .before .has-room .ensures) (c .before .before .before .before .before .before .if1 .taken)) in
-    rw (c .before .before .before .before .before .before .before .before .temporal-size .ensures) (sym (read-in (c .before .before .before .before .before .before .before .before .before .before .args .kind) (c .before .before .before .before .before .before .before .before .before .before .args .place) (c .before .before .before .before .before .before .before .before .before .before .args .s .now) (c .before .before .before .before .before .before .before .before .before .before .args .at) _ _ r (c .before .before .before .before .before .whole-at .ensures .0) (c .before .before .before .before .fraction-at .ensures .0) _ (sym (c .before .before .before .judge .ensures) ∙ c .before .temporal .given .1)))
+returns c = ap refused (c .refuse .ensures) ∙ sym (read-short (c .before .before .before .before .before .args .kind) (c .before .before .before .before .before .args .place) (c .before .before .before .before .before .args .s .now) (c .before .before .before .before .before .args .at) (rw (← c .before .before .before .temporal-size .ensures) (no-room _ _ _ _ (c .before .before .has-room .ensures) (not-true (c .before .before .has-room .result) (c .before .if1 .taken)))))
 
--- src/read.rt:45:9
-returns-2 : tie.Need-returns-2
-returns-2 c = let r : c .before .before .before .before .before .before .before .before .before .before .args .at + sizeOf (c .before .before .before .before .before .before .before .before .before .before .args .kind) ≤ length (c .before .before .before .before .before .before .before .before .before .before .args .s .now) = rw (← c .before .before .before .before .before .before .before .before .temporal-size .ensures) (room _ _ _ _ (c .before .before .before .before .before .before .before .has-room .ensures) (c .before .before .before .before .before .before .if1 .taken)) in
-    ap refused (c .refuse .ensures) ∙ sym (read-out (c .before .before .before .before .before .before .before .before .before .before .args .kind) (c .before .before .before .before .before .before .before .before .before .before .args .place) (c .before .before .before .before .before .before .before .before .before .before .args .s .now) (c .before .before .before .before .before .before .before .before .before .before .args .at) _ _ r (c .before .before .before .before .before .whole-at .ensures .0) (c .before .before .before .before .fraction-at .ensures .0) _ (sym (c .before .before .before .judge .ensures) ∙ c .before .enum-told .given .1))
+whole-at-requires : tie.Need-whole-at-requires
+whole-at-requires c κs = search needs
 
--- src/read.rt:50:27
+fraction-at-requires : tie.Need-fraction-at-requires
+fraction-at-requires c κs = rw (← c .before .before .before .temporal-size .ensures) (room _ _ _ _ (c .before .before .has-room .ensures) (not-false (c .before .before .has-room .result) (c .before .if1 .left)))
+
+add-next : tie.Need-add-next
+add-next c = let r : c .before .before .before .before .before .before .args .at + c .before .before .before .before .temporal-size .result ≤ length (c .before .before .before .before .before .before .args .s .now) = room _ _ _ _ (c .before .before .before .has-room .ensures) (not-false (c .before .before .before .has-room .result) (c .before .before .if1 .left)) in omega arith
+
+judge-requires : tie.Need-judge-requires
+judge-requires c κs = search needs
+
+enum-known-temporal : tie.Need-enum-known-temporal
+enum-known-temporal c = search needs
+
+enum-told : tie.Need-enum-told
+enum-told c = search needs
+
 refuse-requires-2 : tie.Need-refuse-requires-2
 refuse-requires-2 c κs = search needs
 
--- src/read.rt:36:1
+returns-2 : tie.Need-returns-2
+returns-2 c = let r : c .before .before .before .before .before .before .before .before .before .before .args .at + sizeOf (c .before .before .before .before .before .before .before .before .before .before .args .kind) ≤ length (c .before .before .before .before .before .before .before .before .before .before .args .s .now) = rw (← c .before .before .before .before .before .before .before .before .temporal-size .ensures) (room _ _ _ _ (c .before .before .before .before .before .before .before .has-room .ensures) (not-false (c .before .before .before .before .before .before .before .has-room .result) (c .before .before .before .before .before .before .if1 .left))) in
+    rw (c .before .before .before .before .before .before .before .before .temporal-size .ensures) (sym (read-in (c .before .before .before .before .before .before .before .before .before .before .args .kind) (c .before .before .before .before .before .before .before .before .before .before .args .place) (c .before .before .before .before .before .before .before .before .before .before .args .s .now) (c .before .before .before .before .before .before .before .before .before .before .args .at) _ _ r (c .before .before .before .before .before .whole-at .ensures .0) (c .before .before .before .before .fraction-at .ensures .0) _ (sym (c .before .before .before .judge .ensures) ∙ c .before .temporal .given .1)))
+
 returns-3 : tie.Need-returns-3
-returns-3 c = ap refused (c .refuse2 .ensures) ∙ sym (read-short (c .before .before .before .before .before .args .kind) (c .before .before .before .before .before .args .place) (c .before .before .before .before .before .args .s .now) (c .before .before .before .before .before .args .at) (rw (← c .before .before .before .temporal-size .ensures) (no-room _ _ _ _ (c .before .before .has-room .ensures) (c .before .if1 .left))))
+returns-3 c = let r : c .before .before .before .before .before .before .before .before .before .before .args .at + sizeOf (c .before .before .before .before .before .before .before .before .before .before .args .kind) ≤ length (c .before .before .before .before .before .before .before .before .before .before .args .s .now) = rw (← c .before .before .before .before .before .before .before .before .temporal-size .ensures) (room _ _ _ _ (c .before .before .before .before .before .before .before .has-room .ensures) (not-false (c .before .before .before .before .before .before .before .has-room .result) (c .before .before .before .before .before .before .if1 .left))) in
+    ap refused (c .refuse2 .ensures) ∙ sym (read-out (c .before .before .before .before .before .before .before .before .before .before .args .kind) (c .before .before .before .before .before .before .before .before .before .before .args .place) (c .before .before .before .before .before .before .before .before .before .before .args .s .now) (c .before .before .before .before .before .before .before .before .before .before .args .at) _ _ r (c .before .before .before .before .before .whole-at .ensures .0) (c .before .before .before .before .fraction-at .ensures .0) _ (sym (c .before .before .before .judge .ensures) ∙ c .before .enum-told .given .1))
 
 pub read-temporal-spec : {M : Type 1} → statement M
 read-temporal-spec =
@@ -78,14 +67,14 @@ read-temporal-spec =
     (tie.spec
     temporal-size-requires
     has-room-requires
+    refuse-requires
+    returns
     whole-at-requires
     fraction-at-requires
     add-next
     judge-requires
     enum-known-temporal
     enum-told
-    refuse-requires
-    returns
-    returns-2
     refuse-requires-2
+    returns-2
     returns-3)

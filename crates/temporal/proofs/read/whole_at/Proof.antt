@@ -1,5 +1,5 @@
-use native.Mathlib.Omega.{arith}
-use mathlib.Core.Path.{_≡_, refl, sym, ap, _∙_}
+-- `temporal::read::whole_at` meets its contract. The whole part of the bytes is at their front, or all of them. Assumes nothing.
+use mathlib.Core.Path.{sym, _∙_}
 use Rattle.temporal.proofs.Steps.{whole-big, whole-little}
 use borrow.Author.Needs.{needs}
 use Rattle.temporal.proofs.read.whole_at.Statement.{statement}
@@ -11,27 +11,21 @@ use Rattle.temporal.proofs.kind.whole_bytes.Reads as whole-bytes-reads
 use Rattle.wire.proofs.read_be.Reads as read-be-reads
 use Rattle.wire.proofs.read_le.Reads as read-le-reads
 
--- src/read.rt:57:9
 whole-bytes-requires : tie.Need-whole-bytes-requires
 whole-bytes-requires c κs = search needs
 
--- src/read.rt:58:8
 is-big-requires : tie.Need-is-big-requires
 is-big-requires c κs = search needs
 
--- src/read.rt:59:9
 read-be-requires : tie.Need-read-be-requires
 read-be-requires c κs = search needs
 
--- src/read.rt:59:9
 returns : tie.Need-returns
 returns c = whole-big (c .before .before .before .before .before .args .kind) (c .before .before .before .before .before .args .s .now) (c .before .before .before .before .before .args .at) _ _ (c .before .before .before .whole-bytes .ensures .0) (c .before .before .before .whole-bytes .ensures .1) (sym (c .before .before .is-big .ensures) ∙ c .before .if1 .taken) (c .read-be .ensures .0) (c .read-be .ensures .1)
 
--- src/read.rt:61:5
 read-le-requires : tie.Need-read-le-requires
 read-le-requires c κs = search needs
 
--- src/read.rt:54:1
 returns-2 : tie.Need-returns-2
 returns-2 c = whole-little (c .before .before .before .before .before .args .kind) (c .before .before .before .before .before .args .s .now) (c .before .before .before .before .before .args .at) _ _ (c .before .before .before .whole-bytes .ensures .0) (c .before .before .before .whole-bytes .ensures .1) (sym (c .before .before .is-big .ensures) ∙ c .before .if1 .left) (c .read-le .ensures .0) (c .read-le .ensures .1)
 

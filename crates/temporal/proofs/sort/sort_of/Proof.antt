@@ -1,5 +1,4 @@
-use native.Mathlib.Omega.{arith}
-use mathlib.Core.Path.{_≡_, refl, sym, ap, _∙_}
+-- `temporal::sort::sort_of` meets its contract. Assumes nothing.
 use Rattle.temporal.specs.Kinds.{sort}
 use borrow.Author.Needs.{needs}
 use Rattle.temporal.proofs.sort.sort_of.Statement.{statement}
@@ -7,38 +6,30 @@ use Rattle.temporal.proofs.sort.sort_of.Tie as tie
 use Rattle.temporal.proofs.sort.sort_of.Reads as reads
 use Rattle.temporal.proofs.sort.sort_of.Lts as lts
 
--- src/sort.rt:14:31
 enum-told : tie.Need-enum-told
 enum-told c = search needs
 
--- src/sort.rt:15:28
 enum-told-2 : tie.Need-enum-told-2
 enum-told-2 c = search needs
 
--- src/sort.rt:16:28
 enum-told-3 : tie.Need-enum-told-3
 enum-told-3 c = search needs
 
--- src/sort.rt:17:31
 enum-told-4 : tie.Need-enum-told-4
 enum-told-4 c = search needs
 
--- src/sort.rt:10:1
 returns : tie.Need-returns
 unfolding sort
 returns c = rw (c .enum-told .given .1)
 
--- src/sort.rt:10:1
 returns-2 : tie.Need-returns-2
 unfolding sort
 returns-2 c = rw (c .enum-told2 .given .1)
 
--- src/sort.rt:10:1
 returns-3 : tie.Need-returns-3
 unfolding sort
 returns-3 c = rw (c .enum-told3 .given .1)
 
--- src/sort.rt:10:1
 returns-4 : tie.Need-returns-4
 unfolding sort
 returns-4 c = rw (c .enum-told4 .given .1)

@@ -1,5 +1,4 @@
-use native.Mathlib.Omega.{arith}
-use mathlib.Core.Path.{_≡_, refl, sym, ap, _∙_}
+-- `temporal::sort::stamp_in` meets its contract. Assumes nothing.
 use Rattle.temporal.specs.Kinds.{stampIn}
 use borrow.Author.Needs.{needs}
 use Rattle.temporal.proofs.sort.stamp_in.Statement.{statement}
@@ -7,38 +6,30 @@ use Rattle.temporal.proofs.sort.stamp_in.Tie as tie
 use Rattle.temporal.proofs.sort.stamp_in.Reads as reads
 use Rattle.temporal.proofs.sort.stamp_in.Lts as lts
 
--- src/sort.rt:29:25
 enum-known-temporal : tie.Need-enum-known-temporal
 enum-known-temporal c = search needs
 
--- src/sort.rt:30:28
 enum-told : tie.Need-enum-told
 enum-told c = search needs
 
--- src/sort.rt:31:28
 enum-told-2 : tie.Need-enum-told-2
 enum-told-2 c = search needs
 
--- src/sort.rt:32:31
 enum-told-3 : tie.Need-enum-told-3
 enum-told-3 c = search needs
 
--- src/sort.rt:21:1
 returns : tie.Need-returns
 unfolding stampIn
 returns c = rw (c .before .temporal .given .1)
 
--- src/sort.rt:21:1
 returns-2 : tie.Need-returns-2
 unfolding stampIn
 returns-2 c = rw (c .enum-told .given .1)
 
--- src/sort.rt:21:1
 returns-3 : tie.Need-returns-3
 unfolding stampIn
 returns-3 c = rw (c .enum-told2 .given .1)
 
--- src/sort.rt:21:1
 returns-4 : tie.Need-returns-4
 unfolding stampIn
 returns-4 c = rw (c .enum-told3 .given .1)

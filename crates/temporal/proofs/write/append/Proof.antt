@@ -1,21 +1,18 @@
+-- `temporal::write::append` meets its contract. A radix up to 100 leaves room for every number of fields. Assumes nothing.
 use native.Mathlib.Omega.{arith}
-use mathlib.Core.Path.{_≡_, refl, sym, ap, _∙_}
-use Prim.Native.Nat.{_*_, _≤_}
+use mathlib.Core.Path.{refl}
 use Rattle.temporal.proofs.Radices.{field-room}
 use Rattle.temporal.proofs.write.append.Statement.{statement}
 use Rattle.temporal.proofs.write.append.Tie as tie
 use Rattle.temporal.proofs.write.append.Reads as reads
 use Rattle.temporal.proofs.write.append.Lts as lts
 
--- src/write.rt:174:5
 mul-result : tie.Need-mul-result
 mul-result c = let p = field-room (c .args .n) (c .args .radix) (omega arith) in omega arith
 
--- src/write.rt:174:5
 add-result : tie.Need-add-result
 add-result c = let p = field-room (c .args .n) (c .args .radix) (omega arith) in omega arith
 
--- src/write.rt:169:1
 returns : tie.Need-returns
 returns c = let p = field-room (c .args .n) (c .args .radix) (omega arith) in (refl, omega arith)
 

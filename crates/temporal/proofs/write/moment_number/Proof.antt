@@ -1,5 +1,6 @@
+-- `temporal::write::moment_number` meets its contract. Assumes nothing.
 use native.Mathlib.Omega.{arith}
-use mathlib.Core.Path.{_≡_, refl, sym, ap, _∙_}
+use mathlib.Core.Path.{_∙_}
 use borrow.Author.Needs.{needs}
 use Rattle.temporal.proofs.write.moment_number.Statement.{statement}
 use Rattle.temporal.proofs.write.moment_number.Tie as tie
@@ -7,31 +8,24 @@ use Rattle.temporal.proofs.write.moment_number.Reads as reads
 use Rattle.temporal.proofs.write.moment_number.Lts as lts
 use Rattle.temporal.proofs.write.append.Reads as append-reads
 
--- src/write.rt:154:28
-cast-append : tie.Need-cast-append
-cast-append c = search needs
+cast-year : tie.Need-cast-year
+cast-year c = search needs
 
--- src/write.rt:154:9
 append-requires : tie.Need-append-requires
 append-requires c κs = search needs
 
--- src/write.rt:155:9
 append-requires-2 : tie.Need-append-requires-2
 append-requires-2 c κs = search needs
 
--- src/write.rt:156:9
 append-requires-3 : tie.Need-append-requires-3
 append-requires-3 c κs = search needs
 
--- src/write.rt:157:9
 append-requires-4 : tie.Need-append-requires-4
 append-requires-4 c κs = search needs
 
--- src/write.rt:158:5
 append-requires-5 : tie.Need-append-requires-5
 append-requires-5 c κs = search needs
 
--- src/write.rt:150:1
 returns : tie.Need-returns
 returns c = (c .append5 .ensures .0 ∙ rw (c .before .append4 .ensures .0, c .before .before .append3 .ensures .0, c .before .before .before .append2 .ensures .0, c .before .before .before .before .append .ensures .0), omega arith)
 
@@ -39,7 +33,7 @@ pub moment-number-spec : {M : Type 1} → statement M
 moment-number-spec =
     tie.close
     (tie.spec
-    cast-append
+    cast-year
     append-requires
     append-requires-2
     append-requires-3

@@ -1,5 +1,5 @@
+-- `temporal::write::time2_fraction` meets its contract. Assumes nothing.
 use native.Mathlib.Omega.{arith}
-use mathlib.Core.Path.{_≡_, refl, sym, ap, _∙_}
 use Rattle.temporal.specs.Times.{time2Fraction}
 use Rattle.temporal.proofs.Units.{unit-fits}
 use borrow.Author.Tests.{eq-eqb, ne-eqb}
@@ -11,29 +11,23 @@ use Rattle.temporal.proofs.write.time2_fraction.Lts as lts
 use Rattle.temporal.proofs.fraction.span.Reads as span-reads
 use Rattle.temporal.proofs.write.units_in.Reads as units-in-reads
 
--- src/write.rt:132:9
 units-in-requires : tie.Need-units-in-requires
 units-in-requires c κs = search needs
 
--- src/write.rt:135:13
 returns : tie.Need-returns
 unfolding time2Fraction
 returns c = rw (c .before .if1 .taken, ← c .before .before .units-in .ensures, eq-eqb _ _ (c .if2 .taken))
 
--- src/write.rt:137:16
 span-requires : tie.Need-span-requires
 span-requires c κs = search needs
 
--- src/write.rt:137:16
 sub-result : tie.Need-sub-result
 sub-result c = let f = unit-fits (c .before .before .before .before .args .t .micros) (c .before .before .before .before .args .w) (omega arith) (omega arith) in omega arith
 
--- src/write.rt:137:9
 returns-2 : tie.Need-returns-2
 unfolding time2Fraction
 returns-2 c = rw (c .before .before .if1 .taken, ← c .before .before .before .units-in .ensures, ne-eqb _ _ (c .before .if2 .left), c .span .ensures)
 
--- src/write.rt:128:1
 returns-3 : tie.Need-returns-3
 unfolding time2Fraction
 returns-3 c = rw (c .if1 .left, ← c .before .units-in .ensures)

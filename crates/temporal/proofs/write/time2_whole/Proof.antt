@@ -1,5 +1,4 @@
-use native.Mathlib.Omega.{arith}
-use mathlib.Core.Path.{_≡_, refl, sym, ap, _∙_}
+-- `temporal::write::time2_whole` meets its contract. Assumes nothing.
 use Rattle.temporal.specs.Times.{time2Whole}
 use borrow.Author.Tests.{eq-eqb, ne-eqb}
 use borrow.Author.Needs.{needs}
@@ -10,41 +9,32 @@ use Rattle.temporal.proofs.write.time2_whole.Lts as lts
 use Rattle.temporal.proofs.write.time_number.Reads as time-number-reads
 use Rattle.temporal.proofs.write.units_in.Reads as units-in-reads
 
--- src/write.rt:118:9
 time-number-requires : tie.Need-time-number-requires
 time-number-requires c κs = search needs
 
--- src/write.rt:120:12
 units-in-requires : tie.Need-units-in-requires
 units-in-requires c κs = search needs
 
--- src/write.rt:121:20
 sub-result : tie.Need-sub-result
 sub-result c = search needs
 
--- src/write.rt:121:13
 returns : tie.Need-returns
 unfolding time2Whole
 returns c = rw (c .before .before .if1 .taken, ← c .before .units-in .ensures, eq-eqb _ _ (c .if2 .taken), c .before .before .before .time-number .ensures .0)
 
--- src/write.rt:123:16
 sub-result-2 : tie.Need-sub-result-2
 sub-result-2 c = search needs
 
--- src/write.rt:123:16
 sub-result-3 : tie.Need-sub-result-3
 sub-result-3 c = search needs
 
--- src/write.rt:123:9
 returns-2 : tie.Need-returns-2
 unfolding time2Whole
 returns-2 c = rw (c .before .before .if1 .taken, ← c .before .units-in .ensures, ne-eqb _ _ (c .if2 .left), c .before .before .before .time-number .ensures .0)
 
--- src/write.rt:125:5
 add-result : tie.Need-add-result
 add-result c = search needs
 
--- src/write.rt:114:1
 returns-3 : tie.Need-returns-3
 unfolding time2Whole
 returns-3 c = rw (c .if1 .left, c .before .time-number .ensures .0)

@@ -1,6 +1,5 @@
-use native.Mathlib.Omega.{arith}
-use mathlib.Core.Path.{_≡_, refl, sym, ap, _∙_}
-use Prim.Native.Nat.{_≤_}
+-- `temporal::write::units_of` meets its contract. Each arm is its kind's row; a fraction of a time that TIME2 can hold is below 256 ^ w. Assumes nothing.
+use mathlib.Core.Path.{_≡_}
 use mathlib.Core.Bool.{true}
 use Rattle.temporal.specs.declared.kind.Kind.the-variants.{Time2}
 use Rattle.temporal.specs.Kinds.{unitsOf}
@@ -18,102 +17,79 @@ use Rattle.temporal.proofs.sort.time_in.Reads as time-in-reads
 use Rattle.temporal.proofs.write.time2_fraction.Reads as time2-fraction-reads
 use Rattle.temporal.proofs.write.units_in.Reads as units-in-reads
 
--- src/write.rt:96:28
 enum-told : tie.Need-enum-told
 enum-told c = search needs
 
--- src/write.rt:97:26
 enum-told-2 : tie.Need-enum-told-2
 enum-told-2 c = search needs
 
--- src/write.rt:98:30
 enum-told-3 : tie.Need-enum-told-3
 enum-told-3 c = search needs
 
--- src/write.rt:99:26
 enum-told-4 : tie.Need-enum-told-4
 enum-told-4 c = search needs
 
--- src/write.rt:100:28
 enum-known-kind : tie.Need-enum-known-kind
 enum-known-kind c = search needs
 
--- src/write.rt:100:45
 fraction-bytes-requires : tie.Need-fraction-bytes-requires
 fraction-bytes-requires c κs = search needs
 
--- src/write.rt:100:65
 stamp-in-requires : tie.Need-stamp-in-requires
 stamp-in-requires c κs = search needs
 
--- src/write.rt:100:36
 units-in-requires : tie.Need-units-in-requires
 units-in-requires c κs = search needs
 
--- src/write.rt:101:27
 enum-known-kind-2 : tie.Need-enum-known-kind-2
 enum-known-kind-2 c = search needs
 
--- src/write.rt:101:44
 fraction-bytes-requires-2 : tie.Need-fraction-bytes-requires-2
 fraction-bytes-requires-2 c κs = search needs
 
--- src/write.rt:101:64
 moment-in-requires : tie.Need-moment-in-requires
 moment-in-requires c κs = search needs
 
--- src/write.rt:101:35
 units-in-requires-2 : tie.Need-units-in-requires-2
 units-in-requires-2 c κs = search needs
 
--- src/write.rt:102:23
 enum-known-kind-3 : tie.Need-enum-known-kind-3
 enum-known-kind-3 c = search needs
 
--- src/write.rt:102:46
 fraction-bytes-requires-3 : tie.Need-fraction-bytes-requires-3
 fraction-bytes-requires-3 c κs = search needs
 
--- src/write.rt:102:66
 time-in-requires : tie.Need-time-in-requires
 time-in-requires c κs = search needs
 
--- src/write.rt:102:31
 time2-fraction-requires : tie.Need-time2-fraction-requires
 time2-fraction-requires c κs = let d : domain (Time2 _) (c .before .before .before .before .before .args .temporal) ≡ true = rw (c .before .before .before .kind3 .given .1) at (c .before .before .before .before .before .pre) in
     (c .before .fraction-bytes3 .ensures .1, rw (c .time-in .ensures) (time2-room _ _ d .1))
 
--- src/write.rt:91:1
 returns : tie.Need-returns
 unfolding unitsOf
 returns c = rw (c .enum-told .given .1)
 
--- src/write.rt:91:1
 returns-2 : tie.Need-returns-2
 unfolding unitsOf
 returns-2 c = rw (c .enum-told2 .given .1)
 
--- src/write.rt:91:1
 returns-3 : tie.Need-returns-3
 unfolding unitsOf
 returns-3 c = rw (c .enum-told3 .given .1)
 
--- src/write.rt:91:1
 returns-4 : tie.Need-returns-4
 unfolding unitsOf
 returns-4 c = rw (c .enum-told4 .given .1)
 
--- src/write.rt:91:1
 returns-5 : tie.Need-returns-5
 unfolding unitsOf
 returns-5 c = rw (c .before .before .before .before .kind .given .1, ← c .before .before .fraction-bytes .ensures .0, ← c .before .stamp-in .ensures) (c .units-in .ensures)
 
--- src/write.rt:91:1
 returns-6 : tie.Need-returns-6
 unfolding unitsOf
 returns-6 c = rw (c .before .before .before .before .kind2 .given .1, ← c .before .before .fraction-bytes2 .ensures .0, ← c .before .moment-in .ensures) (c .units-in2 .ensures)
 
--- src/write.rt:91:1
 returns-7 : tie.Need-returns-7
 unfolding unitsOf
 returns-7 c = rw (c .before .before .before .before .kind3 .given .1, ← c .before .before .fraction-bytes3 .ensures .0, ← c .before .time-in .ensures) (c .time2-fraction .ensures)

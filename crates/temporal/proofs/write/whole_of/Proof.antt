@@ -1,6 +1,5 @@
-use native.Mathlib.Omega.{arith}
-use mathlib.Core.Path.{_≡_, refl, sym, ap, _∙_}
-use Prim.Native.Nat.{_+_, _<_}
+-- `temporal::write::whole_of` meets its contract. Each arm is its kind's row; a time that TIME2 can hold is small enough to be taken from 2^23. Assumes nothing.
+use mathlib.Core.Path.{_≡_}
 use mathlib.Core.Bool.{true}
 use Rattle.temporal.specs.declared.kind.Kind.the-variants.{Time2}
 use Rattle.temporal.specs.Kinds.{wholeOf}
@@ -21,130 +20,100 @@ use Rattle.temporal.proofs.write.moment_number.Reads as moment-number-r
 use Rattle.temporal.proofs.write.time2_whole.Reads as time2-whole-reads
 use Rattle.temporal.proofs.write.time_number.Reads as time-number-reads
 
--- src/write.rt:80:28
 enum-told : tie.Need-enum-told
 enum-told c = search needs
 
--- src/write.rt:80:28
 stamp-in-requires : tie.Need-stamp-in-requires
 stamp-in-requires c κs = search needs
 
--- src/write.rt:80:28
 cast-result : tie.Need-cast-result
 cast-result c = search needs
 
--- src/write.rt:81:43
 enum-told-2 : tie.Need-enum-told-2
 enum-told-2 c = search needs
 
--- src/write.rt:81:43
 time-in-requires : tie.Need-time-in-requires
 time-in-requires c κs = search needs
 
--- src/write.rt:81:26
 time-number-requires : tie.Need-time-number-requires
 time-number-requires c κs = search needs
 
--- src/write.rt:82:64
 enum-told-3 : tie.Need-enum-told-3
 enum-told-3 c = search needs
 
--- src/write.rt:82:64
 moment-in-requires : tie.Need-moment-in-requires
 moment-in-requires c κs = search needs
 
--- src/write.rt:82:30
 moment-number-requires : tie.Need-moment-number-requires
 moment-number-requires c κs = search needs
 
--- src/write.rt:83:38
 enum-told-4 : tie.Need-enum-told-4
 enum-told-4 c = search needs
 
--- src/write.rt:83:38
 date-in-requires : tie.Need-date-in-requires
 date-in-requires c κs = search needs
 
--- src/write.rt:83:26
 date-number-requires : tie.Need-date-number-requires
 date-number-requires c κs = search needs
 
--- src/write.rt:84:39
 enum-told-5 : tie.Need-enum-told-5
 enum-told-5 c = search needs
 
--- src/write.rt:84:39
 stamp-in-requires-2 : tie.Need-stamp-in-requires-2
 stamp-in-requires-2 c κs = search needs
 
--- src/write.rt:84:39
 cast-result-2 : tie.Need-cast-result-2
 cast-result-2 c = search needs
 
--- src/write.rt:85:88
 enum-told-6 : tie.Need-enum-told-6
 enum-told-6 c = search needs
 
--- src/write.rt:85:88
 moment-in-requires-2 : tie.Need-moment-in-requires-2
 moment-in-requires-2 c κs = search needs
 
--- src/write.rt:85:58
 moment-number-requires-2 : tie.Need-moment-number-requires-2
 moment-number-requires-2 c κs = search needs
 
--- src/write.rt:85:38
 add-result : tie.Need-add-result
 add-result c = search needs
 
--- src/write.rt:86:23
 enum-known-kind : tie.Need-enum-known-kind
 enum-known-kind c = search needs
 
--- src/write.rt:86:43
 fraction-bytes-requires : tie.Need-fraction-bytes-requires
 fraction-bytes-requires c κs = search needs
 
--- src/write.rt:86:63
 time-in-requires-2 : tie.Need-time-in-requires-2
 time-in-requires-2 c κs = search needs
 
--- src/write.rt:86:31
 time2-whole-requires : tie.Need-time2-whole-requires
 time2-whole-requires c κs = let d : domain (Time2 _) (c .before .before .before .before .before .args .temporal) ≡ true = rw (c .before .before .before .kind .given .1) at (c .before .before .before .before .before .pre) in
     (c .before .fraction-bytes .ensures .1, rw (c .time-in2 .ensures) (time2-room _ _ d .0))
 
--- src/write.rt:75:1
 returns : tie.Need-returns
 unfolding wholeOf
 returns c = rw (c .before .before .enum-told .given .1, ← c .before .stamp-in .ensures)
 
--- src/write.rt:75:1
 returns-2 : tie.Need-returns-2
 unfolding wholeOf
 returns-2 c = rw (c .before .before .enum-told2 .given .1, ← c .before .time-in .ensures) (c .time-number .ensures .0)
 
--- src/write.rt:75:1
 returns-3 : tie.Need-returns-3
 unfolding wholeOf
 returns-3 c = rw (c .before .before .enum-told3 .given .1, ← c .before .moment-in .ensures) (c .moment-number .ensures .0)
 
--- src/write.rt:75:1
 returns-4 : tie.Need-returns-4
 unfolding wholeOf
 returns-4 c = rw (c .before .before .enum-told4 .given .1, ← c .before .date-in .ensures) (c .date-number .ensures)
 
--- src/write.rt:75:1
 returns-5 : tie.Need-returns-5
 unfolding wholeOf
 returns-5 c = rw (c .before .before .enum-told5 .given .1, ← c .before .stamp-in2 .ensures)
 
--- src/write.rt:75:1
 returns-6 : tie.Need-returns-6
 unfolding wholeOf
 returns-6 c = rw (c .before .before .enum-told6 .given .1, ← c .before .moment-in2 .ensures, c .moment-number2 .ensures .0)
 
--- src/write.rt:75:1
 returns-7 : tie.Need-returns-7
 unfolding wholeOf
 returns-7 c = rw (c .before .before .before .before .kind .given .1, ← c .before .before .fraction-bytes .ensures .0, ← c .before .time-in2 .ensures) (c .time2-whole .ensures)

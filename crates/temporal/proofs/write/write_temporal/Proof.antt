@@ -1,7 +1,8 @@
-use native.Mathlib.Omega.{arith}
-use mathlib.Core.Path.{_≡_, refl, sym, ap, _∙_}
-use Rattle.temporal.proofs.Steps.{write-big, write-little, write-none}
+-- `temporal::write::write_temporal` meets its contract. The domain is tested first; then all of the bytes are written, or none. Assumes nothing.
+use mathlib.Core.Path.{refl, sym, ap, _∙_}
+use borrow.Author.Tests.{not-true, not-false}
 use Rattle.wire.specs.Outcome.{refused}
+use Rattle.temporal.proofs.Steps.{write-big, write-little, write-none}
 use borrow.Author.Needs.{needs}
 use Rattle.temporal.proofs.write.write_temporal.Statement.{statement}
 use Rattle.temporal.proofs.write.write_temporal.Tie as tie
@@ -17,68 +18,56 @@ use Rattle.temporal.proofs.write.write_two.Reads as write-two-reads
 use Rattle.wire.proofs.write_le.Reads as write-le-reads
 use Rattle.wire.proofs.refuse.Reads as refuse-reads
 
--- src/write.rt:42:9
 in-domain-requires : tie.Need-in-domain-requires
 in-domain-requires c κs = search needs
 
--- src/write.rt:44:13
-whole-bytes-requires : tie.Need-whole-bytes-requires
-whole-bytes-requires c κs = search needs
-
--- src/write.rt:45:13
-whole-of-requires : tie.Need-whole-of-requires
-whole-of-requires c κs = sym (c .before .before .in-domain .ensures) ∙ c .before .if1 .taken
-
--- src/write.rt:46:12
-is-big-requires : tie.Need-is-big-requires
-is-big-requires c κs = search needs
-
--- src/write.rt:47:17
-fraction-size-requires : tie.Need-fraction-size-requires
-fraction-size-requires c κs = search needs
-
--- src/write.rt:48:17
-units-of-requires : tie.Need-units-of-requires
-units-of-requires c κs = sym (c .before .before .before .before .before .before .in-domain .ensures) ∙ c .before .before .before .before .before .if1 .taken
-
--- src/write.rt:49:13
-write-two-requires : tie.Need-write-two-requires
-write-two-requires c κs = search needs
-
--- src/write.rt:49:13
-same-length : tie.Need-same-length
-same-length c = search needs
-
--- src/write.rt:49:13
-returns : tie.Need-returns
-returns c = write-big (c .before .before .before .before .before .before .before .before .before .before .before .before .before .args .kind) (c .before .before .before .before .before .before .before .before .before .before .before .before .before .args .place) (c .before .before .before .before .before .before .before .before .before .before .before .before .before .args .buf .now) (c .before .before .before .before .before .before .before .before .before .before .before .before .before .args .at) (c .before .before .before .before .before .before .before .before .before .before .before .before .before .args .temporal) (c .before .before .write-two .result) _ _ _ _ _ (sym (c .before .before .before .before .before .before .before .before .before .before .before .in-domain .ensures) ∙ c .before .before .before .before .before .before .before .before .before .before .if1 .taken) (sym (c .before .before .before .before .before .before .before .is-big .ensures) ∙ c .before .before .before .before .before .before .if2 .taken) (c .before .before .before .before .before .before .before .before .before .whole-bytes .ensures .0) (c .before .before .before .before .before .fraction-size .ensures .0) (c .before .before .before .before .before .before .before .before .whole-of .ensures) (c .before .before .before .before .units-of .ensures) (c .before .before .write-two .ensures .0, c .before .before .write-two .ensures .1)
-
--- src/write.rt:51:9
-write-le-requires : tie.Need-write-le-requires
-write-le-requires c κs = search needs
-
--- src/write.rt:51:9
-same-length-2 : tie.Need-same-length-2
-same-length-2 c = search needs
-
--- src/write.rt:51:9
-returns-2 : tie.Need-returns-2
-returns-2 c = write-little (c .before .before .before .before .before .before .before .before .before .before .before .args .kind) (c .before .before .before .before .before .before .before .before .before .before .before .args .place) (c .before .before .before .before .before .before .before .before .before .before .before .args .buf .now) (c .before .before .before .before .before .before .before .before .before .before .before .args .at) (c .before .before .before .before .before .before .before .before .before .before .before .args .temporal) (c .before .before .write-le .result) _ _ _ (sym (c .before .before .before .before .before .before .before .before .before .in-domain .ensures) ∙ c .before .before .before .before .before .before .before .before .if1 .taken) (sym (c .before .before .before .before .before .is-big .ensures) ∙ c .before .before .before .before .if2 .left) (c .before .before .before .before .before .before .before .whole-bytes .ensures .0) (c .before .before .before .before .before .before .before .whole-bytes .ensures .1) (c .before .before .before .before .before .before .whole-of .ensures) (c .before .before .write-le .ensures .0, c .before .before .write-le .ensures .1)
-
--- src/write.rt:53:22
 refuse-requires : tie.Need-refuse-requires
 refuse-requires c κs = search needs
 
--- src/write.rt:38:1
-returns-3 : tie.Need-returns-3
-returns-3 c = let z = write-none (c .before .before .before .before .args .kind) (c .before .before .before .before .args .place) (c .before .before .before .before .args .buf .now) (c .before .before .before .before .args .at) (c .before .before .before .before .args .temporal) (sym (c .before .before .in-domain .ensures) ∙ c .before .if1 .left) in
+returns : tie.Need-returns
+returns c = let z = write-none (c .before .before .before .before .args .kind) (c .before .before .before .before .args .place) (c .before .before .before .before .args .buf .now) (c .before .before .before .before .args .at) (c .before .before .before .before .args .temporal) (sym (c .before .before .in-domain .ensures) ∙ not-true (c .before .before .in-domain .result) (c .before .if1 .taken)) in
     rw z (ap refused (c .refuse .ensures), refl)
+
+whole-bytes-requires : tie.Need-whole-bytes-requires
+whole-bytes-requires c κs = search needs
+
+whole-of-requires : tie.Need-whole-of-requires
+whole-of-requires c κs = sym (c .before .before .in-domain .ensures) ∙ not-false (c .before .before .in-domain .result) (c .before .if1 .left)
+
+is-big-requires : tie.Need-is-big-requires
+is-big-requires c κs = search needs
+
+fraction-size-requires : tie.Need-fraction-size-requires
+fraction-size-requires c κs = search needs
+
+units-of-requires : tie.Need-units-of-requires
+units-of-requires c κs = sym (c .before .before .before .before .before .before .in-domain .ensures) ∙ not-false (c .before .before .before .before .before .before .in-domain .result) (c .before .before .before .before .before .if1 .left)
+
+write-two-requires : tie.Need-write-two-requires
+write-two-requires c κs = search needs
+
+same-length : tie.Need-same-length
+same-length c = search needs
+
+returns-2 : tie.Need-returns-2
+returns-2 c = write-big (c .before .before .before .before .before .before .before .before .before .before .before .before .before .args .kind) (c .before .before .before .before .before .before .before .before .before .before .before .before .before .args .place) (c .before .before .before .before .before .before .before .before .before .before .before .before .before .args .buf .now) (c .before .before .before .before .before .before .before .before .before .before .before .before .before .args .at) (c .before .before .before .before .before .before .before .before .before .before .before .before .before .args .temporal) (c .before .before .write-two .result) _ _ _ _ _ (sym (c .before .before .before .before .before .before .before .before .before .before .before .in-domain .ensures) ∙ not-false (c .before .before .before .before .before .before .before .before .before .before .before .in-domain .result) (c .before .before .before .before .before .before .before .before .before .before .if1 .left)) (sym (c .before .before .before .before .before .before .before .is-big .ensures) ∙ c .before .before .before .before .before .before .if2 .taken) (c .before .before .before .before .before .before .before .before .before .whole-bytes .ensures .0) (c .before .before .before .before .before .fraction-size .ensures .0) (c .before .before .before .before .before .before .before .before .whole-of .ensures) (c .before .before .before .before .units-of .ensures) (c .before .before .write-two .ensures .0, c .before .before .write-two .ensures .1)
+
+write-le-requires : tie.Need-write-le-requires
+write-le-requires c κs = search needs
+
+same-length-2 : tie.Need-same-length-2
+same-length-2 c = search needs
+
+returns-3 : tie.Need-returns-3
+returns-3 c = write-little (c .before .before .before .before .before .before .before .before .before .before .before .args .kind) (c .before .before .before .before .before .before .before .before .before .before .before .args .place) (c .before .before .before .before .before .before .before .before .before .before .before .args .buf .now) (c .before .before .before .before .before .before .before .before .before .before .before .args .at) (c .before .before .before .before .before .before .before .before .before .before .before .args .temporal) (c .before .before .write-le .result) _ _ _ (sym (c .before .before .before .before .before .before .before .before .before .in-domain .ensures) ∙ not-false (c .before .before .before .before .before .before .before .before .before .in-domain .result) (c .before .before .before .before .before .before .before .before .if1 .left)) (sym (c .before .before .before .before .before .is-big .ensures) ∙ c .before .before .before .before .if2 .left) (c .before .before .before .before .before .before .before .whole-bytes .ensures .0) (c .before .before .before .before .before .before .before .whole-bytes .ensures .1) (c .before .before .before .before .before .before .whole-of .ensures) (c .before .before .write-le .ensures .0, c .before .before .write-le .ensures .1)
 
 pub write-temporal-spec : {M : Type 1} → statement M
 write-temporal-spec =
     tie.close
     (tie.spec
     in-domain-requires
+    refuse-requires
+    returns
     whole-bytes-requires
     whole-of-requires
     is-big-requires
@@ -86,9 +75,7 @@ write-temporal-spec =
     units-of-requires
     write-two-requires
     same-length
-    returns
+    returns-2
     write-le-requires
     same-length-2
-    returns-2
-    refuse-requires
     returns-3)

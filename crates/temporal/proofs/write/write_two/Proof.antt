@@ -1,8 +1,10 @@
+-- `temporal::write::write_two` meets its contract. Room was tested for both runs of bytes, so both are written, and two stores in a row are one. Assumes nothing.
 use native.Mathlib.Omega.{arith}
-use mathlib.Core.Path.{_≡_, refl, sym, ap, _∙_}
+use mathlib.Core.Path.{_≡_}
 use Prim.Native.Nat.{_+_, _≤_, min}
 use lib.ListN.{length, length-append}
 use mathlib.Core.List.{_++_}
+use borrow.Author.Tests.{not-true, not-false}
 use Rattle.wire.specs.Number.{beBytes}
 use Rattle.wire.proofs.Bytes.{beBytes-length}
 use Rattle.wire.proofs.Stores.{room, no-room, not-wrote}
@@ -16,52 +18,42 @@ use Rattle.wire.proofs.write_be.Reads as write-be-reads
 use Rattle.wire.proofs.refuse.Reads as refuse-reads
 use Rattle.wire.proofs.has_room.Reads as has-room-reads
 
--- src/write.rt:62:16
 add-size : tie.Need-add-size
 add-size c = search needs
 
--- src/write.rt:63:9
 has-room-requires : tie.Need-has-room-requires
 has-room-requires c κs = search needs
 
--- src/write.rt:65:9
+refuse-requires : tie.Need-refuse-requires
+refuse-requires c κs = search needs
+
+returns : tie.Need-returns
+returns c = let a = c .before .before .before .before .args in
+    let l : length (beBytes (a .k) (a .whole) ++ beBytes (a .w) (a .units)) ≡ a .k + a .w = rw (length-append, beBytes-length (a .k) (a .whole), beBytes-length (a .w) (a .units)) in
+    not-wrote (a .buf .now) (beBytes (a .k) (a .whole) ++ beBytes (a .w) (a .units)) (a .at) (a .k + a .w) _ l (no-room _ _ _ _ (c .before .before .has-room .ensures) (not-true (c .before .before .has-room .result) (c .before .if1 .taken))) (c .refuse .ensures)
+
 write-be-requires : tie.Need-write-be-requires
 write-be-requires c κs = search needs
 
--- src/write.rt:66:22
 add-middle : tie.Need-add-middle
-add-middle c = let r : c .before .before .before .before .before .before .before .args .at + (c .before .before .before .before .before .before .before .args .k + c .before .before .before .before .before .before .before .args .w) ≤ length (c .before .before .before .before .before .before .before .args .buf .now) = room _ _ _ _ (c .before .before .before .before .before .has-room .ensures) (c .before .before .before .before .if1 .taken) in omega arith
+add-middle c = let r : c .before .before .before .before .before .before .before .args .at + (c .before .before .before .before .before .before .before .args .k + c .before .before .before .before .before .before .before .args .w) ≤ length (c .before .before .before .before .before .before .before .args .buf .now) = room _ _ _ _ (c .before .before .before .before .before .has-room .ensures) (not-false (c .before .before .before .before .before .has-room .result) (c .before .before .before .before .if1 .left)) in omega arith
 
--- src/write.rt:67:9
 write-be-requires-2 : tie.Need-write-be-requires-2
 write-be-requires-2 c κs = search needs
 
--- src/write.rt:68:20
 add-next : tie.Need-add-next
-add-next c = let r : c .before .before .before .before .before .before .before .before .before .before .before .args .at + (c .before .before .before .before .before .before .before .before .before .before .before .args .k + c .before .before .before .before .before .before .before .before .before .before .before .args .w) ≤ length (c .before .before .before .before .before .before .before .before .before .before .before .args .buf .now) = room _ _ _ _ (c .before .before .before .before .before .before .before .before .before .has-room .ensures) (c .before .before .before .before .before .before .before .before .if1 .taken) in omega arith
+add-next c = let r : c .before .before .before .before .before .before .before .before .before .before .before .args .at + (c .before .before .before .before .before .before .before .before .before .before .before .args .k + c .before .before .before .before .before .before .before .before .before .before .before .args .w) ≤ length (c .before .before .before .before .before .before .before .before .before .before .before .args .buf .now) = room _ _ _ _ (c .before .before .before .before .before .before .before .before .before .has-room .ensures) (not-false (c .before .before .before .before .before .before .before .before .before .has-room .result) (c .before .before .before .before .before .before .before .before .if1 .left)) in omega arith
 
--- src/write.rt:69:9
 same-length : tie.Need-same-length
 same-length c = search needs
 
--- src/write.rt:69:9
-returns : tie.Need-returns
-returns c = let a = c .before .before .before .before .before .before .before .before .before .before .before .args in
-    let r : a .at + (a .k + a .w) ≤ length (a .buf .now) = room _ _ _ _ (c .before .before .before .before .before .before .before .before .before .has-room .ensures) (c .before .before .before .before .before .before .before .before .if1 .taken) in
+returns-2 : tie.Need-returns-2
+returns-2 c = let a = c .before .before .before .before .before .before .before .before .before .before .before .args in
+    let r : a .at + (a .k + a .w) ≤ length (a .buf .now) = room _ _ _ _ (c .before .before .before .before .before .before .before .before .before .has-room .ensures) (not-false (c .before .before .before .before .before .before .before .before .before .has-room .result) (c .before .before .before .before .before .before .before .before .if1 .left)) in
     let k : min (a .k) 8 ≡ a .k = omega arith in
     let w : min (a .w) 8 ≡ a .w = omega arith in
     two-writes (a .buf .now) (beBytes (a .k) (a .whole)) (beBytes (a .w) (a .units)) _ _ (a .at) (a .k) (a .w) (beBytes-length (a .k) (a .whole)) (beBytes-length (a .w) (a .units)) r
     (rw k at (c .before .before .before .before .before .before .write-be .ensures .1)) (rw w at (c .before .before .write-be2 .ensures .1))
-
--- src/write.rt:71:22
-refuse-requires : tie.Need-refuse-requires
-refuse-requires c κs = search needs
-
--- src/write.rt:57:1
-returns-2 : tie.Need-returns-2
-returns-2 c = let a = c .before .before .before .before .args in
-    let l : length (beBytes (a .k) (a .whole) ++ beBytes (a .w) (a .units)) ≡ a .k + a .w = rw (length-append, beBytes-length (a .k) (a .whole), beBytes-length (a .w) (a .units)) in
-    not-wrote (a .buf .now) (beBytes (a .k) (a .whole) ++ beBytes (a .w) (a .units)) (a .at) (a .k + a .w) _ l (no-room _ _ _ _ (c .before .before .has-room .ensures) (c .before .if1 .left)) (c .refuse .ensures)
 
 pub write-two-spec : {M : Type 1} → statement M
 write-two-spec =
@@ -69,11 +61,11 @@ write-two-spec =
     (tie.spec
     add-size
     has-room-requires
+    refuse-requires
+    returns
     write-be-requires
     add-middle
     write-be-requires-2
     add-next
     same-length
-    returns
-    refuse-requires
     returns-2)
