@@ -1,0 +1,15 @@
+-- `value::column::is_just` meets its contract. Assumes nothing.
+use Rattle.wire.proofs.Rules.{tests}
+use Rattle.value.proofs.column.is_just.Statement.{statement}
+use Rattle.value.proofs.column.is_just.Tie as tie
+use Rattle.value.proofs.column.is_just.Reads as reads
+use Rattle.value.proofs.column.is_just.Lts as lts
+
+returns : tie.Need-returns
+returns c = search tests
+
+returns-2 : tie.Need-returns-2
+returns-2 c = search tests
+
+pub is-just-spec : {M : Type 1} → statement M
+is-just-spec = tie.close (tie.spec returns returns-2)
