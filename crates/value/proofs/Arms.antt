@@ -55,7 +55,8 @@ each f (suc n) = f n && each f n
 pub below : (f : ℕ → Bool) (n : ℕ) → T (each f n) → (k : ℕ) → k < n → T (f k)
 below f zero t k h = absurd (not-suc-le-zero h)
 below f (suc n) t k h =
-    ⊎-elim (λ (e : k ≡ n). subst (λ (y : ℕ). T (f y)) (sym e) (left (f n) (each f n) t)) (λ (l : k < n). below f n (right (f n) (each f n) t) k l)
+    ⊎-elim (λ (e : k ≡ n). subst (λ (y : ℕ). T (f y)) (sym e) (left (f n) (each f n) t))
+    (λ (l : k < n). below f n (right (f n) (each f n) t) k l)
     (eq-or-lt-of-le (le-of-suc-le-suc h))
 
 pub or-false : (b : Bool) → (b || false) ≡ b
@@ -82,7 +83,11 @@ nth (f ∷ fs) zero = f
 nth (f ∷ fs) (suc n) = nth fs n
 
 abbrev pub sample : ℕ → Family
-sample n = nth (Integer 0 ∷ Float ∷ Double ∷ Year ∷ Timestamp ∷ Date ∷ Time ∷ Datetime ∷ Timestamp2 ∷ Datetime2 ∷ Time2 ∷ Varchar ∷ Char ∷ Blob ∷ Json ∷ Bit ∷ Decimal ∷ Enum ∷ Set ∷ []) n
+sample n =
+    nth
+    (Integer 0 ∷ Float ∷ Double ∷ Year ∷ Timestamp ∷ Date ∷ Time ∷ Datetime ∷ Timestamp2 ∷
+    Datetime2 ∷ Time2 ∷ Varchar ∷ Char ∷ Blob ∷ Json ∷ Bit ∷ Decimal ∷ Enum ∷ Set ∷ [])
+    n
 
 -- what does not depend on an integer's width is told by the tag
 by-tag : {A : Type 0} (g : Family → A) → ((k : ℕ) → g (Integer k) ≡ g (Integer 0)) → (f : Family) → g f ≡ g (sample (tagOf the-type f))
@@ -108,11 +113,23 @@ by-tag g h Set = refl
 by-tag g h Unknown = refl
 
 -- so an arm that has the same answer at each of its keys has it at the value
-pub number-at : (g : Family → ℕ) (n : ℕ) (ks : List ℕ) (f : Family) → ((k : ℕ) → g (Integer k) ≡ g (Integer 0)) → T (every (λ (t : ℕ). eqb (g (sample t)) n) ks) → OneOf ks (tagOf the-type f) → g f ≡ n
-number-at g n ks f w t o = by-tag g w f ∙ eqb→eq (g (sample (tagOf the-type f))) n (at-keys (λ (t : ℕ). eqb (g (sample t)) n) ks (tagOf the-type f) t o)
+pub number-at :
+    (g : Family → ℕ) (n : ℕ) (ks : List ℕ) (f : Family) →
+    ((k : ℕ) → g (Integer k) ≡ g (Integer 0)) →
+    T (every (λ (t : ℕ). eqb (g (sample t)) n) ks) → OneOf ks (tagOf the-type f) → g f ≡ n
+number-at g n ks f w t o =
+    let x = tagOf the-type f in
+    by-tag g w f ∙ eqb→eq (g (sample x)) n (at-keys (λ (t : ℕ). eqb (g (sample t)) n) ks x t o)
 
-pub test-at : (g : Family → Bool) (a : Bool) (ks : List ℕ) (f : Family) → ((k : ℕ) → g (Integer k) ≡ g (Integer 0)) → T (every (λ (t : ℕ). same (g (sample t)) a) ks) → OneOf ks (tagOf the-type f) → g f ≡ a
-test-at g a ks f w t o = by-tag g w f ∙ same→eq (g (sample (tagOf the-type f))) a (at-keys (λ (t : ℕ). same (g (sample t)) a) ks (tagOf the-type f) t o)
+pub test-at :
+    (g : Family → Bool) (a : Bool) (ks : List ℕ) (f : Family) →
+    ((k : ℕ) → g (Integer k) ≡ g (Integer 0)) →
+    T (every (λ (t : ℕ). same (g (sample t)) a) ks) → OneOf ks (tagOf the-type f) → g f ≡ a
+test-at g a ks f w t o =
+    let x = tagOf the-type f in
+    by-tag g w f ∙ same→eq (g (sample x)) a (at-keys (λ (t : ℕ). same (g (sample t)) a) ks x t o)
 
 pub taken-at : (ks : List ℕ) (sh : Shape) → T (every (λ (t : ℕ). ltb t 8) ks) → OneOf ks (tagOf shape-type sh) → isTaken sh ≡ true
-taken-at ks sh t o = taken-by-tag sh ∙ sym (same→eq true (ltb (tagOf shape-type sh) 8) (at-keys (λ (t : ℕ). ltb t 8) ks (tagOf shape-type sh) t o))
+taken-at ks sh t o =
+    let x = tagOf shape-type sh in
+    taken-by-tag sh ∙ sym (same→eq true (ltb x 8) (at-keys (λ (t : ℕ). ltb t 8) ks x t o))

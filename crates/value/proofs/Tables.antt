@@ -23,7 +23,9 @@ use Rattle.value.proofs.Arms.{below, left, right}
 -- ---- the table of a decimal's leftover digits
 pub leftover-rule : (digits : ℕ) → digits < 9 → leftoverBytes digits ≡ (digits + 1) / 2
 unfolding leftoverBytes
-leftover-rule digits h = eqb→eq (leftoverBytes digits) ((digits + 1) / 2) (below (λ (d : ℕ). eqb (leftoverBytes d) ((d + 1) / 2)) 9 tt digits h)
+leftover-rule digits h =
+    eqb→eq (leftoverBytes digits) ((digits + 1) / 2)
+    (below (λ (d : ℕ). eqb (leftoverBytes d) ((d + 1) / 2)) 9 tt digits h)
 
 pub digits-size : (digits : ℕ) → digitsBytes digits ≡ digits / 9 * 4 + (digits % 9 + 1) / 2
 digits-size digits = rw (leftover-rule (digits % 9) (omega arith)) refl
@@ -37,31 +39,25 @@ pick : {A : Type 0} (P : A → Type 0) (b : Bool) {x y : A} → (T b → P x) �
 pick P true p q = p tt
 pick P false p q = q
 
--- ---- the widths of integers
+-- ---- what holds of the shape of a column
+abbrev Fine : Shape → Type 0
+Fine (Unsigned k) = (0 < k) × (k ≤ 8)
+Fine (Signed k) = (0 < k) × (k ≤ 8)
+Fine FloatBits = Unit {0}
+Fine DoubleBits = Unit {0}
+Fine YearByte = Unit {0}
+Fine (Timed k) = Unit {0}
+Fine (Fixed n) = 0 < n
+Fine (Counted k) = (0 < k) × (k ≤ 4)
+Fine (NotTaken n) = Unit {0}
+
+-- ---- the widths of integers, told by the shape of an unsigned column
 abbrev Width : Family → Type 0
-Width (Integer k) = (0 < k) × (k ≤ 8)
-Width Float = Unit {0}
-Width Double = Unit {0}
-Width Year = Unit {0}
-Width Timestamp = Unit {0}
-Width Date = Unit {0}
-Width Time = Unit {0}
-Width Datetime = Unit {0}
-Width Timestamp2 = Unit {0}
-Width Datetime2 = Unit {0}
-Width Time2 = Unit {0}
-Width Varchar = Unit {0}
-Width Char = Unit {0}
-Width Blob = Unit {0}
-Width Json = Unit {0}
-Width Bit = Unit {0}
-Width Decimal = Unit {0}
-Width Enum = Unit {0}
-Width Set = Unit {0}
-Width Unknown = Unit {0}
+unfolding shapeIn
+Width f = Fine (shapeIn f 0 0 true)
 
 width-of : (t : ℕ) → Width (familyOf t)
-unfolding familyOf
+unfolding familyOf shapeIn
 width-of t =
     (pick Width (eqb t 1) (λ e. (omega arith, omega arith))
     (pick Width (eqb t 2) (λ e. (omega arith, omega arith))
@@ -76,7 +72,7 @@ width-of t =
     (pick Width (eqb t 12) (λ e. tt)
     (pick Width (eqb t 13) (λ e. tt)
     (pick Width (eqb t 14) (λ e. tt)
-    (pick Width (eqb t 15) (λ e. tt)
+    (pick Width (eqb t 15) (λ e. (omega arith, omega arith))
     (pick Width (eqb t 16) (λ e. tt)
     (pick Width (eqb t 17) (λ e. tt)
     (pick Width (eqb t 18) (λ e. tt)
@@ -88,24 +84,14 @@ width-of t =
     (pick Width (eqb t 248) (λ e. tt)
     (pick Width (ltb t 249) (λ e. tt)
     (pick Width (leb t 252) (λ e. tt)
-    (pick Width (eqb t 253) (λ e. tt)
+    (pick Width (eqb t 253) (λ e. (omega arith, omega arith))
     (pick Width (eqb t 254) (λ e. tt)
     (pick Width (eqb t 255) (λ e. tt) tt))))))))))))))))))))))))))))
 
--- ---- what holds of the shape of a column
-abbrev Fine : Shape → Type 0
-Fine (Unsigned k) = (0 < k) × (k ≤ 8)
-Fine (Signed k) = (0 < k) × (k ≤ 8)
-Fine FloatBits = Unit {0}
-Fine DoubleBits = Unit {0}
-Fine YearByte = Unit {0}
-Fine (Timed k) = Unit {0}
-Fine (Fixed n) = 0 < n
-Fine (Counted k) = (0 < k) × (k ≤ 4)
-Fine (NotTaken n) = Unit {0}
-
+-- ---- every column
 one-or-two : (declared : ℕ) → Fine (Counted (lengthBytes declared))
-one-or-two declared = pick (λ (k : ℕ). (0 < k) × (k ≤ 4)) (ltb declared 256) (λ e. (omega arith, omega arith)) (omega arith, omega arith)
+one-or-two declared =
+    pick (λ (k : ℕ). (0 < k) × (k ≤ 4)) (ltb declared 256) (λ e. (omega arith, omega arith)) (omega arith, omega arith)
 
 fine-in : (f : Family) (m0 m1 : ℕ) (u : Bool) → Width f → Fine (shapeIn f m0 m1 u)
 unfolding shapeIn
@@ -143,7 +129,9 @@ fine-in Unknown m0 m1 u w = tt
 
 fine : (c : Column) → Fine (shapeOf c)
 unfolding shapeOf
-fine c = pick Fine (eqb (c .kind) 10) (λ e. tt) (fine-in (familyOf (c .kind)) (c .m0) (c .m1) (c .unsigned) (width-of (c .kind)))
+fine c =
+    pick Fine (eqb (c .kind) 10) (λ e. tt)
+    (fine-in (familyOf (c .kind)) (c .m0) (c .m1) (c .unsigned) (width-of (c .kind)))
 
 -- every column's shape has a width that there is
 sized-of : (sh : Shape) → Fine sh → Sized sh
@@ -191,7 +179,9 @@ pub above : (t : ℕ) → (t < 249 → ⊥) → (t ≡ 249 → ⊥) → (t ≡ 2
 above t h a b c d = (omega arith, omega arith)
 
 -- ---- a column's shape is its family's, where its type is a real type
-pub by-family : (c : Column) (f : Family) → (c .kind ≡ 10 → ⊥) → f ≡ familyOf (c .kind) → shapeIn f (c .m0) (c .m1) (c .unsigned) ≡ shapeOf c
+pub by-family :
+    (c : Column) (f : Family) → (c .kind ≡ 10 → ⊥) → f ≡ familyOf (c .kind) →
+    shapeIn f (c .m0) (c .m1) (c .unsigned) ≡ shapeOf c
 unfolding shapeOf
 by-family c f h e =
     ap (λ (g : Family). shapeIn g (c .m0) (c .m1) (c .unsigned)) e

@@ -151,7 +151,7 @@ fn or_30(m0: u8) -> u8
     m0 / 64 * 64 + 48 + m0 % 16
 }
 
-// What a column of the type is: 254 is told by m0.
+// The real type of a column of the type, which is told by m0 for 254 (TableMapEvent::get_real_type).
 pub fn real_type(kind: u8, m0: u8) -> u8
     ensures { λ r. ⌜ r ≡ realType kind m0 ⌝ }
 {
@@ -203,34 +203,30 @@ fn decimal_bytes(precision: u8, scale: u8) -> usize
     digits_bytes(precision - scale) + digits_bytes(scale)
 }
 
-// Whether the metadata are the one byte told, and no other.
-fn is_just(m0: u8, m1: u8, told: u8) -> bool
-    ensures { λ r. ⌜ r ≡ (eqb m0 told && eqb m1 0) ⌝ }
+// The shape, if the metadata are the one byte told.
+fn if_just(m0: u8, m1: u8, told: u8, shape: Shape) -> Shape
+    ensures { λ r. ⌜ r ≡ given (eqb m0 told && eqb m1 0) shape ⌝ }
 {
-    if m0 == told {
-        return m1 == 0;
+    if m0 != told {
+        return Shape::NotTaken(BAD_METADATA);
     }
-    false
+    if m1 != 0 {
+        return Shape::NotTaken(BAD_METADATA);
+    }
+    shape
 }
 
-// Whether the metadata are one byte, a number of fraction digits.
-fn is_scale(m0: u8, m1: u8) -> bool
-    ensures { λ r. ⌜ r ≡ (leb m0 6 && eqb m1 0) ⌝ }
+// The shape, if the metadata are one byte, a number of fraction digits.
+fn if_digits(m0: u8, m1: u8, shape: Shape) -> Shape
+    ensures { λ r. ⌜ r ≡ given (leb m0 6 && eqb m1 0) shape ⌝ }
 {
-    if m0 <= 6 {
-        return m1 == 0;
+    if 6 < m0 {
+        return Shape::NotTaken(BAD_METADATA);
     }
-    false
-}
-
-// The shape, if the metadata are accepted.
-fn if_accepted(accepted: bool, shape: Shape) -> Shape
-    ensures { λ r. ⌜ r ≡ given accepted shape ⌝ }
-{
-    if accepted {
-        return shape;
+    if m1 != 0 {
+        return Shape::NotTaken(BAD_METADATA);
     }
-    Shape::NotTaken(BAD_METADATA)
+    shape
 }
 
 fn integer_shape(width: usize, unsigned: bool) -> Shape
@@ -332,24 +328,21 @@ fn shape_in(family: Family, m0: u8, m1: u8, unsigned: bool) -> Shape
     ensures { λ r. ⌜ r ≡ shapeIn family m0 m1 unsigned ⌝ }
 {
     match family {
-        Family::Integer { width } => if_accepted(
-            is_just(m0, m1, 0),
-            integer_shape(width, unsigned),
-        ),
-        Family::Float => if_accepted(is_just(m0, m1, 4), Shape::FloatBits),
-        Family::Double => if_accepted(is_just(m0, m1, 8), Shape::DoubleBits),
-        Family::Year => if_accepted(is_just(m0, m1, 0), Shape::YearByte),
-        Family::Timestamp => if_accepted(is_just(m0, m1, 0), Shape::Timed(Kind::Timestamp)),
-        Family::Date => if_accepted(is_just(m0, m1, 0), Shape::Timed(Kind::Newdate)),
-        Family::Time => if_accepted(is_just(m0, m1, 0), Shape::Timed(Kind::OldTime)),
-        Family::Datetime => if_accepted(is_just(m0, m1, 0), Shape::Timed(Kind::OldDatetime)),
-        Family::Timestamp2 => if_accepted(is_scale(m0, m1), Shape::Timed(Kind::Timestamp2 { m0 })),
-        Family::Datetime2 => if_accepted(is_scale(m0, m1), Shape::Timed(Kind::Datetime2 { m0 })),
-        Family::Time2 => if_accepted(is_scale(m0, m1), Shape::Timed(Kind::Time2 { m0 })),
+        Family::Integer { width } => if_just(m0, m1, 0, integer_shape(width, unsigned)),
+        Family::Float => if_just(m0, m1, 4, Shape::FloatBits),
+        Family::Double => if_just(m0, m1, 8, Shape::DoubleBits),
+        Family::Year => if_just(m0, m1, 0, Shape::YearByte),
+        Family::Timestamp => if_just(m0, m1, 0, Shape::Timed(Kind::Timestamp)),
+        Family::Date => if_just(m0, m1, 0, Shape::Timed(Kind::Newdate)),
+        Family::Time => if_just(m0, m1, 0, Shape::Timed(Kind::OldTime)),
+        Family::Datetime => if_just(m0, m1, 0, Shape::Timed(Kind::OldDatetime)),
+        Family::Timestamp2 => if_digits(m0, m1, Shape::Timed(Kind::Timestamp2 { m0 })),
+        Family::Datetime2 => if_digits(m0, m1, Shape::Timed(Kind::Datetime2 { m0 })),
+        Family::Time2 => if_digits(m0, m1, Shape::Timed(Kind::Time2 { m0 })),
         Family::Varchar => Shape::Counted(length_bytes(wide(m0) + 256 * wide(m1))),
         Family::Char => char_shape(m0, m1),
         Family::Blob => blob_shape(m0, m1),
-        Family::Json => if_accepted(is_just(m0, m1, 4), Shape::Counted(4)),
+        Family::Json => if_just(m0, m1, 4, Shape::Counted(4)),
         Family::Bit => bit_shape(m0, m1),
         Family::Decimal => decimal_shape(m0, m1),
         Family::Enum => enum_shape(m1),

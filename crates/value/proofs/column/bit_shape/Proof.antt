@@ -1,4 +1,4 @@
--- `value::column::bit_shape` meets its contract. The two numbers make one, and omega reads the tests of it. Assumes nothing.
+-- `value::column::bit_shape` meets its contract. The two bytes make one number, which the tests are of. Assumes nothing.
 use Rattle.wire.proofs.Rules.{tests}
 use Rattle.value.specs.Columns.{shapeIn}
 use Prim.Native.Nat.{_+_, _*_, _<_, _≤_}

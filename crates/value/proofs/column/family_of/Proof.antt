@@ -134,7 +134,11 @@ returns-31 : tie.Need-returns-31
 unfolding familyOf
 returns-31 c = let t = c .before .args .kind in
     dite (decLt t 249) (λ (l : t < 249). search tests)
-    (λ (l : t < 249 → ⊥). let b = above t l (c .match .rest .0 .0 .0 .0 .0 .0 .1) (c .match .rest .0 .0 .0 .0 .0 .1) (c .match .rest .0 .0 .0 .0 .1) (c .match .rest .0 .0 .0 .1) in let g : 249 ≤ t = b .0 in let h : 252 < t = b .1 in search tests)
+    (λ (l : t < 249 → ⊥). let r = c .match .rest .0 .0 .0 in
+    let b = above t l (r .0 .0 .0 .1) (r .0 .0 .1) (r .0 .1) (r .1) in
+    let g : 249 ≤ t = b .0 in
+    let h : 252 < t = b .1 in
+    search tests)
 
 pub family-of-spec : {M : Type 1} → statement M
 family-of-spec =

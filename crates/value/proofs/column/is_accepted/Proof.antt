@@ -1,4 +1,4 @@
--- `value::column::is_accepted` meets its contract. The arms' variants have the same answer. Assumes nothing.
+-- `value::column::is_accepted` meets its contract. Each arm's variants have the same answer. Assumes nothing.
 use Rattle.value.specs.Columns.{isTaken}
 use mathlib.Core.Path.{sym, refl, _∙_}
 use Rattle.value.proofs.Arms.{taken-at}

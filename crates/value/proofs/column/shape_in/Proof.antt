@@ -1,4 +1,4 @@
--- `value::column::shape_in` meets its contract. One line for each family. Assumes nothing.
+-- `value::column::shape_in` meets its contract. A line for each family. Assumes nothing.
 use mathlib.Core.Path.{refl}
 use Rattle.value.specs.Columns.{shapeIn}
 use borrow.Author.Needs.{needs}
@@ -11,10 +11,9 @@ use Rattle.value.proofs.column.blob_shape.Reads as blob-shape-reads
 use Rattle.value.proofs.column.char_shape.Reads as char-shape-reads
 use Rattle.value.proofs.column.decimal_shape.Reads as decimal-shape-reads
 use Rattle.value.proofs.column.enum_shape.Reads as enum-shape-reads
-use Rattle.value.proofs.column.if_accepted.Reads as if-accepted-reads
+use Rattle.value.proofs.column.if_digits.Reads as if-digits-reads
+use Rattle.value.proofs.column.if_just.Reads as if-just-reads
 use Rattle.value.proofs.column.integer_shape.Reads as integer-shape-reads
-use Rattle.value.proofs.column.is_just.Reads as is-just-reads
-use Rattle.value.proofs.column.is_scale.Reads as is-scale-reads
 use Rattle.value.proofs.column.length_bytes.Reads as length-bytes-reads
 use Rattle.value.proofs.column.set_shape.Reads as set-shape-reads
 use Rattle.value.proofs.column.wide.Reads as wide-reads
@@ -22,104 +21,71 @@ use Rattle.value.proofs.column.wide.Reads as wide-reads
 enum-known-family : tie.Need-enum-known-family
 enum-known-family c = search needs
 
-is-just-requires : tie.Need-is-just-requires
-is-just-requires c κs = search needs
-
 integer-shape-requires : tie.Need-integer-shape-requires
 integer-shape-requires c κs = search needs
 
-if-accepted-requires : tie.Need-if-accepted-requires
-if-accepted-requires c κs = search needs
+if-just-requires : tie.Need-if-just-requires
+if-just-requires c κs = search needs
 
 enum-told : tie.Need-enum-told
 enum-told c = search needs
 
-is-just-requires-2 : tie.Need-is-just-requires-2
-is-just-requires-2 c κs = search needs
-
-if-accepted-requires-2 : tie.Need-if-accepted-requires-2
-if-accepted-requires-2 c κs = search needs
+if-just-requires-2 : tie.Need-if-just-requires-2
+if-just-requires-2 c κs = search needs
 
 enum-told-2 : tie.Need-enum-told-2
 enum-told-2 c = search needs
 
-is-just-requires-3 : tie.Need-is-just-requires-3
-is-just-requires-3 c κs = search needs
-
-if-accepted-requires-3 : tie.Need-if-accepted-requires-3
-if-accepted-requires-3 c κs = search needs
+if-just-requires-3 : tie.Need-if-just-requires-3
+if-just-requires-3 c κs = search needs
 
 enum-told-3 : tie.Need-enum-told-3
 enum-told-3 c = search needs
 
-is-just-requires-4 : tie.Need-is-just-requires-4
-is-just-requires-4 c κs = search needs
-
-if-accepted-requires-4 : tie.Need-if-accepted-requires-4
-if-accepted-requires-4 c κs = search needs
+if-just-requires-4 : tie.Need-if-just-requires-4
+if-just-requires-4 c κs = search needs
 
 enum-told-4 : tie.Need-enum-told-4
 enum-told-4 c = search needs
 
-is-just-requires-5 : tie.Need-is-just-requires-5
-is-just-requires-5 c κs = search needs
-
-if-accepted-requires-5 : tie.Need-if-accepted-requires-5
-if-accepted-requires-5 c κs = search needs
+if-just-requires-5 : tie.Need-if-just-requires-5
+if-just-requires-5 c κs = search needs
 
 enum-told-5 : tie.Need-enum-told-5
 enum-told-5 c = search needs
 
-is-just-requires-6 : tie.Need-is-just-requires-6
-is-just-requires-6 c κs = search needs
-
-if-accepted-requires-6 : tie.Need-if-accepted-requires-6
-if-accepted-requires-6 c κs = search needs
+if-just-requires-6 : tie.Need-if-just-requires-6
+if-just-requires-6 c κs = search needs
 
 enum-told-6 : tie.Need-enum-told-6
 enum-told-6 c = search needs
 
-is-just-requires-7 : tie.Need-is-just-requires-7
-is-just-requires-7 c κs = search needs
-
-if-accepted-requires-7 : tie.Need-if-accepted-requires-7
-if-accepted-requires-7 c κs = search needs
+if-just-requires-7 : tie.Need-if-just-requires-7
+if-just-requires-7 c κs = search needs
 
 enum-told-7 : tie.Need-enum-told-7
 enum-told-7 c = search needs
 
-is-just-requires-8 : tie.Need-is-just-requires-8
-is-just-requires-8 c κs = search needs
-
-if-accepted-requires-8 : tie.Need-if-accepted-requires-8
-if-accepted-requires-8 c κs = search needs
+if-just-requires-8 : tie.Need-if-just-requires-8
+if-just-requires-8 c κs = search needs
 
 enum-told-8 : tie.Need-enum-told-8
 enum-told-8 c = search needs
 
-is-scale-requires : tie.Need-is-scale-requires
-is-scale-requires c κs = search needs
-
-if-accepted-requires-9 : tie.Need-if-accepted-requires-9
-if-accepted-requires-9 c κs = search needs
+if-digits-requires : tie.Need-if-digits-requires
+if-digits-requires c κs = search needs
 
 enum-told-9 : tie.Need-enum-told-9
 enum-told-9 c = search needs
 
-is-scale-requires-2 : tie.Need-is-scale-requires-2
-is-scale-requires-2 c κs = search needs
-
-if-accepted-requires-10 : tie.Need-if-accepted-requires-10
-if-accepted-requires-10 c κs = search needs
+if-digits-requires-2 : tie.Need-if-digits-requires-2
+if-digits-requires-2 c κs = search needs
 
 enum-told-10 : tie.Need-enum-told-10
 enum-told-10 c = search needs
 
-is-scale-requires-3 : tie.Need-is-scale-requires-3
-is-scale-requires-3 c κs = search needs
-
-if-accepted-requires-11 : tie.Need-if-accepted-requires-11
-if-accepted-requires-11 c κs = search needs
+if-digits-requires-3 : tie.Need-if-digits-requires-3
+if-digits-requires-3 c κs = search needs
 
 enum-told-11 : tie.Need-enum-told-11
 enum-told-11 c = search needs
@@ -154,11 +120,8 @@ blob-shape-requires c κs = search needs
 enum-told-14 : tie.Need-enum-told-14
 enum-told-14 c = search needs
 
-is-just-requires-9 : tie.Need-is-just-requires-9
-is-just-requires-9 c κs = search needs
-
-if-accepted-requires-12 : tie.Need-if-accepted-requires-12
-if-accepted-requires-12 c κs = search needs
+if-just-requires-9 : tie.Need-if-just-requires-9
+if-just-requires-9 c κs = search needs
 
 enum-told-15 : tie.Need-enum-told-15
 enum-told-15 c = search needs
@@ -189,47 +152,47 @@ enum-told-19 c = search needs
 
 returns : tie.Need-returns
 unfolding shapeIn
-returns c = rw (c .before .before .before .before .family .given .1, c .if-accepted .ensures, c .before .before .is-just .ensures, c .before .integer-shape .ensures) refl
+returns c = rw (c .before .before .before .family .given .1, c .if-just .ensures, c .before .integer-shape .ensures) refl
 
 returns-2 : tie.Need-returns-2
 unfolding shapeIn
-returns-2 c = rw (c .before .before .enum-told .given .1, c .if-accepted2 .ensures, c .before .is-just2 .ensures) refl
+returns-2 c = rw (c .before .enum-told .given .1) (c .if-just2 .ensures)
 
 returns-3 : tie.Need-returns-3
 unfolding shapeIn
-returns-3 c = rw (c .before .before .enum-told2 .given .1, c .if-accepted3 .ensures, c .before .is-just3 .ensures) refl
+returns-3 c = rw (c .before .enum-told2 .given .1) (c .if-just3 .ensures)
 
 returns-4 : tie.Need-returns-4
 unfolding shapeIn
-returns-4 c = rw (c .before .before .enum-told3 .given .1, c .if-accepted4 .ensures, c .before .is-just4 .ensures) refl
+returns-4 c = rw (c .before .enum-told3 .given .1) (c .if-just4 .ensures)
 
 returns-5 : tie.Need-returns-5
 unfolding shapeIn
-returns-5 c = rw (c .before .before .enum-told4 .given .1, c .if-accepted5 .ensures, c .before .is-just5 .ensures) refl
+returns-5 c = rw (c .before .enum-told4 .given .1) (c .if-just5 .ensures)
 
 returns-6 : tie.Need-returns-6
 unfolding shapeIn
-returns-6 c = rw (c .before .before .enum-told5 .given .1, c .if-accepted6 .ensures, c .before .is-just6 .ensures) refl
+returns-6 c = rw (c .before .enum-told5 .given .1) (c .if-just6 .ensures)
 
 returns-7 : tie.Need-returns-7
 unfolding shapeIn
-returns-7 c = rw (c .before .before .enum-told6 .given .1, c .if-accepted7 .ensures, c .before .is-just7 .ensures) refl
+returns-7 c = rw (c .before .enum-told6 .given .1) (c .if-just7 .ensures)
 
 returns-8 : tie.Need-returns-8
 unfolding shapeIn
-returns-8 c = rw (c .before .before .enum-told7 .given .1, c .if-accepted8 .ensures, c .before .is-just8 .ensures) refl
+returns-8 c = rw (c .before .enum-told7 .given .1) (c .if-just8 .ensures)
 
 returns-9 : tie.Need-returns-9
 unfolding shapeIn
-returns-9 c = rw (c .before .before .enum-told8 .given .1, c .if-accepted9 .ensures, c .before .is-scale .ensures) refl
+returns-9 c = rw (c .before .enum-told8 .given .1) (c .if-digits .ensures)
 
 returns-10 : tie.Need-returns-10
 unfolding shapeIn
-returns-10 c = rw (c .before .before .enum-told9 .given .1, c .if-accepted10 .ensures, c .before .is-scale2 .ensures) refl
+returns-10 c = rw (c .before .enum-told9 .given .1) (c .if-digits2 .ensures)
 
 returns-11 : tie.Need-returns-11
 unfolding shapeIn
-returns-11 c = rw (c .before .before .enum-told10 .given .1, c .if-accepted11 .ensures, c .before .is-scale3 .ensures) refl
+returns-11 c = rw (c .before .enum-told10 .given .1) (c .if-digits3 .ensures)
 
 returns-12 : tie.Need-returns-12
 unfolding shapeIn
@@ -245,7 +208,7 @@ returns-14 c = rw (c .before .enum-told13 .given .1) (c .blob-shape .ensures)
 
 returns-15 : tie.Need-returns-15
 unfolding shapeIn
-returns-15 c = rw (c .before .before .enum-told14 .given .1, c .if-accepted12 .ensures, c .before .is-just9 .ensures) refl
+returns-15 c = rw (c .before .enum-told14 .given .1) (c .if-just9 .ensures)
 
 returns-16 : tie.Need-returns-16
 unfolding shapeIn
@@ -272,39 +235,28 @@ shape-in-spec =
     tie.close
     (tie.spec
     enum-known-family
-    is-just-requires
     integer-shape-requires
-    if-accepted-requires
+    if-just-requires
     enum-told
-    is-just-requires-2
-    if-accepted-requires-2
+    if-just-requires-2
     enum-told-2
-    is-just-requires-3
-    if-accepted-requires-3
+    if-just-requires-3
     enum-told-3
-    is-just-requires-4
-    if-accepted-requires-4
+    if-just-requires-4
     enum-told-4
-    is-just-requires-5
-    if-accepted-requires-5
+    if-just-requires-5
     enum-told-5
-    is-just-requires-6
-    if-accepted-requires-6
+    if-just-requires-6
     enum-told-6
-    is-just-requires-7
-    if-accepted-requires-7
+    if-just-requires-7
     enum-told-7
-    is-just-requires-8
-    if-accepted-requires-8
+    if-just-requires-8
     enum-told-8
-    is-scale-requires
-    if-accepted-requires-9
+    if-digits-requires
     enum-told-9
-    is-scale-requires-2
-    if-accepted-requires-10
+    if-digits-requires-2
     enum-told-10
-    is-scale-requires-3
-    if-accepted-requires-11
+    if-digits-requires-3
     enum-told-11
     wide-requires
     wide-requires-2
@@ -316,8 +268,7 @@ shape-in-spec =
     enum-told-13
     blob-shape-requires
     enum-told-14
-    is-just-requires-9
-    if-accepted-requires-12
+    if-just-requires-9
     enum-told-15
     bit-shape-requires
     enum-told-16
