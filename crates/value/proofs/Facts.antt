@@ -20,6 +20,7 @@ use Rattle.wire.proofs.Signs.{signs-back, signs-sound, bytes-even}
 use Rattle.temporal.specs.declared.kind.Kind.{Kind}
 use Rattle.temporal.specs.Domains.{domain as timedDomain}
 use Rattle.temporal.specs.Reading.{sizeOf, decode as timedDecode, fault as timedFault, bytesOf as timedBytes}
+use Rattle.temporal.proofs.Forms.{sized as timed-sized, back as timed-back, sound as timed-sound}
 use Rattle.value.specs.declared.shape.Shape.{Shape}
 use Rattle.value.specs.declared.shape.Shape.the-variants.{Unsigned, Signed, FloatBits, DoubleBits, YearByte, Timed, Fixed, Counted, NotTaken}
 use Rattle.value.specs.Data.{Datum, null, int, uint, float, double, year, when, bytes, tag, intIn, numberIn, whenIn, bytesIn}
@@ -77,7 +78,7 @@ need-bytes (Signed k) d rest h = sym (leBytes-length k (twosOf (256 ^ k) (intIn 
 need-bytes FloatBits d rest h = sym (leBytes-length 4 (numberIn d))
 need-bytes DoubleBits d rest h = sym (leBytes-length 8 (numberIn d))
 need-bytes YearByte d rest h = sym (leBytes-length 1 (numberIn d - 1900))
-need-bytes (Timed k) d rest h = ?
+need-bytes (Timed k) d rest h = sym (timed-sized k (whenIn d))
 need-bytes (Fixed n) d rest h = sym (eqb-true (length (bytesIn d)) n (sorted d 7 _ h .1))
 need-bytes (Counted k) d rest h = counted-need k (bytesIn d) rest (ltb-true (length (bytesIn d)) (256 ^ k) (sorted d 7 _ h .1))
 need-bytes (NotTaken n) d rest h = refl
@@ -100,7 +101,7 @@ decode-bytes (Signed k) d h =
 decode-bytes FloatBits d h = let w = sorted d 3 _ h in ap float (le-back 4 (numberIn d) (ltb-true (numberIn d) (256 ^ 4) (w .1))) ∙ w .0
 decode-bytes DoubleBits d h = let w = sorted d 4 _ h in ap double (le-back 8 (numberIn d) (ltb-true (numberIn d) (256 ^ 8) (w .1))) ∙ w .0
 decode-bytes YearByte d h = let w = sorted d 5 _ h in ap year (year-back (numberIn d) (w .1)) ∙ w .0
-decode-bytes (Timed k) d h = ?
+decode-bytes (Timed k) d h = let w = sorted d 6 _ h in ap when (timed-back k (whenIn d) (w .1) .1) ∙ w .0
 decode-bytes (Fixed n) d h = sorted d 7 _ h .0
 decode-bytes (Counted k) d h = ap bytes (drop-at (leBytes k (length (bytesIn d))) (bytesIn d) k (leBytes-length k (length (bytesIn d)))) ∙ sorted d 7 _ h .0
 decode-bytes (NotTaken n) d h = let z : _≡_ {A = ℕ} 0 1 = cc in absurd (omega arith)
@@ -112,7 +113,7 @@ fault-bytes (Signed k) d h = refl
 fault-bytes FloatBits d h = refl
 fault-bytes DoubleBits d h = refl
 fault-bytes YearByte d h = refl
-fault-bytes (Timed k) d h = ?
+fault-bytes (Timed k) d h = timed-back k (whenIn d) (sorted d 6 _ h .1) .0
 fault-bytes (Fixed n) d h = refl
 fault-bytes (Counted k) d h = refl
 fault-bytes (NotTaken n) d h = refl
@@ -162,7 +163,7 @@ whole YearByte b z h n r t =
     let w = number-whole 1 b h n in
     let e : 1900 + leValue b - 1900 ≡ leValue b = omega arith in
     (year-whole (leValue b) (w .0), ap (leBytes 1) e ∙ w .1)
-whole (Timed k) b z h n r t = ?
+whole (Timed k) b z h n r t = timed-sound k b (sym n) h r
 whole (Fixed n) b z h e r t = (eq-eqb (length b) n (sym e), refl)
 whole (Counted k) b z h n r t = counted-whole k b h n
 whole (NotTaken n) b z h e r t = let z : _≡_ {A = ℕ} 0 1 = cc in absurd (omega arith)

@@ -47,6 +47,29 @@ familyOf t =
     (cond (eqb t 255) Blob
     Unknown)))))))))))))))))))))))))))
 
+-- whether there is such a type
+unfoldable pub isKnown : Family → Bool
+isKnown (Integer k) = true
+isKnown Float = true
+isKnown Double = true
+isKnown Year = true
+isKnown Timestamp = true
+isKnown Date = true
+isKnown Time = true
+isKnown Datetime = true
+isKnown Timestamp2 = true
+isKnown Datetime2 = true
+isKnown Time2 = true
+isKnown Varchar = true
+isKnown Char = true
+isKnown Blob = true
+isKnown Json = true
+isKnown Bit = true
+isKnown Decimal = true
+isKnown Enum = true
+isKnown Set = true
+isKnown Unknown = false
+
 -- ---- metadata: how many bytes
 unfoldable pub metadataBytes : Family → ℕ
 metadataBytes (Integer k) = 0

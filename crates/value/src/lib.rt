@@ -10,7 +10,73 @@ mod storing;
 pub use column::Column;
 pub use column::Dialect;
 pub use column::Family;
+pub use column::family_of;
+pub use column::has_charset;
+pub use column::has_sign_bit;
+pub use column::is_accepted;
+pub use column::is_character;
+pub use column::is_enum_or_set;
+pub use column::is_known;
+pub use column::is_numeric;
+pub use column::metadata_bytes;
+pub use column::real_type;
+pub use column::shape_of;
 pub use datum::Value;
 pub use reading::Read;
 pub use shape::Shape;
 pub use storing::Size;
+
+use reading::read_shape;
+use storing::size_shape;
+use storing::write_shape;
+use wire::Written;
+ghost use mathlib.Core.Path.{_≡_};
+ghost use Rattle.wire.specs.Stored.{answerOf, leftOf, writtenOf};
+ghost use Rattle.value.specs.Columns.{shapeOf};
+ghost use Rattle.value.specs.Reading.{readValue, readOf};
+ghost use Rattle.value.specs.Storing.{writeValue, sizeOf, sizeSaid};
+
+// ---- a value of a column at a place; `place` is what a refusal tells
+
+// The value that stands at `at` of s.
+pub fn read_value(column: Column, s: &[u8], at: usize, place: usize) -> Read
+    ensures { λ r. ⌜ readOf r ≡ readValue (shapeOf column) place (now (s .entry)) at ⌝ }
+{
+    read_shape(shape_of(column), s, at, place)
+}
+
+// Writes a value from at on; its bytes, if it has any, are in lent.
+pub fn write_value(column: Column, value: Value, lent: &[u8], buf: &mut [u8], at: usize, place: usize) -> Written
+    ensures { λ r. ⌜ writtenOf r ≡ answerOf (writeValue (shapeOf column) place (now (lent .entry)) value (now (buf .entry)) at) ⌝ }
+    ensures { λ _. ⌜ now (buf .exit) ≡ leftOf (now (buf .entry)) (writeValue (shapeOf column) place (now (lent .entry)) value (now (buf .entry)) at) ⌝ }
+{
+    write_shape(shape_of(column), value, lent, buf, at, place)
+}
+
+// How many bytes a value takes.
+pub fn value_size(column: Column, value: Value, lent: &[u8], place: usize) -> Size
+    ensures { λ r. ⌜ sizeSaid r ≡ sizeOf (shapeOf column) place (now (lent .entry)) value ⌝ }
+{
+    size_shape(shape_of(column), value, lent, place)
+}
+
+// ---- a lone value: at the start of what is lent, and every place is 0
+
+pub fn read_lone(column: Column, s: &[u8]) -> Read
+    ensures { λ r. ⌜ readOf r ≡ readValue (shapeOf column) 0 (now (s .entry)) 0 ⌝ }
+{
+    read_value(column, s, 0, 0)
+}
+
+pub fn write_lone(column: Column, value: Value, lent: &[u8], buf: &mut [u8]) -> Written
+    ensures { λ r. ⌜ writtenOf r ≡ answerOf (writeValue (shapeOf column) 0 (now (lent .entry)) value (now (buf .entry)) 0) ⌝ }
+    ensures { λ _. ⌜ now (buf .exit) ≡ leftOf (now (buf .entry)) (writeValue (shapeOf column) 0 (now (lent .entry)) value (now (buf .entry)) 0) ⌝ }
+{
+    write_value(column, value, lent, buf, 0, 0)
+}
+
+pub fn lone_size(column: Column, value: Value, lent: &[u8]) -> Size
+    ensures { λ r. ⌜ sizeSaid r ≡ sizeOf (shapeOf column) 0 (now (lent .entry)) value ⌝ }
+{
+    value_size(column, value, lent, 0)
+}

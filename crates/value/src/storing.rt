@@ -14,12 +14,15 @@ use crate::datum::start_of;
 use crate::datum::tag_of;
 use crate::datum::when_in;
 use crate::shape::Shape;
+use crate::shape::is_taken;
+use crate::shape::refusal_of;
 use crate::signed::in_halves;
 use crate::signed::top;
 use crate::signed::twos;
 use temporal::Kind;
 use wire::Refusal;
 use wire::Written;
+use wire::refusal::NOT_TAKEN;
 use wire::refusal::NO_ROOM;
 ghost use mathlib.Core.Path.{_≡_};
 ghost use mathlib.Core.Bool.{true, _&&_};
@@ -34,7 +37,7 @@ ghost use Rattle.temporal.specs.Domains.{domain as timedDomain};
 ghost use Rattle.value.specs.Data.{tag, intIn, numberIn, whenIn};
 ghost use Rattle.value.specs.Shapes.{Sized, bytesOf};
 ghost use Rattle.value.specs.Reading.{datumOf};
-ghost use Rattle.value.specs.Storing.{startOf, lenOf, isLent, isIn};
+ghost use Rattle.value.specs.Storing.{startOf, lenOf, isLent, isIn, writeValue, sizeOf, sizeSaid};
 
 // How many bytes a value takes, or why a column does not take it.
 pub enum Size {
@@ -185,4 +188,33 @@ pub(crate) fn store_shape(
         Shape::Counted(k) => write_part(k, value, lent, buf, at),
         Shape::NotTaken(n) => Written::Refused(wire::refuse(n, 0)),
     }
+}
+
+// A value stored in a column of the shape: the shape is judged first, then the value, then the room.
+pub(crate) fn write_shape(shape: Shape, value: Value, lent: &[u8], buf: &mut [u8], at: usize, place: usize) -> Written
+    requires { ⌜ Sized shape ⌝ }
+    ensures { λ r. ⌜ writtenOf r ≡ answerOf (writeValue shape place (now (lent .entry)) value (now (buf .entry)) at) ⌝ }
+    ensures { λ _. ⌜ now (buf .exit) ≡ leftOf (now (buf .entry)) (writeValue shape place (now (lent .entry)) value (now (buf .entry)) at) ⌝ }
+{
+    if !is_taken(shape) {
+        return Written::Refused(wire::refuse(refusal_of(shape), place));
+    }
+    if !is_in(shape, value, lent) {
+        return Written::Refused(wire::refuse(NOT_TAKEN, place));
+    }
+    store_shape(shape, value, lent, buf, at)
+}
+
+// How many bytes a value takes in a column of the shape, judged as by the writer.
+pub(crate) fn size_shape(shape: Shape, value: Value, lent: &[u8], place: usize) -> Size
+    requires { ⌜ Sized shape ⌝ }
+    ensures { λ r. ⌜ sizeSaid r ≡ sizeOf shape place (now (lent .entry)) value ⌝ }
+{
+    if !is_taken(shape) {
+        return Size::Refused(wire::refuse(refusal_of(shape), place));
+    }
+    if !is_in(shape, value, lent) {
+        return Size::Refused(wire::refuse(NOT_TAKEN, place));
+    }
+    Size::Takes(size_in(shape, value, lent))
 }

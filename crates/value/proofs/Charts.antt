@@ -1,0 +1,59 @@
+-- Document 01's own facts of column types, computed. Assumes nothing.
+use Prim.Native.Nat.{ℕ}
+use mathlib.Core.Bool.{false}
+use mathlib.Core.Path.{_≡_, refl}
+use Rattle.value.specs.declared.shape.Shape.the-variants.{Unsigned, Fixed, Counted, NotTaken}
+use Rattle.value.specs.declared.column.Column.{Column}
+use Rattle.value.specs.Columns.{realType, charLength, decimalBytes, shapeOf}
+
+-- a column that is not flagged unsigned
+abbrev column : ℕ → ℕ → ℕ → Column
+column t a b = record { kind = t; m0 = a; m1 = b; unsigned = false }
+
+-- "CHAR FE FF: 255, one length byte; EE 00: 256, two"
+char-FE-FF : (charLength 254 255 ≡ 255) × (shapeOf (column 254 254 255) ≡ Counted 1)
+unfolding shapeOf
+char-FE-FF = (refl, refl)
+
+char-EE-00 : (charLength 238 0 ≡ 256) × (shapeOf (column 254 238 0) ≡ Counted 2)
+unfolding shapeOf
+char-EE-00 = (refl, refl)
+
+-- "CHAR with m0 0: ... refused here"
+char-00 : shapeOf (column 254 0 20) ≡ NotTaken 5
+unfolding shapeOf
+char-00 = refl
+
+-- VARCHAR of 255 and of 256
+varchars : (shapeOf (column 15 255 0) ≡ Counted 1) × (shapeOf (column 15 0 1) ≡ Counted 2)
+unfolding shapeOf
+varchars = (refl, refl)
+
+-- eleven integer digits take 4 + 1 bytes, nine fraction digits 4
+decimal-20-9 : (decimalBytes 20 9 ≡ 9) × (shapeOf (column 246 20 9) ≡ Fixed 9)
+unfolding shapeOf decimalBytes
+decimal-20-9 = (refl, refl)
+
+-- BIT(1) has m0 = 1, BIT(64) m1 = 8; there is no BIT(0) and no BIT(65)
+bits : (shapeOf (column 16 1 0) ≡ Fixed 1) × (shapeOf (column 16 0 8) ≡ Fixed 8) × (shapeOf (column 16 0 0) ≡ NotTaken 5) × (shapeOf (column 16 1 8) ≡ NotTaken 5)
+unfolding shapeOf
+bits = (refl, refl, refl, refl)
+
+-- SET of up to 64 members, ENUM of more than 255; m0 is any byte
+sets : (shapeOf (column 248 248 8) ≡ Fixed 8) × (shapeOf (column 248 0 5) ≡ NotTaken 5)
+unfolding shapeOf
+sets = (refl, refl)
+
+enums : (shapeOf (column 247 247 2) ≡ Unsigned 2) × (shapeOf (column 247 0 3) ≡ NotTaken 5)
+unfolding shapeOf
+enums = (refl, refl)
+
+-- 10 is no real type, and 6 no type
+not-types : (shapeOf (column 10 0 0) ≡ NotTaken 4) × (shapeOf (column 6 0 0) ≡ NotTaken 4)
+unfolding shapeOf
+not-types = (refl, refl)
+
+-- the real types of 254 with m0 F7, F8 and CE, and of 10
+real-types : (realType 254 247 ≡ 247) × (realType 254 248 ≡ 248) × (realType 254 206 ≡ 254) × (realType 10 0 ≡ 14)
+unfolding realType
+real-types = (refl, refl, refl, refl)

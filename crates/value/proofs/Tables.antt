@@ -1,0 +1,188 @@
+-- What holds of every column: its shape has a width that there is, and an accepted column's value takes a byte at least. The table of a decimal's
+-- leftover digits has a rule. Assumes nothing.
+use Prim.Native.Nat.{ℕ, _+_, _-_, _*_, _/_, _%_, _≤_, _<_}
+use mathlib.Core.Bool.{Bool, true, false, cond, _&&_, _||_, true≢false}
+use mathlib.Core.List.{List}
+use mathlib.Core.Path.{_≡_, refl, sym, ap, _∙_}
+use borrow.Author.Tests.{ne-eqb}
+use native.Mathlib.Omega.{arith}
+use lib.Dec.{T, leb, ltb, eqb, eqb→eq, leb→le}
+use Rattle.temporal.specs.Reading.{sizeOf}
+use Rattle.temporal.specs.Kinds.{wholeBytes}
+use Rattle.temporal.specs.declared.kind.Kind.{Kind}
+use Rattle.temporal.specs.declared.kind.Kind.the-variants.{Timestamp as StoredTimestamp, OldTime, OldDatetime, Newdate, Timestamp2 as StoredTimestamp2, Datetime2 as StoredDatetime2, Time2 as StoredTime2}
+use Rattle.value.specs.declared.shape.Shape.{Shape}
+use Rattle.value.specs.declared.shape.Shape.the-variants.{Unsigned, Signed, FloatBits, DoubleBits, YearByte, Timed, Fixed, Counted, NotTaken}
+use Rattle.value.specs.declared.column.Column.{Column}
+use Rattle.value.specs.declared.column.Family.{Family}
+use Rattle.value.specs.declared.column.Family.the-variants.{Integer, Float, Double, Year, Timestamp, Date, Time, Datetime, Timestamp2, Datetime2, Time2, Varchar, Char, Blob, Json, Bit, Decimal, Enum, Set, Unknown}
+use Rattle.value.specs.Columns.{familyOf, shapeIn, shapeOf, isTaken, leftoverBytes, digitsBytes, decimalBytes, lengthBytes, charLength, or30}
+use Rattle.value.specs.Shapes.{Sized, need}
+use Rattle.value.proofs.Arms.{below, left, right}
+
+-- ---- the table of a decimal's leftover digits
+pub leftover-rule : (digits : ℕ) → digits < 9 → leftoverBytes digits ≡ (digits + 1) / 2
+unfolding leftoverBytes
+leftover-rule digits h =
+    eqb→eq (leftoverBytes digits) ((digits + 1) / 2)
+    (below (λ (d : ℕ). eqb (leftoverBytes d) ((d + 1) / 2)) 9 tt digits h)
+
+pub digits-size : (digits : ℕ) → digitsBytes digits ≡ digits / 9 * 4 + (digits % 9 + 1) / 2
+digits-size digits = rw (leftover-rule (digits % 9) (omega arith)) refl
+
+decimal-some : (m0 m1 : ℕ) → 1 ≤ m0 → m1 ≤ m0 → 0 < decimalBytes m0 m1
+unfolding decimalBytes
+decimal-some m0 m1 h l = rw (leftover-rule ((m0 - m1) % 9) (omega arith), leftover-rule (m1 % 9) (omega arith)) (omega arith)
+
+-- ---- what holds of both sides of a test holds of what it picks
+pick : {A : Type 0} (P : A → Type 0) (b : Bool) {x y : A} → (T b → P x) → P y → P (cond b x y)
+pick P true p q = p tt
+pick P false p q = q
+
+-- ---- what holds of the shape of a column
+abbrev Fine : Shape → Type 0
+Fine (Unsigned k) = (0 < k) × (k ≤ 8)
+Fine (Signed k) = (0 < k) × (k ≤ 8)
+Fine FloatBits = Unit {0}
+Fine DoubleBits = Unit {0}
+Fine YearByte = Unit {0}
+Fine (Timed k) = Unit {0}
+Fine (Fixed n) = 0 < n
+Fine (Counted k) = (0 < k) × (k ≤ 4)
+Fine (NotTaken n) = Unit {0}
+
+-- ---- the widths of integers, told by the shape of an unsigned column
+abbrev Width : Family → Type 0
+unfolding shapeIn
+Width f = Fine (shapeIn f 0 0 true)
+
+width-of : (t : ℕ) → Width (familyOf t)
+unfolding familyOf shapeIn
+width-of t =
+    (pick Width (eqb t 1) (λ e. (omega arith, omega arith))
+    (pick Width (eqb t 2) (λ e. (omega arith, omega arith))
+    (pick Width (eqb t 3) (λ e. (omega arith, omega arith))
+    (pick Width (eqb t 4) (λ e. tt)
+    (pick Width (eqb t 5) (λ e. tt)
+    (pick Width (eqb t 7) (λ e. tt)
+    (pick Width (eqb t 8) (λ e. (omega arith, omega arith))
+    (pick Width (eqb t 9) (λ e. (omega arith, omega arith))
+    (pick Width (eqb t 10) (λ e. tt)
+    (pick Width (eqb t 11) (λ e. tt)
+    (pick Width (eqb t 12) (λ e. tt)
+    (pick Width (eqb t 13) (λ e. tt)
+    (pick Width (eqb t 14) (λ e. tt)
+    (pick Width (eqb t 15) (λ e. (omega arith, omega arith))
+    (pick Width (eqb t 16) (λ e. tt)
+    (pick Width (eqb t 17) (λ e. tt)
+    (pick Width (eqb t 18) (λ e. tt)
+    (pick Width (eqb t 19) (λ e. tt)
+    (pick Width (eqb t 242) (λ e. tt)
+    (pick Width (eqb t 245) (λ e. tt)
+    (pick Width (eqb t 246) (λ e. tt)
+    (pick Width (eqb t 247) (λ e. tt)
+    (pick Width (eqb t 248) (λ e. tt)
+    (pick Width (ltb t 249) (λ e. tt)
+    (pick Width (leb t 252) (λ e. tt)
+    (pick Width (eqb t 253) (λ e. (omega arith, omega arith))
+    (pick Width (eqb t 254) (λ e. tt)
+    (pick Width (eqb t 255) (λ e. tt) tt))))))))))))))))))))))))))))
+
+-- ---- every column
+one-or-two : (declared : ℕ) → Fine (Counted (lengthBytes declared))
+one-or-two declared =
+    pick (λ (k : ℕ). (0 < k) × (k ≤ 4)) (ltb declared 256) (λ e. (omega arith, omega arith)) (omega arith, omega arith)
+
+fine-in : (f : Family) (m0 m1 : ℕ) (u : Bool) → Width f → Fine (shapeIn f m0 m1 u)
+unfolding shapeIn
+fine-in (Integer k) m0 m1 u w = pick Fine (eqb m0 0 && eqb m1 0) (λ e. pick Fine u (λ e. w) w) tt
+fine-in Float m0 m1 u w = pick Fine (eqb m0 4 && eqb m1 0) (λ e. tt) tt
+fine-in Double m0 m1 u w = pick Fine (eqb m0 8 && eqb m1 0) (λ e. tt) tt
+fine-in Year m0 m1 u w = pick Fine (eqb m0 0 && eqb m1 0) (λ e. tt) tt
+fine-in Timestamp m0 m1 u w = pick Fine (eqb m0 0 && eqb m1 0) (λ e. tt) tt
+fine-in Date m0 m1 u w = pick Fine (eqb m0 0 && eqb m1 0) (λ e. tt) tt
+fine-in Time m0 m1 u w = pick Fine (eqb m0 0 && eqb m1 0) (λ e. tt) tt
+fine-in Datetime m0 m1 u w = pick Fine (eqb m0 0 && eqb m1 0) (λ e. tt) tt
+fine-in Timestamp2 m0 m1 u w = pick Fine (leb m0 6 && eqb m1 0) (λ e. tt) tt
+fine-in Datetime2 m0 m1 u w = pick Fine (leb m0 6 && eqb m1 0) (λ e. tt) tt
+fine-in Time2 m0 m1 u w = pick Fine (leb m0 6 && eqb m1 0) (λ e. tt) tt
+fine-in Varchar m0 m1 u w = one-or-two (m0 + 256 * m1)
+fine-in Char m0 m1 u w = pick Fine (eqb (or30 m0) 254) (λ e. one-or-two (charLength m0 m1)) tt
+fine-in Blob m0 m1 u w =
+    pick Fine (leb 1 m0 && (leb m0 4 && eqb m1 0))
+    (λ e. (leb→le 1 m0 (left (leb 1 m0) _ e), leb→le m0 4 (left (leb m0 4) _ (right (leb 1 m0) _ e)))) tt
+fine-in Json m0 m1 u w = pick Fine (eqb m0 4 && eqb m1 0) (λ e. (omega arith, omega arith)) tt
+fine-in Bit m0 m1 u w =
+    pick Fine (leb m0 7 && (leb 1 (8 * m1 + m0) && leb (8 * m1 + m0) 64))
+    (λ e. let h : 1 ≤ 8 * m1 + m0 = leb→le 1 (8 * m1 + m0) (left (leb 1 (8 * m1 + m0)) _ (right (leb m0 7) _ e)) in
+    omega arith) tt
+fine-in Decimal m0 m1 u w =
+    pick Fine (leb 1 m0 && (leb m0 65 && (leb m1 30 && leb m1 m0)))
+    (λ e. decimal-some m0 m1 (leb→le 1 m0 (left (leb 1 m0) _ e))
+    (leb→le m1 m0 (right (leb m1 30) _ (right (leb m0 65) _ (right (leb 1 m0) _ e))))) tt
+fine-in Enum m0 m1 u w =
+    pick Fine (leb 1 m1 && leb m1 2)
+    (λ e. let l : m1 ≤ 2 = leb→le m1 2 (right (leb 1 m1) _ e) in
+    (leb→le 1 m1 (left (leb 1 m1) _ e), omega arith)) tt
+fine-in Set m0 m1 u w = pick Fine (leb 1 m1 && (leb m1 4 || eqb m1 8)) (λ e. leb→le 1 m1 (left (leb 1 m1) _ e)) tt
+fine-in Unknown m0 m1 u w = tt
+
+fine : (c : Column) → Fine (shapeOf c)
+unfolding shapeOf
+fine c =
+    pick Fine (eqb (c .kind) 10) (λ e. tt)
+    (fine-in (familyOf (c .kind)) (c .m0) (c .m1) (c .unsigned) (width-of (c .kind)))
+
+-- every column's shape has a width that there is
+sized-of : (sh : Shape) → Fine sh → Sized sh
+sized-of (Unsigned k) h = h .1
+sized-of (Signed k) h = h
+sized-of FloatBits h = tt
+sized-of DoubleBits h = tt
+sized-of YearByte h = tt
+sized-of (Timed k) h = tt
+sized-of (Fixed n) h = tt
+sized-of (Counted k) h = h .1
+sized-of (NotTaken n) h = tt
+
+pub sized : (c : Column) → Sized (shapeOf c)
+sized c = sized-of (shapeOf c) (fine c)
+
+-- every accepted column's value takes a byte at least
+timed-some : (k : Kind) → 0 < sizeOf k
+unfolding sizeOf wholeBytes
+timed-some StoredTimestamp = omega arith
+timed-some OldTime = omega arith
+timed-some OldDatetime = omega arith
+timed-some Newdate = omega arith
+timed-some (StoredTimestamp2 m0) = omega arith
+timed-some (StoredDatetime2 m0) = omega arith
+timed-some (StoredTime2 m0) = omega arith
+
+some-of : (sh : Shape) → Fine sh → isTaken sh ≡ true → (s : List ℕ) → 0 < need sh s
+unfolding isTaken need
+some-of (Unsigned k) h e s = h .0
+some-of (Signed k) h e s = h .0
+some-of FloatBits h e s = omega arith
+some-of DoubleBits h e s = omega arith
+some-of YearByte h e s = omega arith
+some-of (Timed k) h e s = timed-some k
+some-of (Fixed n) h e s = h
+some-of (Counted k) h e s = let l = h .0 in omega arith
+some-of (NotTaken n) h e s = absurd (true≢false (sym e))
+
+pub some-bytes : (c : Column) → isTaken (shapeOf c) ≡ true → (s : List ℕ) → 0 < need (shapeOf c) s
+some-bytes c = some-of (shapeOf c) (fine c)
+
+-- ---- above the numbers of blobs
+pub above : (t : ℕ) → (t < 249 → ⊥) → (t ≡ 249 → ⊥) → (t ≡ 250 → ⊥) → (t ≡ 251 → ⊥) → (t ≡ 252 → ⊥) → (249 ≤ t) × (252 < t)
+above t h a b c d = (omega arith, omega arith)
+
+-- ---- a column's shape is its family's, where its type is a real type
+pub by-family :
+    (c : Column) (f : Family) → (c .kind ≡ 10 → ⊥) → f ≡ familyOf (c .kind) →
+    shapeIn f (c .m0) (c .m1) (c .unsigned) ≡ shapeOf c
+unfolding shapeOf
+by-family c f h e =
+    ap (λ (g : Family). shapeIn g (c .m0) (c .m1) (c .unsigned)) e
+    ∙ sym (ap (λ (b : Bool). cond b (NotTaken 4) (shapeIn (familyOf (c .kind)) (c .m0) (c .m1) (c .unsigned))) (ne-eqb (c .kind) 10 h))

@@ -1,0 +1,31 @@
+-- `value::column::blob_shape` meets its contract. Assumes nothing.
+use Rattle.wire.proofs.Rules.{tests}
+use Rattle.value.specs.Columns.{shapeIn}
+use borrow.Author.Needs.{needs}
+use Rattle.value.proofs.column.blob_shape.Statement.{statement}
+use Rattle.value.proofs.column.blob_shape.Tie as tie
+use Rattle.value.proofs.column.blob_shape.Reads as reads
+use Rattle.value.proofs.column.blob_shape.Lts as lts
+use Rattle.value.proofs.column.wide.Reads as wide-reads
+
+returns : tie.Need-returns
+unfolding shapeIn
+returns c = search tests
+
+returns-2 : tie.Need-returns-2
+unfolding shapeIn
+returns-2 c = search tests
+
+wide-requires : tie.Need-wide-requires
+wide-requires c κs = search needs
+
+returns-3 : tie.Need-returns-3
+unfolding shapeIn
+returns-3 c = search tests
+
+returns-4 : tie.Need-returns-4
+unfolding shapeIn
+returns-4 c = search tests
+
+pub blob-shape-spec : {M : Type 1} → statement M
+blob-shape-spec = tie.close (tie.spec returns returns-2 wide-requires returns-3 returns-4)
