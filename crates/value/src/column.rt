@@ -238,6 +238,7 @@ fn integer_shape(width: usize, unsigned: bool) -> Shape
     Shape::Signed(width)
 }
 
+// The declared length is m1 and, above it, two bits of m0 that are kept inverted.
 fn char_shape(m0: u8, m1: u8) -> Shape
     ensures { λ r. ⌜ r ≡ shapeIn Char m0 m1 false ⌝ }
 {
@@ -351,7 +352,7 @@ fn shape_in(family: Family, m0: u8, m1: u8, unsigned: bool) -> Shape
     }
 }
 
-// How the values of a column are stored: the column of a record, or of a lone value.
+// How the values of a column are stored. Its type is a real type, which 10 is not.
 pub fn shape_of(column: Column) -> Shape
     ensures { λ r. ⌜ r ≡ shapeOf column ⌝ }
 {
