@@ -1,13 +1,13 @@
 -- What the readers and writers of the code use: a reading at a place that goes well, or ends early. Assumes nothing.
 use Prim.Native.Nat.{ℕ, _+_, _-_, _≤_, _<_, min}
-use mathlib.Core.Path.{_≡_, refl, sym, ap, _∙_}
+use mathlib.Core.Path.{_≡_, refl, _∙_}
 use mathlib.Core.Bool.{Bool, true, false, cond}
 use mathlib.Core.Logic.{dite}
 use mathlib.Core.List.{List}
 use native.Mathlib.Decide.{decLe}
 use native.Mathlib.Omega.{arith}
 use borrow.Author.Tests.{le-leb, lt-leb}
-use lib.Dec.{leb, eqb}
+use lib.Dec.{eqb}
 use lib.ListN.{length, take, drop, length-drop}
 use lib.Seq.{length-take-le}
 use Rattle.wire.specs.Outcome.{Outcome, ok, refuse, after}
@@ -50,17 +50,13 @@ pub no-column : (n p : ℕ) (s : List ℕ) (at : ℕ) → refuse n p ≡ readVal
 unfolding readValue readDatum taken
 no-column n p s at = refl
 
-judged-same : (f : ℕ) (t : Temporal) (at m n p : ℕ) → m ≡ n
-    → after (after (cond (eqb f 0) (ok (when t)) (refuse 10 p)) (λ d. ok {A = Datum × ℕ} (d, m))) (λ x. ok {A = Value × ℕ} (placed (at + x .1) (x .0), at + x .1))
-    ≡ after (cond (eqb f 0) (ok {A = Temporal × ℕ} (t, at + n)) (refuse 10 p)) (λ x. ok {A = Value × ℕ} (When (x .0), x .1))
+-- the same judgement, of a temporal alone and of a temporal among values
+judged-same : (b : Bool) (t : Temporal) (at m n p : ℕ) → m ≡ n
+    → after {B = Value × ℕ} (after {B = Datum × ℕ} (cond b (ok (when t)) (refuse 10 p)) (λ d. ok (d, m))) (λ x. ok (placed (at + x .1) (x .0), at + x .1))
+    ≡ after {B = Value × ℕ} (cond {A = Outcome (Temporal × ℕ)} b (ok (t, at + n)) (refuse 10 p)) (λ x. ok (When (x .0), x .1))
 unfolding placed
-judged-same f t at m n p e = go (eqb f 0)
-  where
-    go : (b : Bool)
-        → after (after (cond b (ok (when t)) (refuse 10 p)) (λ d. ok {A = Datum × ℕ} (d, m))) (λ x. ok {A = Value × ℕ} (placed (at + x .1) (x .0), at + x .1))
-        ≡ after (cond b (ok {A = Temporal × ℕ} (t, at + n)) (refuse 10 p)) (λ x. ok {A = Value × ℕ} (When (x .0), x .1))
-    go true = rw e
-    go false = refl
+judged-same true t at m n p e = rw e
+judged-same false t at m n p e = refl
 
 -- a temporal: read as its own crate says
 pub timed : (k : Kind) (p : ℕ) (s : List ℕ) (at : ℕ) → readValue (Timed k) p s at ≡ after (readTemporal k p s at) (λ x. ok (When (x .0), x .1))
@@ -71,7 +67,7 @@ timed k p s at =
     let l : sizeOf k ≤ length (drop at s) = rw length-drop (omega arith) in
     let b = take (sizeOf k) (drop at s) in
     let n : length b ≡ sizeOf k = length-take-le (sizeOf k) (drop at s) l in
-    rw (le-leb (sizeOf k) (length (drop at s)) l, le-leb (at + sizeOf k) (length s) h) (judged-same (timedFault k b) (timedDecode k b) at (length b) (sizeOf k) p n))
+    rw (le-leb (sizeOf k) (length (drop at s)) l, le-leb (at + sizeOf k) (length s) h) (judged-same (eqb (timedFault k b) 0) (timedDecode k b) at (length b) (sizeOf k) p n))
     (λ h.
     let l : length (drop at s) < sizeOf k = rw length-drop (omega (arith, size-least k)) in
     rw (lt-leb (sizeOf k) (length (drop at s)) l, lt-leb (at + sizeOf k) (length s) (omega arith)))

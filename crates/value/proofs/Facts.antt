@@ -1,7 +1,7 @@
 -- What each shape owes, a clause for each shape. (1) A value's bytes tell their own length, whatever follows. (2) They say the value. (3) Bytes that are as
 -- many as they tell are those of the value that they say, and it is in the domain. (4) How many bytes a value takes is told by those bytes. (5) A
 -- value's bytes are the last of its stored bytes. Assumes nothing.
-use Prim.Native.Nat.{ℕ, zero, suc, _+_, _-_, _*_, _/_, _^_, _≤_, _<_}
+use Prim.Native.Nat.{ℕ, zero, suc, _+_, _-_, _^_, _≤_, _<_}
 use mathlib.Core.Path.{_≡_, refl, sym, ap, _∙_, subst}
 use mathlib.Core.Bool.{Bool, true, false, _&&_}
 use mathlib.Core.List.{List, [], _∷_, _++_, append-assoc}
@@ -9,24 +9,20 @@ use native.Mathlib.Nat.{sub-zero, suc-sub-suc}
 use native.Mathlib.Omega.{arith}
 use borrow.Author.Tests.{lt-ltb, le-leb, ltb-true, leb-true, eq-eqb, eqb-true}
 use lib.ListN.{length, take, drop, length-append, length-drop, take-append-drop}
-use lib.Seq.{take-at, drop-at, take-take, take-nil, drop-drop, length-take-le, take-length}
+use lib.Seq.{take-at, drop-at, take-take, take-nil, drop-drop, length-take-le}
 use lib.Dec.{leb, ltb, eqb}
-use Rattle.wire.specs.Outcome.{Outcome, ok, refused}
+use Rattle.wire.specs.Outcome.{ok}
 use Rattle.wire.specs.Number.{Bytes, leValue, leBytes}
-use Rattle.wire.specs.Signed.{signedOf, twosOf, inHalves}
+use Rattle.wire.specs.Signed.{signedOf, twosOf}
 use Rattle.wire.proofs.Bytes.{leBytes-length}
 use Rattle.wire.proofs.Inverse.{le-back, le-sound, le-bound, bytes-take}
 use Rattle.wire.proofs.Signs.{signs-back, signs-sound, bytes-even}
-use Rattle.temporal.specs.declared.kind.Kind.{Kind}
-use Rattle.temporal.specs.Domains.{domain as timedDomain}
-use Rattle.temporal.specs.Reading.{sizeOf, decode as timedDecode, fault as timedFault, bytesOf as timedBytes}
 use Rattle.temporal.proofs.Forms.{sized as timed-sized, back as timed-back, sound as timed-sound}
 use Rattle.value.specs.declared.shape.Shape.{Shape}
 use Rattle.value.specs.declared.shape.Shape.the-variants.{Unsigned, Signed, FloatBits, DoubleBits, YearByte, Timed, Fixed, Counted, NotTaken}
 use Rattle.value.specs.Data.{Datum, null, int, uint, float, double, year, when, bytes, tag, intIn, numberIn, whenIn, bytesIn}
 use Rattle.value.specs.Domains.{domain}
 use Rattle.value.specs.Shapes.{bytesOf, need, decode, fault, Sized}
-use Rattle.value.specs.Columns.{isTaken}
 use Rattle.value.specs.Reading.{taken, placed, datumOf}
 
 -- both of an `&&`

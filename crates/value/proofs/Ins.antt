@@ -1,25 +1,23 @@
 -- Values and what they say: which a column takes, and the bytes that it stores. Laws for the writers of the code. Assumes nothing.
-use Prim.Native.Nat.{ℕ, _+_, _-_, _/_, _^_, _≤_, _<_, min}
-use mathlib.Core.Path.{_≡_, refl, sym, ap, _∙_, subst}
-use mathlib.Core.Bool.{Bool, true, false, cond, _&&_}
+use Prim.Native.Nat.{ℕ, _+_, _-_, _/_, _^_, _≤_, min}
+use mathlib.Core.Path.{_≡_, refl, sym, ap, _∙_}
+use mathlib.Core.Bool.{true, false, _&&_}
 use mathlib.Core.Logic.{dite}
-use mathlib.Core.List.{List, [], _∷_, _++_, append-nil}
+use mathlib.Core.List.{List, [], _++_, append-nil}
 use native.Mathlib.Decide.{decLe}
 use native.Mathlib.Omega.{arith}
-use borrow.Author.Tests.{lt-ltb, le-ltb, le-leb, lt-leb, eq-eqb, ne-eqb, leb-true, ltb-true, eqb-true}
+use borrow.Author.Tests.{lt-ltb, le-ltb, le-leb, lt-leb, eq-eqb, ne-eqb, leb-true, ltb-true}
 use lib.ListN.{length, take, drop, length-drop, length-append}
 use lib.Seq.{length-take-le}
 use lib.Dec.{leb, ltb, eqb}
-use lib.IntN.{ℤ}
-use Rattle.wire.specs.Outcome.{Outcome, ok, refuse, after}
+use Rattle.wire.specs.Outcome.{ok, refuse}
 use Rattle.wire.specs.Number.{leBytes}
 use Rattle.wire.specs.Signed.{twosOf, inHalves}
 use Rattle.wire.specs.Stored.{store}
 use Rattle.wire.proofs.Bytes.{leBytes-length}
 use Rattle.temporal.specs.declared.kind.Kind.{Kind}
-use Rattle.temporal.specs.declared.parts.Temporal.{Temporal}
 use Rattle.temporal.specs.Domains.{domain as timedDomain}
-use Rattle.temporal.specs.Reading.{bytesOf as timedBytes, writeTemporal}
+use Rattle.temporal.specs.Reading.{writeTemporal}
 use Rattle.value.specs.declared.shape.Shape.{Shape}
 use Rattle.value.specs.declared.shape.Shape.the-variants.{Unsigned, Signed, FloatBits, DoubleBits, YearByte, Timed, Fixed, Counted, NotTaken}
 use Rattle.value.specs.declared.datum.Value.{Value}
@@ -278,3 +276,29 @@ lent-part s v k start len h e f =
     let d : startOf v + lenOf v - startOf v ≡ lenOf v = omega arith in
     let n : length (take (lenOf v) (drop (startOf v) s)) ≡ lenOf v = length-take-le (lenOf v) (drop (startOf v) s) (rw length-drop (omega arith)) in
     rw (e, f, d, n)
+
+-- ---- what the writer and the size answer
+pub writes-not : (sh : Shape) (p : ℕ) (s : List ℕ) (v : Value) (buf : List ℕ) (at : ℕ) → isTaken sh ≡ false → writeValue sh p s v buf at ≡ refuse (refusalOf sh) p
+unfolding writeValue
+writes-not sh p s v buf at h = rw (stored-not sh p s v h)
+
+pub writes-out : (sh : Shape) (p : ℕ) (s : List ℕ) (v : Value) (buf : List ℕ) (at : ℕ) → isTaken sh ≡ true → isIn sh s v ≡ false → writeValue sh p s v buf at ≡ refuse 13 p
+unfolding writeValue
+writes-out sh p s v buf at t h = rw (stored-out sh p s v t h)
+
+pub writes-in : (sh : Shape) (p : ℕ) (s : List ℕ) (v : Value) (buf : List ℕ) (at : ℕ) → isTaken sh ≡ true → isIn sh s v ≡ true
+    → writeValue sh p s v buf at ≡ store buf at (bytesOf sh (datumOf s v))
+unfolding writeValue
+writes-in sh p s v buf at t h = rw (stored-in sh p s v t h)
+
+pub sizes-not : (sh : Shape) (p : ℕ) (s : List ℕ) (v : Value) → isTaken sh ≡ false → sizeOf sh p s v ≡ refuse (refusalOf sh) p
+unfolding sizeOf
+sizes-not sh p s v h = rw (stored-not sh p s v h)
+
+pub sizes-out : (sh : Shape) (p : ℕ) (s : List ℕ) (v : Value) → isTaken sh ≡ true → isIn sh s v ≡ false → sizeOf sh p s v ≡ refuse 13 p
+unfolding sizeOf
+sizes-out sh p s v t h = rw (stored-out sh p s v t h)
+
+pub sizes-in : (sh : Shape) (p : ℕ) (s : List ℕ) (v : Value) → isTaken sh ≡ true → isIn sh s v ≡ true → sizeOf sh p s v ≡ ok (length (bytesOf sh (datumOf s v)))
+unfolding sizeOf
+sizes-in sh p s v t h = rw (stored-in sh p s v t h)

@@ -1,8 +1,8 @@
 -- For all shapes at once: every value of a domain is read back from its bytes, whatever stands behind them; whatever is read is in the domain and had just
 -- these bytes; and bytes are refused exactly where they end early (9) or have a part out of range (10). Assumes nothing.
-use Prim.Native.Nat.{ℕ, _+_, _-_, _≤_, _<_}
+use Prim.Native.Nat.{ℕ, _+_, _≤_}
 use mathlib.Core.Path.{_≡_, refl, sym, ap, _∙_, subst}
-use mathlib.Core.Bool.{Bool, true, false, cond}
+use mathlib.Core.Bool.{true, false}
 use mathlib.Core.Logic.{⊎-elim}
 use mathlib.Core.List.{List, _++_}
 use native.Mathlib.Omega.{arith}
@@ -11,7 +11,7 @@ use lib.ListN.{length, take, drop, length-append}
 use lib.Seq.{take-at, length-take-le}
 use lib.Dec.{leb, eqb}
 use Rattle.wire.specs.declared.refusal.Refusal.{Refusal}
-use Rattle.wire.specs.Outcome.{Outcome, ok, refused, refuse, why, after}
+use Rattle.wire.specs.Outcome.{ok, refused, refuse, why, after}
 use Rattle.wire.specs.Number.{Bytes}
 use Rattle.wire.proofs.Outcomes.{after-is-ok, after-refuses, test-is-ok, test-refuses, same-ok, ok-not-refused}
 use Rattle.wire.proofs.Inverse.{bytes-take}

@@ -1,7 +1,7 @@
 -- Signed machine numbers: a negative one is made as -1 - n, with n below 2^63, and taken apart the same way. Assumes nothing.
 use mathlib.Core.Path.{_≡_, refl, ap, sym, subst, _∙_}
 use Prim.Native.Nat.{ℕ, zero, suc, _+_, _-_, _*_, _/_, _^_, _≤_, _<_}
-use native.Mathlib.Nat.{zero-add, not-suc-le-zero, lt-trans, le-trans, pow-suc, pow-le-pow-right, zero-lt-suc}
+use native.Mathlib.Nat.{zero-add, not-suc-le-zero, lt-trans, pow-suc, pow-le-pow-right, zero-lt-suc}
 use native.Mathlib.Numerals.{add-one}
 use native.Mathlib.Omega.{arith}
 use borrow.Author.Tests.{lt-ltb, le-ltb, ltb-true}

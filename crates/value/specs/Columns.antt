@@ -2,7 +2,7 @@
 -- and how their values are stored, and the classes by which a map's optional fields count columns. Assumes nothing.
 use Prim.Native.Nat.{ℕ, _+_, _-_, _*_, _/_, _%_}
 use mathlib.Core.Bool.{Bool, true, false, cond, _&&_, _||_}
-use mathlib.Core.List.{List, [], _∷_}
+use mathlib.Core.List.{[], _∷_}
 use lib.ListN.{getD}
 use lib.Dec.{leb, ltb, eqb}
 use Rattle.temporal.specs.declared.kind.Kind.the-variants.{Timestamp as StoredTimestamp, OldTime, OldDatetime, Newdate, Timestamp2 as StoredTimestamp2, Datetime2 as StoredDatetime2, Time2 as StoredTime2}

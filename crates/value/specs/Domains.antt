@@ -1,6 +1,6 @@
 -- Which values a column of a shape can hold: ranges, units and lengths. NULL is in none. Assumes nothing.
-use Prim.Native.Nat.{ℕ, _^_}
-use mathlib.Core.Bool.{Bool, true, false, _&&_}
+use Prim.Native.Nat.{_^_}
+use mathlib.Core.Bool.{Bool, false, _&&_}
 use lib.ListN.{length}
 use lib.Dec.{leb, ltb, eqb}
 use Rattle.wire.specs.Signed.{inHalves}

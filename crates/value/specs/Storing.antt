@@ -1,6 +1,6 @@
 -- A value stored: the shape first (4, 5), then the domain (13), then room (8). Its bytes are in the list s lent beside it. Assumes nothing.
 use Prim.Native.Nat.{ℕ, _+_}
-use mathlib.Core.Bool.{Bool, true, cond, _&&_}
+use mathlib.Core.Bool.{Bool, cond, _&&_}
 use mathlib.Core.List.{List}
 use lib.ListN.{length}
 use lib.Dec.{leb}

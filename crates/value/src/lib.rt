@@ -23,10 +23,9 @@ pub use column::real_type;
 pub use column::shape_of;
 pub use datum::Value;
 pub use reading::Read;
+use reading::read_shape;
 pub use shape::Shape;
 pub use storing::Size;
-
-use reading::read_shape;
 use storing::size_shape;
 use storing::write_shape;
 use wire::Written;
@@ -46,7 +45,14 @@ pub fn read_value(column: Column, s: &[u8], at: usize, place: usize) -> Read
 }
 
 // Writes a value from at on; its bytes, if it has any, are in lent.
-pub fn write_value(column: Column, value: Value, lent: &[u8], buf: &mut [u8], at: usize, place: usize) -> Written
+pub fn write_value(
+    column: Column,
+    value: Value,
+    lent: &[u8],
+    buf: &mut [u8],
+    at: usize,
+    place: usize,
+) -> Written
     ensures { λ r. ⌜ writtenOf r ≡ answerOf (writeValue (shapeOf column) place (now (lent .entry)) value (now (buf .entry)) at) ⌝ }
     ensures { λ _. ⌜ now (buf .exit) ≡ leftOf (now (buf .entry)) (writeValue (shapeOf column) place (now (lent .entry)) value (now (buf .entry)) at) ⌝ }
 {

@@ -22,12 +22,12 @@ use crate::signed::twos;
 use temporal::Kind;
 use wire::Refusal;
 use wire::Written;
-use wire::refusal::NOT_TAKEN;
 use wire::refusal::NO_ROOM;
+use wire::refusal::NOT_TAKEN;
 ghost use mathlib.Core.Path.{_≡_};
 ghost use mathlib.Core.Bool.{true, _&&_};
 ghost use mathlib.Core.List.{[], _++_};
-ghost use Prim.Native.Nat.{_+_, _≤_, _<_, _^_};
+ghost use Prim.Native.Nat.{_+_, _≤_, _<_};
 ghost use lib.ListN.{length, take, drop};
 ghost use lib.Dec.{leb, eqb};
 ghost use Rattle.wire.specs.Number.{leBytes};
@@ -191,7 +191,14 @@ pub(crate) fn store_shape(
 }
 
 // A value stored in a column of the shape: the shape is judged first, then the value, then the room.
-pub(crate) fn write_shape(shape: Shape, value: Value, lent: &[u8], buf: &mut [u8], at: usize, place: usize) -> Written
+pub(crate) fn write_shape(
+    shape: Shape,
+    value: Value,
+    lent: &[u8],
+    buf: &mut [u8],
+    at: usize,
+    place: usize,
+) -> Written
     requires { ⌜ Sized shape ⌝ }
     ensures { λ r. ⌜ writtenOf r ≡ answerOf (writeValue shape place (now (lent .entry)) value (now (buf .entry)) at) ⌝ }
     ensures { λ _. ⌜ now (buf .exit) ≡ leftOf (now (buf .entry)) (writeValue shape place (now (lent .entry)) value (now (buf .entry)) at) ⌝ }

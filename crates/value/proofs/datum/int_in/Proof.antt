@@ -1,81 +1,64 @@
-use Rattle.value.specs.Data.{tag, intIn, numberIn, whenIn}
+-- `value::datum::int_in` meets its contract. Assumes nothing.
+use Rattle.value.specs.Data.{intIn}
 use Rattle.value.specs.Reading.{datumOf}
-use Rattle.value.specs.Storing.{startOf, lenOf}
-use Rattle.value.specs.Columns.{isTaken, refusalOf}
 use borrow.Author.Needs.{needs}
 use Rattle.value.proofs.datum.int_in.Statement.{statement}
 use Rattle.value.proofs.datum.int_in.Tie as tie
 use Rattle.value.proofs.datum.int_in.Reads as reads
 use Rattle.value.proofs.datum.int_in.Lts as lts
 
--- src/datum.rt:56:20
 enum-known-value : tie.Need-enum-known-value
 enum-known-value c = search needs
 
--- src/datum.rt:57:24
 enum-told : tie.Need-enum-told
 enum-told c = search needs
 
--- src/datum.rt:58:27
 enum-told-2 : tie.Need-enum-told-2
 enum-told-2 c = search needs
 
--- src/datum.rt:59:28
 enum-told-3 : tie.Need-enum-told-3
 enum-told-3 c = search needs
 
--- src/datum.rt:60:29
 enum-told-4 : tie.Need-enum-told-4
 enum-told-4 c = search needs
 
--- src/datum.rt:61:27
 enum-told-5 : tie.Need-enum-told-5
 enum-told-5 c = search needs
 
--- src/datum.rt:62:27
 enum-told-6 : tie.Need-enum-told-6
 enum-told-6 c = search needs
 
--- src/datum.rt:63:46
 enum-told-7 : tie.Need-enum-told-7
 enum-told-7 c = search needs
 
--- src/datum.rt:52:1
 returns : tie.Need-returns
 unfolding intIn datumOf
 returns c = rw (c .before .value .given .1) (search needs)
 
--- src/datum.rt:52:1
 returns-2 : tie.Need-returns-2
 unfolding intIn datumOf
 returns-2 c = rw (c .enum-told .given .1) (search needs)
 
--- src/datum.rt:52:1
 returns-3 : tie.Need-returns-3
 unfolding intIn datumOf
 returns-3 c = rw (c .enum-told2 .given .1) (search needs)
 
--- src/datum.rt:52:1
 returns-4 : tie.Need-returns-4
 unfolding intIn datumOf
 returns-4 c = rw (c .enum-told3 .given .1) (search needs)
 
--- src/datum.rt:52:1
 returns-5 : tie.Need-returns-5
 unfolding intIn datumOf
 returns-5 c = rw (c .enum-told4 .given .1) (search needs)
 
--- src/datum.rt:52:1
 returns-6 : tie.Need-returns-6
 unfolding intIn datumOf
 returns-6 c = rw (c .enum-told5 .given .1) (search needs)
 
--- src/datum.rt:52:1
 returns-7 : tie.Need-returns-7
 unfolding intIn datumOf
 returns-7 c = rw (c .enum-told6 .given .1) (search needs)
 
--- src/datum.rt:52:1
 returns-8 : tie.Need-returns-8
 unfolding intIn datumOf
 returns-8 c = rw (c .enum-told7 .given .1) (search needs)

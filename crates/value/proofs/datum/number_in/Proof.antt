@@ -1,89 +1,70 @@
-use Rattle.value.specs.Data.{tag, intIn, numberIn, whenIn}
+-- `value::datum::number_in` meets its contract. Assumes nothing.
+use Rattle.value.specs.Data.{numberIn}
 use Rattle.value.specs.Reading.{datumOf}
-use Rattle.value.specs.Storing.{startOf, lenOf}
-use Rattle.value.specs.Columns.{isTaken, refusalOf}
 use borrow.Author.Needs.{needs}
 use Rattle.value.proofs.datum.number_in.Statement.{statement}
 use Rattle.value.proofs.datum.number_in.Tie as tie
 use Rattle.value.proofs.datum.number_in.Reads as reads
 use Rattle.value.proofs.datum.number_in.Lts as lts
 
--- src/datum.rt:71:21
 enum-known-value : tie.Need-enum-known-value
 enum-known-value c = search needs
 
--- src/datum.rt:72:22
 enum-known-value-2 : tie.Need-enum-known-value-2
 enum-known-value-2 c = search needs
 
--- src/datum.rt:72:31
 cast-result : tie.Need-cast-result
 cast-result c = search needs
 
--- src/datum.rt:73:23
 enum-known-value-3 : tie.Need-enum-known-value-3
 enum-known-value-3 c = search needs
 
--- src/datum.rt:74:21
 enum-known-value-4 : tie.Need-enum-known-value-4
 enum-known-value-4 c = search needs
 
--- src/datum.rt:74:27
 cast-result-2 : tie.Need-cast-result-2
 cast-result-2 c = search needs
 
--- src/datum.rt:75:24
 enum-told : tie.Need-enum-told
 enum-told c = search needs
 
--- src/datum.rt:76:26
 enum-told-2 : tie.Need-enum-told-2
 enum-told-2 c = search needs
 
--- src/datum.rt:77:27
 enum-told-3 : tie.Need-enum-told-3
 enum-told-3 c = search needs
 
--- src/datum.rt:78:46
 enum-told-4 : tie.Need-enum-told-4
 enum-told-4 c = search needs
 
--- src/datum.rt:67:1
 returns : tie.Need-returns
 unfolding numberIn datumOf
 returns c = rw (c .before .value .given .1)
 
--- src/datum.rt:67:1
 returns-2 : tie.Need-returns-2
 unfolding numberIn datumOf
 returns-2 c = rw (c .before .value2 .given .1)
 
--- src/datum.rt:67:1
 returns-3 : tie.Need-returns-3
 unfolding numberIn datumOf
 returns-3 c = rw (c .before .value3 .given .1)
 
--- src/datum.rt:67:1
 returns-4 : tie.Need-returns-4
 unfolding numberIn datumOf
 returns-4 c = rw (c .before .value4 .given .1)
 
--- src/datum.rt:67:1
 returns-5 : tie.Need-returns-5
 unfolding numberIn datumOf
 returns-5 c = rw (c .enum-told .given .1)
 
--- src/datum.rt:67:1
 returns-6 : tie.Need-returns-6
 unfolding numberIn datumOf
 returns-6 c = rw (c .enum-told2 .given .1)
 
--- src/datum.rt:67:1
 returns-7 : tie.Need-returns-7
 unfolding numberIn datumOf
 returns-7 c = rw (c .enum-told3 .given .1)
 
--- src/datum.rt:67:1
 returns-8 : tie.Need-returns-8
 unfolding numberIn datumOf
 returns-8 c = rw (c .enum-told4 .given .1)

@@ -1,11 +1,10 @@
-use Prim.Native.Nat.{ℕ, _+_, _-_, _*_, _/_, _%_, _^_, _≤_, _<_, min}
-use mathlib.Core.Path.{_≡_, refl, sym, ap, subst, _∙_}
+-- `value::reading::read_counted` meets its contract. Assumes nothing.
+use Prim.Native.Nat.{ℕ, _+_, _-_, _≤_}
+use mathlib.Core.Path.{_≡_, refl, sym, ap, _∙_}
 use native.Mathlib.Omega.{arith}
-use lib.ListN.{length, take, drop, getD}
-use borrow.Author.Tests.{lt-ltb, le-ltb, le-leb, lt-leb, eq-eqb, ne-eqb}
+use lib.ListN.{length, take, drop}
 use Rattle.wire.specs.Number.{leValue}
 use Rattle.value.specs.declared.shape.Shape.the-variants.{Counted}
-use Rattle.value.specs.declared.datum.Value.the-variants.{Bytes}
 use Rattle.value.specs.Columns.{isTaken}
 use Rattle.value.specs.Shapes.{need, decode, fault}
 use Rattle.value.specs.Reading.{readOf, placed}
@@ -19,48 +18,38 @@ use Rattle.value.proofs.reading.rest.Reads as rest-reads
 use Rattle.value.proofs.reading.short.Reads as short-reads
 use Rattle.wire.proofs.read_le.Reads as read-le-reads
 
--- src/reading.rt:132:8
 rest-requires : tie.Need-rest-requires
 rest-requires c κs = search needs
 
--- src/reading.rt:133:9
 short-requires : tie.Need-short-requires
 short-requires c κs = search needs
 
--- src/reading.rt:133:9
 returns : tie.Need-returns
 unfolding isTaken need
 returns c = let a = c .before .before .before .before .args in
     ap readOf (c .short .ensures) ∙ ends-early (Counted (a .k)) (a .place) (a .s .now) (a .at) refl (omega (arith, c .before .before .rest .ensures))
 
--- src/reading.rt:135:17
 add-start : tie.Need-add-start
 add-start c = search needs
 
--- src/reading.rt:136:15
 read-le-requires : tie.Need-read-le-requires
 read-le-requires c κs = search needs
 
--- src/reading.rt:137:8
 rest-requires-2 : tie.Need-rest-requires-2
 rest-requires-2 c κs = search needs
 
--- src/reading.rt:138:9
 short-requires-2 : tie.Need-short-requires-2
 short-requires-2 c κs = search needs
 
--- src/reading.rt:138:9
 returns-2 : tie.Need-returns-2
 unfolding isTaken need
 returns-2 c = let a = c .before .before .before .before .before .before .before .args in
     let e = c .before .before .before .read-le .ensures .0 ∙ ap (λ (j : ℕ). leValue (take j (drop (a .at) (a .s .now)))) (narrow (a .k) (omega arith)) in
     ap readOf (c .short2 .ensures) ∙ ends-early (Counted (a .k)) (a .place) (a .s .now) (a .at) refl (omega (arith, c .before .before .before .before .before .rest .ensures, c .before .before .rest2 .ensures, e))
 
--- src/reading.rt:140:16
 add-next : tie.Need-add-next
 add-next c = search needs
 
--- src/reading.rt:128:1
 returns-3 : tie.Need-returns-3
 unfolding isTaken need decode fault placed
 returns-3 c = let a = c .before .before .before .before .before .before .args in

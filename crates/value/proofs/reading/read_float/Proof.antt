@@ -1,8 +1,6 @@
-use Prim.Native.Nat.{ℕ, _+_, _-_, _*_, _/_, _%_, _^_, _≤_, _<_, min}
-use mathlib.Core.Path.{_≡_, refl, sym, ap, subst, _∙_}
+-- `value::reading::read_float` meets its contract. Assumes nothing.
+use mathlib.Core.Path.{refl, ap, _∙_}
 use native.Mathlib.Omega.{arith}
-use lib.ListN.{length, take, drop, getD}
-use borrow.Author.Tests.{lt-ltb, le-ltb, le-leb, lt-leb, eq-eqb, ne-eqb}
 use Rattle.value.specs.declared.shape.Shape.the-variants.{FloatBits}
 use Rattle.value.specs.declared.datum.Value.the-variants.{Float}
 use Rattle.value.specs.Columns.{isTaken}
@@ -18,33 +16,26 @@ use Rattle.value.proofs.reading.rest.Reads as rest-reads
 use Rattle.value.proofs.reading.short.Reads as short-reads
 use Rattle.wire.proofs.read_le.Reads as read-le-reads
 
--- src/reading.rt:84:8
 rest-requires : tie.Need-rest-requires
 rest-requires c κs = search needs
 
--- src/reading.rt:85:9
 short-requires : tie.Need-short-requires
 short-requires c κs = search needs
 
--- src/reading.rt:85:9
 returns : tie.Need-returns
 unfolding isTaken need
 returns c = let a = c .before .before .before .before .args in
     ap readOf (c .short .ensures) ∙ ends-early FloatBits (a .place) (a .s .now) (a .at) refl (omega (arith, c .before .before .rest .ensures))
 
--- src/reading.rt:87:16
 add-next : tie.Need-add-next
 add-next c = search needs
 
--- src/reading.rt:88:16
 read-le-requires : tie.Need-read-le-requires
 read-le-requires c κs = search needs
 
--- src/reading.rt:88:16
 cast-bits : tie.Need-cast-bits
 cast-bits c = search needs
 
--- src/reading.rt:81:1
 returns-2 : tie.Need-returns-2
 unfolding isTaken need decode fault placed
 returns-2 c = let a = c .before .before .before .before .args in

@@ -1,22 +1,9 @@
-use Prim.Native.Nat.{ℕ, _+_, _-_, _*_, _/_, _%_, _^_, _≤_, _<_, min}
-use mathlib.Core.Path.{_≡_, refl, sym, ap, subst, _∙_}
-use mathlib.Core.Bool.{true, false}
-use mathlib.Core.List.{List, [], _++_}
-use native.Mathlib.Omega.{arith}
-use borrow.Author.Tests.{lt-ltb, le-ltb, le-leb, lt-leb, eq-eqb, ne-eqb, not-true, not-false}
-use lib.ListN.{length, take, drop, length-append}
-use lib.Dec.{leb}
+-- `value::reading::read_shape` meets its contract. Assumes nothing.
+use mathlib.Core.Path.{sym, ap, subst, _∙_}
 use Rattle.value.specs.declared.shape.Shape.{Shape}
-use Rattle.value.specs.declared.shape.Shape.the-variants.{Unsigned, Signed, FloatBits, DoubleBits, YearByte, Timed, Fixed, Counted, NotTaken}
-use Rattle.value.specs.Shapes.{Sized, need, bytesOf, decode, fault}
-use Rattle.value.specs.Data.{tag, intIn, numberIn, whenIn, magnitudeOf}
-use Rattle.value.specs.Reading.{readOf, readValue, datumOf, placed}
-use Rattle.value.specs.Storing.{isIn, isLent, lenOf, startOf}
+use Rattle.value.specs.Shapes.{Sized}
+use Rattle.value.specs.Reading.{readValue}
 use Rattle.wire.specs.Outcome.{refused}
-use Rattle.wire.specs.Stored.{store, answerOf, leftOf, writtenOf}
-use mir.Syntax.{w64}
-use mir.Val.{toZ, ofZ}
-use mir.ValLaws.{toZ-ofZ}
 use Rattle.value.proofs.Cases.{no-column}
 use borrow.Author.Needs.{needs}
 use Rattle.value.proofs.reading.read_shape.Statement.{statement}
@@ -33,111 +20,84 @@ use Rattle.value.proofs.reading.read_unsigned.Reads as read-unsigned-re
 use Rattle.value.proofs.reading.read_year.Reads as read-year-reads
 use Rattle.wire.proofs.refuse.Reads as refuse-reads
 
--- src/reading.rt:45:25
 enum-known-shape : tie.Need-enum-known-shape
 enum-known-shape c = search needs
 
--- src/reading.rt:45:31
 read-unsigned-requires : tie.Need-read-unsigned-requires
 read-unsigned-requires c κs = subst Sized (c .before .shape .given .1) (c .before .before .before .before .pre)
 
--- src/reading.rt:46:23
 enum-known-shape-2 : tie.Need-enum-known-shape-2
 enum-known-shape-2 c = search needs
 
--- src/reading.rt:46:29
 read-signed-requires : tie.Need-read-signed-requires
 read-signed-requires c κs = subst Sized (c .before .shape2 .given .1) (c .before .before .before .before .pre)
 
--- src/reading.rt:47:29
 enum-told : tie.Need-enum-told
 enum-told c = search needs
 
--- src/reading.rt:47:29
 read-float-requires : tie.Need-read-float-requires
 read-float-requires c κs = search needs
 
--- src/reading.rt:48:30
 enum-told-2 : tie.Need-enum-told-2
 enum-told-2 c = search needs
 
--- src/reading.rt:48:30
 read-double-requires : tie.Need-read-double-requires
 read-double-requires c κs = search needs
 
--- src/reading.rt:49:28
 enum-told-3 : tie.Need-enum-told-3
 enum-told-3 c = search needs
 
--- src/reading.rt:49:28
 read-year-requires : tie.Need-read-year-requires
 read-year-requires c κs = search needs
 
--- src/reading.rt:50:22
 enum-known-shape-3 : tie.Need-enum-known-shape-3
 enum-known-shape-3 c = search needs
 
--- src/reading.rt:50:31
 read-timed-requires : tie.Need-read-timed-requires
 read-timed-requires c κs = search needs
 
--- src/reading.rt:51:22
 enum-known-shape-4 : tie.Need-enum-known-shape-4
 enum-known-shape-4 c = search needs
 
--- src/reading.rt:51:28
 read-fixed-requires : tie.Need-read-fixed-requires
 read-fixed-requires c κs = search needs
 
--- src/reading.rt:52:24
 enum-known-shape-5 : tie.Need-enum-known-shape-5
 enum-known-shape-5 c = search needs
 
--- src/reading.rt:52:30
 read-counted-requires : tie.Need-read-counted-requires
 read-counted-requires c κs = subst Sized (c .before .shape5 .given .1) (c .before .before .before .before .pre)
 
--- src/reading.rt:53:25
 enum-known-shape-6 : tie.Need-enum-known-shape-6
 enum-known-shape-6 c = search needs
 
--- src/reading.rt:53:45
 refuse-requires : tie.Need-refuse-requires
 refuse-requires c κs = search needs
 
--- src/reading.rt:40:1
 returns : tie.Need-returns
 returns c = let a = c .before .before .before .before .before .args in c .read-unsigned .ensures ∙ ap (λ (sh : Shape). readValue sh (a .place) (a .s .now) (a .at)) (sym (c .before .before .shape .given .1))
 
--- src/reading.rt:40:1
 returns-2 : tie.Need-returns-2
 returns-2 c = let a = c .before .before .before .before .before .args in c .read-signed .ensures ∙ ap (λ (sh : Shape). readValue sh (a .place) (a .s .now) (a .at)) (sym (c .before .before .shape2 .given .1))
 
--- src/reading.rt:40:1
 returns-3 : tie.Need-returns-3
 returns-3 c = let a = c .before .before .before .before .args in c .read-float .ensures ∙ ap (λ (sh : Shape). readValue sh (a .place) (a .s .now) (a .at)) (sym (c .before .enum-told .given .1))
 
--- src/reading.rt:40:1
 returns-4 : tie.Need-returns-4
 returns-4 c = let a = c .before .before .before .before .args in c .read-double .ensures ∙ ap (λ (sh : Shape). readValue sh (a .place) (a .s .now) (a .at)) (sym (c .before .enum-told2 .given .1))
 
--- src/reading.rt:40:1
 returns-5 : tie.Need-returns-5
 returns-5 c = let a = c .before .before .before .before .args in c .read-year .ensures ∙ ap (λ (sh : Shape). readValue sh (a .place) (a .s .now) (a .at)) (sym (c .before .enum-told3 .given .1))
 
--- src/reading.rt:40:1
 returns-6 : tie.Need-returns-6
 returns-6 c = let a = c .before .before .before .before .before .args in c .read-timed .ensures ∙ ap (λ (sh : Shape). readValue sh (a .place) (a .s .now) (a .at)) (sym (c .before .before .shape3 .given .1))
 
--- src/reading.rt:40:1
 returns-7 : tie.Need-returns-7
 returns-7 c = let a = c .before .before .before .before .before .args in c .read-fixed .ensures ∙ ap (λ (sh : Shape). readValue sh (a .place) (a .s .now) (a .at)) (sym (c .before .before .shape4 .given .1))
 
--- src/reading.rt:40:1
 returns-8 : tie.Need-returns-8
 returns-8 c = let a = c .before .before .before .before .before .args in c .read-counted .ensures ∙ ap (λ (sh : Shape). readValue sh (a .place) (a .s .now) (a .at)) (sym (c .before .before .shape5 .given .1))
 
--- src/reading.rt:40:1
 returns-9 : tie.Need-returns-9
 returns-9 c = let a = c .before .before .before .before .before .args in ap refused (c .refuse .ensures) ∙ no-column _ (a .place) (a .s .now) (a .at) ∙ ap (λ (sh : Shape). readValue sh (a .place) (a .s .now) (a .at)) (sym (c .before .before .shape6 .given .1))
 

@@ -1,21 +1,12 @@
-use Prim.Native.Nat.{ℕ, _+_, _-_, _*_, _/_, _%_, _^_, _≤_, _<_, min}
-use mathlib.Core.Path.{_≡_, refl, sym, ap, subst, _∙_}
-use mathlib.Core.Bool.{true, false}
-use mathlib.Core.List.{List, [], _++_}
+-- `value::reading::read_signed` meets its contract. Assumes nothing.
+use Prim.Native.Nat.{ℕ, _^_, min}
+use mathlib.Core.Path.{_≡_, refl, ap, _∙_}
 use native.Mathlib.Omega.{arith}
-use borrow.Author.Tests.{lt-ltb, le-ltb, le-leb, lt-leb, eq-eqb, ne-eqb, not-true, not-false}
-use lib.ListN.{length, take, drop, length-append}
-use lib.Dec.{leb}
-use Rattle.value.specs.declared.shape.Shape.{Shape}
-use Rattle.value.specs.declared.shape.Shape.the-variants.{Unsigned, Signed, FloatBits, DoubleBits, YearByte, Timed, Fixed, Counted, NotTaken}
-use Rattle.value.specs.Shapes.{Sized, need, bytesOf, decode, fault}
-use Rattle.value.specs.Data.{tag, intIn, numberIn, whenIn, magnitudeOf}
-use Rattle.value.specs.Reading.{readOf, readValue, datumOf, placed}
-use Rattle.value.specs.Storing.{isIn, isLent, lenOf, startOf}
-use Rattle.wire.specs.Outcome.{refused}
-use Rattle.wire.specs.Stored.{store, answerOf, leftOf, writtenOf}
+use lib.ListN.{take, drop}
+use Rattle.value.specs.declared.shape.Shape.the-variants.{Signed}
+use Rattle.value.specs.Shapes.{need, decode, fault}
+use Rattle.value.specs.Reading.{readOf, placed}
 use mir.Syntax.{w64}
-use mir.Val.{toZ, ofZ}
 use mir.ValLaws.{toZ-ofZ}
 use Rattle.wire.specs.Number.{leValue}
 use Rattle.wire.specs.Signed.{signedOf}
@@ -33,40 +24,32 @@ use Rattle.value.proofs.signed.signed.Reads as signed-reads
 use Rattle.value.proofs.signed.top.Reads as top-reads
 use Rattle.wire.proofs.read_le.Reads as read-le-reads
 
--- src/reading.rt:71:8
 rest-requires : tie.Need-rest-requires
 rest-requires c κs = search needs
 
--- src/reading.rt:72:9
 short-requires : tie.Need-short-requires
 short-requires c κs = search needs
 
--- src/reading.rt:72:9
 returns : tie.Need-returns
 unfolding isTaken need
 returns c = let a = c .before .before .before .before .args in
     ap readOf (c .short .ensures) ∙ ends-early (Signed (a .k)) (a .place) (a .s .now) (a .at) refl (omega (arith, c .before .before .rest .ensures))
 
--- src/reading.rt:74:16
 add-next : tie.Need-add-next
 add-next c = search needs
 
--- src/reading.rt:75:9
 read-le-requires : tie.Need-read-le-requires
 read-le-requires c κs = search needs
 
--- src/reading.rt:76:9
 top-requires : tie.Need-top-requires
 top-requires c κs = search needs
 
--- src/reading.rt:77:28
 signed-requires : tie.Need-signed-requires
 signed-requires c κs = let n : min (c .before .before .before .before .before .args .k) 8 ≡ c .before .before .before .before .before .args .k = omega arith in
     let b = c .before .read-le .ensures .1 in
     let b′ = rw n at b in
     omega (arith, c .top .ensures)
 
--- src/reading.rt:67:1
 returns-2 : tie.Need-returns-2
 unfolding isTaken need decode fault placed
 returns-2 c = let a = c .before .before .before .before .before .before .args in

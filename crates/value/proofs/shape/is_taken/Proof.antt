@@ -1,90 +1,70 @@
-use Rattle.value.specs.Data.{tag, intIn, numberIn, whenIn}
-use Rattle.value.specs.Reading.{datumOf}
-use Rattle.value.specs.Storing.{startOf, lenOf}
-use Rattle.value.specs.Columns.{isTaken, refusalOf}
+-- `value::shape::is_taken` meets its contract. Assumes nothing.
+use Rattle.value.specs.Columns.{isTaken}
 use borrow.Author.Needs.{needs}
 use Rattle.value.proofs.shape.is_taken.Statement.{statement}
 use Rattle.value.proofs.shape.is_taken.Tie as tie
 use Rattle.value.proofs.shape.is_taken.Reads as reads
 use Rattle.value.proofs.shape.is_taken.Lts as lts
 
--- src/shape.rt:28:31
 enum-told : tie.Need-enum-told
 enum-told c = search needs
 
--- src/shape.rt:29:29
 enum-told-2 : tie.Need-enum-told-2
 enum-told-2 c = search needs
 
--- src/shape.rt:30:29
 enum-told-3 : tie.Need-enum-told-3
 enum-told-3 c = search needs
 
--- src/shape.rt:31:30
 enum-told-4 : tie.Need-enum-told-4
 enum-told-4 c = search needs
 
--- src/shape.rt:32:28
 enum-told-5 : tie.Need-enum-told-5
 enum-told-5 c = search needs
 
--- src/shape.rt:33:28
 enum-told-6 : tie.Need-enum-told-6
 enum-told-6 c = search needs
 
--- src/shape.rt:34:28
 enum-told-7 : tie.Need-enum-told-7
 enum-told-7 c = search needs
 
--- src/shape.rt:35:30
 enum-told-8 : tie.Need-enum-told-8
 enum-told-8 c = search needs
 
--- src/shape.rt:36:31
 enum-told-9 : tie.Need-enum-told-9
 enum-told-9 c = search needs
 
--- src/shape.rt:24:1
 returns : tie.Need-returns
 unfolding isTaken
 returns c = rw (c .enum-told .given .1)
 
--- src/shape.rt:24:1
 returns-2 : tie.Need-returns-2
 unfolding isTaken
 returns-2 c = rw (c .enum-told2 .given .1)
 
--- src/shape.rt:24:1
 returns-3 : tie.Need-returns-3
 unfolding isTaken
 returns-3 c = rw (c .enum-told3 .given .1)
 
--- src/shape.rt:24:1
 returns-4 : tie.Need-returns-4
 unfolding isTaken
 returns-4 c = rw (c .enum-told4 .given .1)
 
--- src/shape.rt:24:1
 returns-5 : tie.Need-returns-5
 unfolding isTaken
 returns-5 c = rw (c .enum-told5 .given .1)
 
--- src/shape.rt:24:1
 returns-6 : tie.Need-returns-6
 unfolding isTaken
 returns-6 c = rw (c .enum-told6 .given .1)
 
--- src/shape.rt:24:1
 returns-7 : tie.Need-returns-7
 unfolding isTaken
 returns-7 c = rw (c .enum-told7 .given .1)
 
--- src/shape.rt:24:1
 returns-8 : tie.Need-returns-8
 unfolding isTaken
 returns-8 c = rw (c .enum-told8 .given .1)
 
--- src/shape.rt:24:1
 returns-9 : tie.Need-returns-9
 unfolding isTaken
 returns-9 c = rw (c .enum-told9 .given .1)

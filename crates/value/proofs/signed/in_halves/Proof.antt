@@ -1,8 +1,7 @@
-use Prim.Native.Nat.{ℕ, _+_, _-_, _*_, _/_, _%_, _^_, _≤_, _<_, min}
-use mathlib.Core.Path.{_≡_, refl, sym, ap, subst, _∙_}
+-- `value::signed::in_halves` meets its contract. Assumes nothing.
+use Prim.Native.Nat.{_+_, _/_, _%_}
+use mathlib.Core.Path.{_≡_, sym, ap, _∙_}
 use native.Mathlib.Omega.{arith}
-use lib.ListN.{length, take, drop, getD}
-use borrow.Author.Tests.{lt-ltb, le-ltb, le-leb, lt-leb, eq-eqb, ne-eqb}
 use mir.Syntax.{w64}
 use mir.ValLaws.{toZ-ofZ}
 use Rattle.value.specs.Data.{magnitudeOf}
@@ -14,15 +13,12 @@ use Rattle.value.proofs.signed.in_halves.Reads as reads
 use Rattle.value.proofs.signed.in_halves.Lts as lts
 use Rattle.value.proofs.signed.magnitude.Reads as magnitude-reads
 
--- src/signed.rt:50:5
 magnitude-requires : tie.Need-magnitude-requires
 magnitude-requires c κs = search needs
 
--- src/signed.rt:50:20
 add-result : tie.Need-add-result
 add-result c = search needs
 
--- src/signed.rt:47:1
 returns : tie.Need-returns
 returns c = let a = c .before .args in
     let n = c .magnitude .ensures ∙ ap magnitudeOf (toZ-ofZ w64 (a .z) (c .before .fits .z)) in

@@ -1,8 +1,8 @@
-use Prim.Native.Nat.{ℕ, _+_, _-_, _*_, _/_, _%_, _^_, _≤_, _<_, min}
-use mathlib.Core.Path.{_≡_, refl, sym, ap, subst, _∙_}
+-- `value::signed::signed` meets its contract. Assumes nothing.
+use Prim.Native.Nat.{_+_, _-_, _/_, _^_, _≤_, _<_}
+use mathlib.Core.Path.{_≡_, ap, _∙_}
 use native.Mathlib.Omega.{arith}
-use lib.ListN.{length, take, drop, getD}
-use borrow.Author.Tests.{lt-ltb, le-ltb, le-leb, lt-leb, eq-eqb, ne-eqb}
+use borrow.Author.Tests.{lt-ltb, le-ltb}
 use lib.IntN.{negsuc}
 use Rattle.wire.specs.Signed.{signedOf}
 use Rattle.value.proofs.Signs.{neg-fits, neg-is}
@@ -12,27 +12,21 @@ use Rattle.value.proofs.signed.signed.Tie as tie
 use Rattle.value.proofs.signed.signed.Reads as reads
 use Rattle.value.proofs.signed.signed.Lts as lts
 
--- src/signed.rt:26:12
 sub-if1 : tie.Need-sub-if1
 sub-if1 c = search needs
 
--- src/signed.rt:27:9
 cast-result : tie.Need-cast-result
 cast-result c = search needs
 
--- src/signed.rt:29:17
 sub-n : tie.Need-sub-n
 sub-n c = search needs
 
--- src/signed.rt:30:15
 cast-result-2 : tie.Need-cast-result-2
 cast-result-2 c = search needs
 
--- src/signed.rt:30:9
 sub-result : tie.Need-sub-result
 sub-result c = neg-fits (c .before .args .most - c .before .args .x) (omega arith)
 
--- src/signed.rt:22:1
 returns : tie.Need-returns
 unfolding signedOf
 returns c = let x = c .before .args .x in
@@ -40,7 +34,6 @@ returns c = let x = c .before .args .x in
     let h : x < (m + 1) / 2 = omega arith in
     simp (lt-ltb x (2 ^ 63) (omega arith), lt-ltb x ((m + 1) / 2) h)
 
--- src/signed.rt:22:1
 returns-2 : tie.Need-returns-2
 unfolding signedOf
 returns-2 c = let x = c .before .args .x in

@@ -1,8 +1,7 @@
-use Prim.Native.Nat.{ℕ, _+_, _-_, _*_, _/_, _%_, _^_, _≤_, _<_, min}
-use mathlib.Core.Path.{_≡_, refl, sym, ap, subst, _∙_}
+-- `value::signed::top` meets its contract. The loop's invariant: the greatest number of i bytes. Assumes nothing.
+use Prim.Native.Nat.{_+_, _-_, _^_, _≤_}
+use mathlib.Core.Path.{_≡_, refl}
 use native.Mathlib.Omega.{arith}
-use lib.ListN.{length, take, drop, getD}
-use borrow.Author.Tests.{lt-ltb, le-ltb, le-leb, lt-leb, eq-eqb, ne-eqb}
 use Rattle.value.proofs.Signs.{top-fits, top-grows}
 use borrow.Author.Needs.{needs}
 use Rattle.value.proofs.signed.top.Statement.{statement}
@@ -16,31 +15,24 @@ Inv-loop k most₀ i₀ most i = (i ≤ k) × (most + 1 ≡ 256 ^ i)
 abbrev μ-loop : tie.MeasureT-loop
 μ-loop k most₀ i₀ most i = k - i
 
--- src/signed.rt:14:5
 loop-holds : tie.Need-loop-holds Inv-loop μ-loop
 loop-holds c = (omega arith, refl)
 
--- src/signed.rt:15:16
 mul-most : tie.Need-mul-most Inv-loop μ-loop
 mul-most c = let l = c .before .loop in omega (arith, top-fits (l .most) (l .i) (l .inv .1) (omega arith))
 
--- src/signed.rt:15:16
 add-most : tie.Need-add-most Inv-loop μ-loop
 add-most c = let l = c .before .loop in omega (arith, top-fits (l .most) (l .i) (l .inv .1) (omega arith))
 
--- src/signed.rt:16:9
 add-i : tie.Need-add-i Inv-loop μ-loop
 add-i c = search needs
 
--- src/signed.rt:14:5
 loop-less : tie.Need-loop-less Inv-loop μ-loop
 loop-less c = search needs
 
--- src/signed.rt:14:5
 loop-again : tie.Need-loop-again Inv-loop μ-loop
 loop-again c = let l = c .before .loop in (omega arith, top-grows (l .most) (l .i) (l .inv .1))
 
--- src/signed.rt:8:1
 returns : tie.Need-returns Inv-loop μ-loop
 returns c = let e : c .before .loop .i ≡ c .before .before .args .k = omega arith in rw e at (c .before .loop .inv .1)
 

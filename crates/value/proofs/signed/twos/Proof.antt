@@ -1,8 +1,6 @@
-use Prim.Native.Nat.{ℕ, _+_, _-_, _*_, _/_, _%_, _^_, _≤_, _<_, min}
-use mathlib.Core.Path.{_≡_, refl, sym, ap, subst, _∙_}
+-- `value::signed::twos` meets its contract. Assumes nothing.
+use mathlib.Core.Path.{sym, ap, _∙_}
 use native.Mathlib.Omega.{arith}
-use lib.ListN.{length, take, drop, getD}
-use borrow.Author.Tests.{lt-ltb, le-ltb, le-leb, lt-leb, eq-eqb, ne-eqb}
 use mir.Syntax.{w64}
 use mir.ValLaws.{toZ-ofZ}
 use Rattle.value.specs.Data.{magnitudeOf}
@@ -14,26 +12,21 @@ use Rattle.value.proofs.signed.twos.Reads as reads
 use Rattle.value.proofs.signed.twos.Lts as lts
 use Rattle.value.proofs.signed.magnitude.Reads as magnitude-reads
 
--- src/signed.rt:59:23
 magnitude-requires : tie.Need-magnitude-requires
 magnitude-requires c κs = search needs
 
--- src/signed.rt:59:16
 sub-result : tie.Need-sub-result
 sub-result c = let n = c .magnitude .ensures ∙ ap magnitudeOf (toZ-ofZ w64 (c .before .before .args .z) (c .before .before .fits .z)) in omega arith
 
--- src/signed.rt:59:9
 returns : tie.Need-returns
 returns c = let a = c .before .before .args in
     let w = turned (a .z) (c .before .before .fits .z) (c .before .if1 .taken) in
     let n = c .magnitude .ensures ∙ ap magnitudeOf (toZ-ofZ w64 (a .z) (c .before .before .fits .z)) ∙ magnitude-neg _ _ (w .1) in
     rw n (sym (twos-neg (a .most) (a .z) (w .0) (w .1)))
 
--- src/signed.rt:61:5
 magnitude-requires-2 : tie.Need-magnitude-requires-2
 magnitude-requires-2 c κs = search needs
 
--- src/signed.rt:54:1
 returns-2 : tie.Need-returns-2
 returns-2 c = let a = c .before .before .args in
     let w = same (a .z) (c .before .before .fits .z) (c .before .if1 .left) .1 in

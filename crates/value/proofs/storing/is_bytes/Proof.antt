@@ -1,7 +1,8 @@
-use Prim.Native.Nat.{ℕ, _+_, _-_, _*_, _/_, _%_, _^_, _≤_, _<_, min}
-use mathlib.Core.Path.{_≡_, refl, sym, ap, subst, _∙_}
+-- `value::storing::is_bytes` meets its contract. Assumes nothing.
+use Prim.Native.Nat.{_≤_, _<_}
+use mathlib.Core.Path.{sym, _∙_}
 use native.Mathlib.Omega.{arith}
-use borrow.Author.Tests.{lt-ltb, le-ltb, le-leb, lt-leb, eq-eqb, ne-eqb}
+use borrow.Author.Tests.{le-leb, lt-leb, eq-eqb, ne-eqb}
 use mathlib.Core.List.{[]}
 use Rattle.value.specs.Data.{tag}
 use Rattle.value.specs.Reading.{datumOf}
@@ -14,28 +15,23 @@ use Rattle.value.proofs.storing.is_bytes.Lts as lts
 use Rattle.value.proofs.datum.len_of.Reads as len-of-reads
 use Rattle.value.proofs.datum.tag_of.Reads as tag-of-reads
 
--- src/storing.rt:69:8
 tag-of-requires : tie.Need-tag-of-requires
 tag-of-requires c κs = search needs
 
--- src/storing.rt:70:9
 returns : tie.Need-returns
 returns c = let a = c .before .before .args in
     let d = datumOf [] (a .value) in
     rw (ne-eqb (tag d) 7 (λ e. c .if1 .taken (c .before .tag-of .ensures ∙ e)))
 
--- src/storing.rt:72:13
 len-of-requires : tie.Need-len-of-requires
 len-of-requires c κs = search needs
 
--- src/storing.rt:74:9
 returns-2 : tie.Need-returns-2
 returns-2 c = let a = c .before .before .before .before .args in
     let d = datumOf [] (a .value) in
     let h : lenOf (a .value) < a .least = omega (arith, c .before .len-of .ensures) in
     rw (eq-eqb (tag d) 7 (sym (c .before .before .before .tag-of .ensures) ∙ c .before .before .if1 .left), lt-leb (a .least) (lenOf (a .value)) h)
 
--- src/storing.rt:66:1
 returns-3 : tie.Need-returns-3
 returns-3 c = let a = c .before .before .before .before .args in
     let d = datumOf [] (a .value) in

@@ -1,22 +1,12 @@
-use Prim.Native.Nat.{ℕ, _+_, _-_, _*_, _/_, _%_, _^_, _≤_, _<_, min}
-use mathlib.Core.Path.{_≡_, refl, sym, ap, subst, _∙_}
-use mathlib.Core.Bool.{true, false}
-use mathlib.Core.List.{List, [], _++_}
+-- `value::storing::is_in` meets its contract. Assumes nothing.
+use Prim.Native.Nat.{_≤_}
+use mathlib.Core.Path.{sym, ap, subst, _∙_}
 use native.Mathlib.Omega.{arith}
-use borrow.Author.Tests.{lt-ltb, le-ltb, le-leb, lt-leb, eq-eqb, ne-eqb, not-true, not-false}
-use lib.ListN.{length, take, drop, length-append}
-use lib.Dec.{leb}
+use borrow.Author.Tests.{not-true, not-false}
 use Rattle.value.specs.declared.shape.Shape.{Shape}
-use Rattle.value.specs.declared.shape.Shape.the-variants.{Unsigned, Signed, FloatBits, DoubleBits, YearByte, Timed, Fixed, Counted, NotTaken}
-use Rattle.value.specs.Shapes.{Sized, need, bytesOf, decode, fault}
-use Rattle.value.specs.Data.{tag, intIn, numberIn, whenIn, magnitudeOf}
-use Rattle.value.specs.Reading.{readOf, readValue, datumOf, placed}
-use Rattle.value.specs.Storing.{isIn, isLent, lenOf, startOf}
-use Rattle.wire.specs.Outcome.{refused}
-use Rattle.wire.specs.Stored.{store, answerOf, leftOf, writtenOf}
-use mir.Syntax.{w64}
-use mir.Val.{toZ, ofZ}
-use mir.ValLaws.{toZ-ofZ}
+use Rattle.value.specs.declared.shape.Shape.the-variants.{Unsigned, FloatBits, DoubleBits}
+use Rattle.value.specs.Shapes.{Sized}
+use Rattle.value.specs.Storing.{isIn}
 use Rattle.value.proofs.Ins.{not-in, in-plain, unsigned-domain, float-domain, double-domain, in-year, in-signed, in-timed, in-fixed, in-counted, in-none}
 use borrow.Author.Needs.{needs}
 use Rattle.value.proofs.storing.is_in.Statement.{statement}
@@ -30,159 +20,126 @@ use Rattle.value.proofs.storing.is_number.Reads as is-number-reads
 use Rattle.value.proofs.storing.is_signed.Reads as is-signed-reads
 use Rattle.value.proofs.storing.is_timed.Reads as is-timed-reads
 
--- src/storing.rt:105:9
 is-lent-requires : tie.Need-is-lent-requires
 is-lent-requires c κs = search needs
 
--- src/storing.rt:106:9
 returns : tie.Need-returns
 returns c = let a = c .before .before .before .args in not-in (a .shape) (a .lent .now) (a .value) (sym (c .before .is-lent .ensures) ∙ not-true _ (c .if1 .taken))
 
--- src/storing.rt:109:25
 enum-known-shape : tie.Need-enum-known-shape
 enum-known-shape c = search needs
 
--- src/storing.rt:109:57
 top-requires : tie.Need-top-requires
 top-requires c κs = subst Sized (c .before .shape .given .1) (c .before .before .before .before .before .before .pre)
 
--- src/storing.rt:109:31
 is-number-requires : tie.Need-is-number-requires
 is-number-requires c κs = search needs
 
--- src/storing.rt:110:23
 enum-known-shape-2 : tie.Need-enum-known-shape-2
 enum-known-shape-2 c = search needs
 
--- src/storing.rt:110:46
 top-requires-2 : tie.Need-top-requires-2
 top-requires-2 c κs = subst Sized (c .before .shape2 .given .1) (c .before .before .before .before .before .before .pre) .1
 
--- src/storing.rt:110:29
 is-signed-requires : tie.Need-is-signed-requires
 is-signed-requires c κs = search needs
 
--- src/storing.rt:111:56
 enum-told : tie.Need-enum-told
 enum-told c = search needs
 
--- src/storing.rt:111:56
 top-requires-3 : tie.Need-top-requires-3
 top-requires-3 c κs = search needs
 
--- src/storing.rt:111:29
 is-number-requires-2 : tie.Need-is-number-requires-2
 is-number-requires-2 c κs = search needs
 
--- src/storing.rt:112:58
 enum-told-2 : tie.Need-enum-told-2
 enum-told-2 c = search needs
 
--- src/storing.rt:112:58
 top-requires-4 : tie.Need-top-requires-4
 top-requires-4 c κs = search needs
 
--- src/storing.rt:112:30
 is-number-requires-3 : tie.Need-is-number-requires-3
 is-number-requires-3 c κs = search needs
 
--- src/storing.rt:113:28
 enum-told-3 : tie.Need-enum-told-3
 enum-told-3 c = search needs
 
--- src/storing.rt:113:28
 is-number-requires-4 : tie.Need-is-number-requires-4
 is-number-requires-4 c κs = search needs
 
--- src/storing.rt:114:22
 enum-known-shape-3 : tie.Need-enum-known-shape-3
 enum-known-shape-3 c = search needs
 
--- src/storing.rt:114:31
 is-timed-requires : tie.Need-is-timed-requires
 is-timed-requires c κs = search needs
 
--- src/storing.rt:115:22
 enum-known-shape-4 : tie.Need-enum-known-shape-4
 enum-known-shape-4 c = search needs
 
--- src/storing.rt:115:28
 is-bytes-requires : tie.Need-is-bytes-requires
 is-bytes-requires c κs = search needs
 
--- src/storing.rt:116:24
 enum-known-shape-5 : tie.Need-enum-known-shape-5
 enum-known-shape-5 c = search needs
 
--- src/storing.rt:116:49
 top-requires-5 : tie.Need-top-requires-5
 top-requires-5 c κs = let h : c .before .shape5 .given .0 .0 ≤ 4 = subst Sized (c .before .shape5 .given .1) (c .before .before .before .before .before .before .pre) in omega arith
 
--- src/storing.rt:116:30
 is-bytes-requires-2 : tie.Need-is-bytes-requires-2
 is-bytes-requires-2 c κs = search needs
 
--- src/storing.rt:117:31
 enum-told-4 : tie.Need-enum-told-4
 enum-told-4 c = search needs
 
--- src/storing.rt:101:1
 returns-2 : tie.Need-returns-2
 returns-2 c = let a = c .before .before .before .before .before .before .before .before .args in
     let s = a .lent .now in
     let v = a .value in
     c .is-number .ensures ∙ in-plain (Unsigned (c .before .before .before .shape .given .0 .0)) 2 (c .before .before .before .shape .given .0 .0) _ s v (unsigned-domain _) (c .before .top .ensures) (sym (c .before .before .before .before .before .before .is-lent .ensures) ∙ not-false _ (c .before .before .before .before .before .if1 .left)) ∙ ap (λ (sh : Shape). isIn sh s v) (sym (c .before .before .before .shape .given .1))
 
--- src/storing.rt:101:1
 returns-3 : tie.Need-returns-3
 returns-3 c = let a = c .before .before .before .before .before .before .before .before .args in
     let s = a .lent .now in
     let v = a .value in
     c .is-signed .ensures ∙ in-signed (c .before .before .before .shape2 .given .0 .0) _ s v (c .before .top2 .ensures) (sym (c .before .before .before .before .before .before .is-lent .ensures) ∙ not-false _ (c .before .before .before .before .before .if1 .left)) ∙ ap (λ (sh : Shape). isIn sh s v) (sym (c .before .before .before .shape2 .given .1))
 
--- src/storing.rt:101:1
 returns-4 : tie.Need-returns-4
 returns-4 c = let a = c .before .before .before .before .before .before .before .args in
     let s = a .lent .now in
     let v = a .value in
     c .is-number2 .ensures ∙ in-plain FloatBits 3 4 _ s v float-domain (c .before .top3 .ensures) (sym (c .before .before .before .before .before .is-lent .ensures) ∙ not-false _ (c .before .before .before .before .if1 .left)) ∙ ap (λ (sh : Shape). isIn sh s v) (sym (c .before .before .enum-told .given .1))
 
--- src/storing.rt:101:1
 returns-5 : tie.Need-returns-5
 returns-5 c = let a = c .before .before .before .before .before .before .before .args in
     let s = a .lent .now in
     let v = a .value in
     c .is-number3 .ensures ∙ in-plain DoubleBits 4 8 _ s v double-domain (c .before .top4 .ensures) (sym (c .before .before .before .before .before .is-lent .ensures) ∙ not-false _ (c .before .before .before .before .if1 .left)) ∙ ap (λ (sh : Shape). isIn sh s v) (sym (c .before .before .enum-told2 .given .1))
 
--- src/storing.rt:101:1
 returns-6 : tie.Need-returns-6
 returns-6 c = let a = c .before .before .before .before .before .before .args in
     let s = a .lent .now in
     let v = a .value in
     c .is-number4 .ensures ∙ in-year s v (sym (c .before .before .before .before .is-lent .ensures) ∙ not-false _ (c .before .before .before .if1 .left)) ∙ ap (λ (sh : Shape). isIn sh s v) (sym (c .before .enum-told3 .given .1))
 
--- src/storing.rt:101:1
 returns-7 : tie.Need-returns-7
 returns-7 c = let a = c .before .before .before .before .before .before .before .args in
     let s = a .lent .now in
     let v = a .value in
     c .is-timed .ensures ∙ in-timed _ s v (sym (c .before .before .before .before .before .is-lent .ensures) ∙ not-false _ (c .before .before .before .before .if1 .left)) ∙ ap (λ (sh : Shape). isIn sh s v) (sym (c .before .before .shape3 .given .1))
 
--- src/storing.rt:101:1
 returns-8 : tie.Need-returns-8
 returns-8 c = let a = c .before .before .before .before .before .before .before .args in
     let s = a .lent .now in
     let v = a .value in
     c .is-bytes .ensures ∙ in-fixed _ s v (sym (c .before .before .before .before .before .is-lent .ensures) ∙ not-false _ (c .before .before .before .before .if1 .left)) ∙ ap (λ (sh : Shape). isIn sh s v) (sym (c .before .before .shape4 .given .1))
 
--- src/storing.rt:101:1
 returns-9 : tie.Need-returns-9
 returns-9 c = let a = c .before .before .before .before .before .before .before .before .args in
     let s = a .lent .now in
     let v = a .value in
     c .is-bytes2 .ensures ∙ in-counted (c .before .before .before .shape5 .given .0 .0) _ s v (c .before .top5 .ensures) (sym (c .before .before .before .before .before .before .is-lent .ensures) ∙ not-false _ (c .before .before .before .before .before .if1 .left)) ∙ ap (λ (sh : Shape). isIn sh s v) (sym (c .before .before .before .shape5 .given .1))
 
--- src/storing.rt:101:1
 returns-10 : tie.Need-returns-10
 returns-10 c = let a = c .before .before .before .before .before .args in
     let s = a .lent .now in

@@ -1,7 +1,8 @@
-use Prim.Native.Nat.{ℕ, _+_, _-_, _*_, _/_, _%_, _^_, _≤_, _<_, min}
-use mathlib.Core.Path.{_≡_, refl, sym, ap, subst, _∙_}
+-- `value::storing::is_number` meets its contract. Assumes nothing.
+use Prim.Native.Nat.{_≤_, _<_}
+use mathlib.Core.Path.{sym, _∙_}
 use native.Mathlib.Omega.{arith}
-use borrow.Author.Tests.{lt-ltb, le-ltb, le-leb, lt-leb, eq-eqb, ne-eqb}
+use borrow.Author.Tests.{le-leb, lt-leb, eq-eqb, ne-eqb}
 use mathlib.Core.List.{[]}
 use Rattle.value.specs.Data.{tag, numberIn}
 use Rattle.value.specs.Reading.{datumOf}
@@ -13,28 +14,23 @@ use Rattle.value.proofs.storing.is_number.Lts as lts
 use Rattle.value.proofs.datum.number_in.Reads as number-in-reads
 use Rattle.value.proofs.datum.tag_of.Reads as tag-of-reads
 
--- src/storing.rt:45:8
 tag-of-requires : tie.Need-tag-of-requires
 tag-of-requires c κs = search needs
 
--- src/storing.rt:46:9
 returns : tie.Need-returns
 returns c = let a = c .before .before .args in
     let d = datumOf [] (a .value) in
     rw (ne-eqb (tag d) (a .sort) (λ e. c .if1 .taken (c .before .tag-of .ensures ∙ e)))
 
--- src/storing.rt:48:9
 number-in-requires : tie.Need-number-in-requires
 number-in-requires c κs = search needs
 
--- src/storing.rt:50:9
 returns-2 : tie.Need-returns-2
 returns-2 c = let a = c .before .before .before .before .args in
     let d = datumOf [] (a .value) in
     let h : numberIn d < a .least = omega (arith, c .before .number-in .ensures) in
     rw (eq-eqb (tag d) (a .sort) (sym (c .before .before .before .tag-of .ensures) ∙ c .before .before .if1 .left), lt-leb (a .least) (numberIn d) h)
 
--- src/storing.rt:42:1
 returns-3 : tie.Need-returns-3
 returns-3 c = let a = c .before .before .before .before .args in
     let d = datumOf [] (a .value) in

@@ -1,25 +1,16 @@
+-- `value::storing::size_in` meets its contract. Assumes nothing.
 use Rattle.value.proofs.Ins.{lent-fits}
-use Prim.Native.Nat.{ℕ, _+_, _-_, _*_, _/_, _%_, _^_, _≤_, _<_, min}
+use Prim.Native.Nat.{ℕ, _+_, _≤_}
 use mathlib.Core.Path.{_≡_, refl, sym, ap, subst, _∙_}
-use mathlib.Core.Bool.{true, false}
-use mathlib.Core.List.{List, [], _++_}
+use mathlib.Core.Bool.{true}
 use native.Mathlib.Omega.{arith}
-use borrow.Author.Tests.{lt-ltb, le-ltb, le-leb, lt-leb, eq-eqb, ne-eqb, not-true, not-false}
-use lib.ListN.{length, take, drop, length-append}
-use lib.Dec.{leb}
+use lib.ListN.{length}
 use Rattle.value.specs.declared.shape.Shape.{Shape}
-use Rattle.value.specs.declared.shape.Shape.the-variants.{Unsigned, Signed, FloatBits, DoubleBits, YearByte, Timed, Fixed, Counted, NotTaken}
-use Rattle.value.specs.Shapes.{Sized, need, bytesOf, decode, fault}
-use Rattle.value.specs.Data.{tag, intIn, numberIn, whenIn, magnitudeOf}
-use Rattle.value.specs.Reading.{readOf, readValue, datumOf, placed}
-use Rattle.value.specs.Storing.{isIn, isLent, lenOf, startOf}
-use Rattle.wire.specs.Outcome.{refused}
-use Rattle.wire.specs.Stored.{store, answerOf, leftOf, writtenOf}
-use mir.Syntax.{w64}
-use mir.Val.{toZ, ofZ}
-use mir.ValLaws.{toZ-ofZ}
+use Rattle.value.specs.declared.shape.Shape.the-variants.{Unsigned, Signed, FloatBits, DoubleBits, YearByte, Timed, Fixed}
+use Rattle.value.specs.Shapes.{Sized, need, bytesOf}
+use Rattle.value.specs.Reading.{datumOf}
+use Rattle.value.specs.Storing.{isIn, lenOf, startOf}
 use Rattle.value.proofs.Ins.{size-at, size-counted, is-in, in-none}
-use Rattle.value.proofs.Facts.{both}
 use borrow.Author.Needs.{needs}
 use Rattle.value.proofs.storing.size_in.Statement.{statement}
 use Rattle.value.proofs.storing.size_in.Tie as tie
@@ -28,93 +19,73 @@ use Rattle.value.proofs.storing.size_in.Lts as lts
 use Rattle.temporal.proofs.temporal_size.Reads as temporal-size-reads
 use Rattle.value.proofs.datum.len_of.Reads as len-of-reads
 
--- src/storing.rt:127:25
 enum-known-shape : tie.Need-enum-known-shape
 enum-known-shape c = search needs
 
--- src/storing.rt:128:23
 enum-known-shape-2 : tie.Need-enum-known-shape-2
 enum-known-shape-2 c = search needs
 
--- src/storing.rt:129:29
 enum-told : tie.Need-enum-told
 enum-told c = search needs
 
--- src/storing.rt:130:30
 enum-told-2 : tie.Need-enum-told-2
 enum-told-2 c = search needs
 
--- src/storing.rt:131:28
 enum-told-3 : tie.Need-enum-told-3
 enum-told-3 c = search needs
 
--- src/storing.rt:132:22
 enum-known-shape-3 : tie.Need-enum-known-shape-3
 enum-known-shape-3 c = search needs
 
--- src/storing.rt:132:31
 temporal-size-requires : tie.Need-temporal-size-requires
 temporal-size-requires c κs = search needs
 
--- src/storing.rt:133:22
 enum-known-shape-4 : tie.Need-enum-known-shape-4
 enum-known-shape-4 c = search needs
 
--- src/storing.rt:134:24
 enum-known-shape-5 : tie.Need-enum-known-shape-5
 enum-known-shape-5 c = search needs
 
--- src/storing.rt:134:34
 len-of-requires : tie.Need-len-of-requires
 len-of-requires c κs = search needs
 
--- src/storing.rt:134:30
 add-result : tie.Need-add-result
 add-result c = let a = c .before .before .before .before .before .args in
     let l : startOf (a .value) + lenOf (a .value) ≤ length (a .lent .now) = lent-fits (a .lent .now) (a .value) (is-in _ (a .lent .now) (a .value) (c .before .before .before .before .before .pre .1) .0) in
     let h : c .before .before .shape5 .given .0 .0 ≤ 4 = subst Sized (c .before .before .shape5 .given .1) (c .before .before .before .before .before .pre .0) in
     omega (arith, c .len-of .ensures)
 
--- src/storing.rt:135:31
 enum-told-4 : tie.Need-enum-told-4
 enum-told-4 c = search needs
 
--- src/storing.rt:122:1
 returns : tie.Need-returns
 unfolding need
 returns c = let a = c .before .before .before .before .args in size-at (a .shape) (Unsigned (c .before .shape .given .0 .0)) _ (a .lent .now) (a .value) (c .before .shape .given .1) (c .before .before .before .before .pre .1) (λ b. refl)
 
--- src/storing.rt:122:1
 returns-2 : tie.Need-returns-2
 unfolding need
 returns-2 c = let a = c .before .before .before .before .args in size-at (a .shape) (Signed (c .before .shape2 .given .0 .0)) _ (a .lent .now) (a .value) (c .before .shape2 .given .1) (c .before .before .before .before .pre .1) (λ b. refl)
 
--- src/storing.rt:122:1
 returns-3 : tie.Need-returns-3
 unfolding need
 returns-3 c = let a = c .before .before .before .args in size-at (a .shape) FloatBits 4 (a .lent .now) (a .value) (c .enum-told .given .1) (c .before .before .before .pre .1) (λ b. refl)
 
--- src/storing.rt:122:1
 returns-4 : tie.Need-returns-4
 unfolding need
 returns-4 c = let a = c .before .before .before .args in size-at (a .shape) DoubleBits 8 (a .lent .now) (a .value) (c .enum-told2 .given .1) (c .before .before .before .pre .1) (λ b. refl)
 
--- src/storing.rt:122:1
 returns-5 : tie.Need-returns-5
 unfolding need
 returns-5 c = let a = c .before .before .before .args in size-at (a .shape) YearByte 1 (a .lent .now) (a .value) (c .enum-told3 .given .1) (c .before .before .before .pre .1) (λ b. refl)
 
--- src/storing.rt:122:1
 returns-6 : tie.Need-returns-6
 unfolding need
 returns-6 c = let a = c .before .before .before .before .before .args in c .temporal-size .ensures ∙ size-at (a .shape) (Timed (c .before .before .shape3 .given .0 .0)) _ (a .lent .now) (a .value) (c .before .before .shape3 .given .1) (c .before .before .before .before .before .pre .1) (λ b. refl)
 
--- src/storing.rt:122:1
 returns-7 : tie.Need-returns-7
 unfolding need
 returns-7 c = let a = c .before .before .before .before .args in size-at (a .shape) (Fixed (c .before .shape4 .given .0 .0)) _ (a .lent .now) (a .value) (c .before .shape4 .given .1) (c .before .before .before .before .pre .1) (λ b. refl)
 
--- src/storing.rt:122:1
 returns-8 : tie.Need-returns-8
 returns-8 c = let a = c .before .before .before .before .before .args in
     let s = a .lent .now in
@@ -122,7 +93,6 @@ returns-8 c = let a = c .before .before .before .before .before .args in
     let k = c .before .before .shape5 .given .0 .0 in
     ap (λ (n : ℕ). k + n) (c .len-of .ensures) ∙ size-counted k s v (subst (λ (sh : Shape). isIn sh s v ≡ true) (c .before .before .shape5 .given .1) (c .before .before .before .before .before .pre .1)) ∙ ap (λ (sh : Shape). length (bytesOf sh (datumOf s v))) (sym (c .before .before .shape5 .given .1))
 
--- src/storing.rt:122:1
 returns-9 : tie.Need-returns-9
 returns-9 c = let a = c .before .before .before .args in
     let h = ap (λ (sh : Shape). isIn sh (a .lent .now) (a .value)) (sym (c .enum-told4 .given .1)) ∙ c .before .before .before .pre .1 in

@@ -1,23 +1,12 @@
-use Prim.Native.Nat.{ℕ, _+_, _-_, _*_, _/_, _%_, _^_, _≤_, _<_, min}
-use mathlib.Core.Path.{_≡_, refl, sym, ap, subst, _∙_}
-use mathlib.Core.Bool.{true, false}
-use mathlib.Core.List.{List, [], _++_}
+-- `value::storing::store_shape` meets its contract. Assumes nothing.
+use Prim.Native.Nat.{ℕ}
+use mathlib.Core.Path.{_≡_, sym, ap, subst, _∙_}
 use native.Mathlib.Omega.{arith}
-use borrow.Author.Tests.{lt-ltb, le-ltb, le-leb, lt-leb, eq-eqb, ne-eqb, not-true, not-false}
-use lib.ListN.{length, take, drop, length-append}
-use lib.Dec.{leb}
 use Rattle.value.specs.declared.shape.Shape.{Shape}
-use Rattle.value.specs.declared.shape.Shape.the-variants.{Unsigned, Signed, FloatBits, DoubleBits, YearByte, Timed, Fixed, Counted, NotTaken}
-use Rattle.value.specs.Shapes.{Sized, need, bytesOf, decode, fault}
-use Rattle.value.specs.Data.{tag, intIn, numberIn, whenIn, magnitudeOf}
-use Rattle.value.specs.Reading.{readOf, readValue, datumOf, placed}
-use Rattle.value.specs.Storing.{isIn, isLent, lenOf, startOf}
-use Rattle.wire.specs.Outcome.{refused}
-use Rattle.wire.specs.Stored.{store, answerOf, leftOf, writtenOf}
+use Rattle.value.specs.Shapes.{Sized}
+use Rattle.value.specs.Storing.{isIn}
 use mir.Syntax.{w64}
-use mir.Val.{toZ, ofZ}
 use mir.ValLaws.{toZ-ofZ}
-use Rattle.wire.specs.Signed.{twosOf}
 use Rattle.value.proofs.Ins.{is-in, in-none, put-unsigned, put-signed, put-float, put-double, put-year, put-fixed, put-counted, put-timed, signed-small, year-least}
 use borrow.Author.Needs.{needs}
 use Rattle.value.proofs.storing.store_shape.Statement.{statement}
@@ -34,124 +23,95 @@ use Rattle.value.proofs.storing.write_part.Reads as write-part-reads
 use Rattle.wire.proofs.write_le.Reads as write-le-reads
 use Rattle.wire.proofs.refuse.Reads as refuse-reads
 
--- src/storing.rt:177:25
 enum-known-shape : tie.Need-enum-known-shape
 enum-known-shape c = search needs
 
--- src/storing.rt:177:58
 number-in-requires : tie.Need-number-in-requires
 number-in-requires c κs = search needs
 
--- src/storing.rt:177:31
 write-le-requires : tie.Need-write-le-requires
 write-le-requires c κs = search needs
 
--- src/storing.rt:178:23
 enum-known-shape-2 : tie.Need-enum-known-shape-2
 enum-known-shape-2 c = search needs
 
--- src/storing.rt:178:61
 int-in-requires : tie.Need-int-in-requires
 int-in-requires c κs = search needs
 
--- src/storing.rt:178:76
 top-requires : tie.Need-top-requires
 top-requires c κs = subst Sized (c .before .before .before .shape2 .given .1) (c .before .before .before .before .before .before .before .pre .0) .1
 
--- src/storing.rt:178:56
 twos-requires : tie.Need-twos-requires
 twos-requires c κs = let a = c .before .before .before .before .before .before .before .before .args in
     let h = ap (λ (sh : Shape). isIn sh (a .lent .now) (a .value)) (sym (c .before .before .before .before .shape2 .given .1)) ∙ c .before .before .before .before .before .before .before .before .pre .1 in
     let z = toZ-ofZ w64 (c .before .int-in .result) (record { sfits = c .before .int-in .ok }) ∙ c .before .int-in .ensures in
     rw z (signed-small (c .before .before .before .before .shape2 .given .0 .0) (c .top .result) (a .lent .now) (a .value) (c .top .ensures) h)
 
--- src/storing.rt:178:29
 write-le-requires-2 : tie.Need-write-le-requires-2
 write-le-requires-2 c κs = search needs
 
--- src/storing.rt:179:44
 enum-told : tie.Need-enum-told
 enum-told c = search needs
 
--- src/storing.rt:179:56
 number-in-requires-2 : tie.Need-number-in-requires-2
 number-in-requires-2 c κs = search needs
 
--- src/storing.rt:179:29
 write-le-requires-3 : tie.Need-write-le-requires-3
 write-le-requires-3 c κs = search needs
 
--- src/storing.rt:180:45
 enum-told-2 : tie.Need-enum-told-2
 enum-told-2 c = search needs
 
--- src/storing.rt:180:57
 number-in-requires-3 : tie.Need-number-in-requires-3
 number-in-requires-3 c κs = search needs
 
--- src/storing.rt:180:30
 write-le-requires-4 : tie.Need-write-le-requires-4
 write-le-requires-4 c κs = search needs
 
--- src/storing.rt:181:43
 enum-told-3 : tie.Need-enum-told-3
 enum-told-3 c = search needs
 
--- src/storing.rt:181:55
 number-in-requires-4 : tie.Need-number-in-requires-4
 number-in-requires-4 c κs = search needs
 
--- src/storing.rt:181:55
 sub-write-le : tie.Need-sub-write-le
 sub-write-le c = let a = c .before .before .before .before .before .before .args in
     let h = ap (λ (sh : Shape). isIn sh (a .lent .now) (a .value)) (sym (c .before .before .enum-told3 .given .1)) ∙ c .before .before .before .before .before .before .pre .1 in
     omega (arith, year-least (a .lent .now) (a .value) h, c .number-in4 .ensures)
 
--- src/storing.rt:181:28
 write-le-requires-5 : tie.Need-write-le-requires-5
 write-le-requires-5 c κs = search needs
 
--- src/storing.rt:182:22
 enum-known-shape-3 : tie.Need-enum-known-shape-3
 enum-known-shape-3 c = search needs
 
--- src/storing.rt:182:71
 when-in-requires : tie.Need-when-in-requires
 when-in-requires c κs = search needs
 
--- src/storing.rt:182:31
 write-temporal-requires : tie.Need-write-temporal-requires
 write-temporal-requires c κs = search needs
 
--- src/storing.rt:183:55
 enum-told-4 : tie.Need-enum-told-4
 enum-told-4 c = search needs
 
--- src/storing.rt:183:28
 write-part-requires : tie.Need-write-part-requires
 write-part-requires c κs = let a = c .before .before .before .before .before .args in (omega arith, is-in _ (a .lent .now) (a .value) (c .before .before .before .before .before .pre .1) .0)
 
--- src/storing.rt:184:24
 enum-known-shape-4 : tie.Need-enum-known-shape-4
 enum-known-shape-4 c = search needs
 
--- src/storing.rt:184:30
 write-part-requires-2 : tie.Need-write-part-requires-2
 write-part-requires-2 c κs = let a = c .before .before .before .before .before .before .args in (subst Sized (c .before .before .shape4 .given .1) (c .before .before .before .before .before .before .pre .0), is-in _ (a .lent .now) (a .value) (c .before .before .before .before .before .before .pre .1) .0)
 
--- src/storing.rt:185:25
 enum-known-shape-5 : tie.Need-enum-known-shape-5
 enum-known-shape-5 c = search needs
 
--- src/storing.rt:185:48
 refuse-requires : tie.Need-refuse-requires
 refuse-requires c κs = search needs
 
--- src/storing.rt:165:1
 same-length : tie.Need-same-length
 same-length c = search needs
 
--- src/storing.rt:165:1
 returns : tie.Need-returns
 returns c = let a = c .before .before .before .before .before .before .before .before .before .before .args in
     let s = a .lent .now in
@@ -159,11 +119,9 @@ returns c = let a = c .before .before .before .before .before .before .before .b
     let f = c .before .before .write-le .ensures in
     rw (c .before .before .before .before .before .before .shape .given .1, put-unsigned (c .before .before .before .before .before .before .shape .given .0 .0) s v (subst Sized (c .before .before .before .before .before .before .shape .given .1) (c .before .before .before .before .before .before .before .before .before .before .pre .0)), ← c .before .before .before .number-in .ensures) (f .0, f .1)
 
--- src/storing.rt:165:1
 same-length-2 : tie.Need-same-length-2
 same-length-2 c = search needs
 
--- src/storing.rt:165:1
 returns-2 : tie.Need-returns-2
 returns-2 c = let a = c .before .before .before .before .before .before .before .before .before .before .before .before .args in
     let s = a .lent .now in
@@ -171,11 +129,9 @@ returns-2 c = let a = c .before .before .before .before .before .before .before 
     let f = c .before .before .write-le2 .ensures in
     rw (c .before .before .before .before .before .before .before .before .shape2 .given .1, put-signed (c .before .before .before .before .before .before .before .before .shape2 .given .0 .0) (c .before .before .before .before .top .result) s v (subst Sized (c .before .before .before .before .before .before .before .before .shape2 .given .1) (c .before .before .before .before .before .before .before .before .before .before .before .before .pre .0) .1) (c .before .before .before .before .top .ensures), ← toZ-ofZ w64 (c .before .before .before .before .before .int-in .result) (record { sfits = c .before .before .before .before .before .int-in .ok }) ∙ c .before .before .before .before .before .int-in .ensures, ← c .before .before .before .twos .ensures) (f .0, f .1)
 
--- src/storing.rt:165:1
 same-length-3 : tie.Need-same-length-3
 same-length-3 c = search needs
 
--- src/storing.rt:165:1
 returns-3 : tie.Need-returns-3
 returns-3 c = let a = c .before .before .before .before .before .before .before .before .before .args in
     let s = a .lent .now in
@@ -183,11 +139,9 @@ returns-3 c = let a = c .before .before .before .before .before .before .before 
     let f = c .before .before .write-le3 .ensures in
     rw (c .before .before .before .before .before .enum-told .given .1, put-float s v, ← c .before .before .before .number-in2 .ensures) (f .0, f .1)
 
--- src/storing.rt:165:1
 same-length-4 : tie.Need-same-length-4
 same-length-4 c = search needs
 
--- src/storing.rt:165:1
 returns-4 : tie.Need-returns-4
 returns-4 c = let a = c .before .before .before .before .before .before .before .before .before .args in
     let s = a .lent .now in
@@ -195,11 +149,9 @@ returns-4 c = let a = c .before .before .before .before .before .before .before 
     let f = c .before .before .write-le4 .ensures in
     rw (c .before .before .before .before .before .enum-told2 .given .1, put-double s v, ← c .before .before .before .number-in3 .ensures) (f .0, f .1)
 
--- src/storing.rt:165:1
 same-length-5 : tie.Need-same-length-5
 same-length-5 c = search needs
 
--- src/storing.rt:165:1
 returns-5 : tie.Need-returns-5
 returns-5 c = let a = c .before .before .before .before .before .before .before .before .before .args in
     let s = a .lent .now in
@@ -207,11 +159,9 @@ returns-5 c = let a = c .before .before .before .before .before .before .before 
     let f = c .before .before .write-le5 .ensures in
     rw (c .before .before .before .before .before .enum-told3 .given .1, put-year s v, ← c .before .before .before .number-in4 .ensures) (f .0, f .1)
 
--- src/storing.rt:165:1
 same-length-6 : tie.Need-same-length-6
 same-length-6 c = search needs
 
--- src/storing.rt:165:1
 returns-6 : tie.Need-returns-6
 returns-6 c = let a = c .before .before .before .before .before .before .before .before .before .before .args in
     let s = a .lent .now in
@@ -220,11 +170,9 @@ returns-6 c = let a = c .before .before .before .before .before .before .before 
     let f = c .before .before .write-temporal .ensures in
     rw (c .before .before .before .before .before .before .shape3 .given .1, put-timed (c .before .before .before .before .before .before .shape3 .given .0 .0) s v (a .buf .now) (a .at) h, ← c .before .before .before .when-in .ensures) (f .0, f .1)
 
--- src/storing.rt:165:1
 same-length-7 : tie.Need-same-length-7
 same-length-7 c = search needs
 
--- src/storing.rt:165:1
 returns-7 : tie.Need-returns-7
 returns-7 c = let a = c .before .before .before .before .before .before .before .before .args in
     let s = a .lent .now in
@@ -232,11 +180,9 @@ returns-7 c = let a = c .before .before .before .before .before .before .before 
     let f = c .before .before .write-part .ensures in
     rw (c .before .before .before .before .enum-told4 .given .1, put-fixed _ s v) (f .0, f .1)
 
--- src/storing.rt:165:1
 same-length-8 : tie.Need-same-length-8
 same-length-8 c = search needs
 
--- src/storing.rt:165:1
 returns-8 : tie.Need-returns-8
 returns-8 c = let a = c .before .before .before .before .before .before .before .before .before .args in
     let s = a .lent .now in
@@ -244,7 +190,6 @@ returns-8 c = let a = c .before .before .before .before .before .before .before 
     let f = c .before .before .write-part2 .ensures in
     rw (c .before .before .before .before .before .shape4 .given .1, put-counted (c .before .before .before .before .before .shape4 .given .0 .0) s v (is-in _ s v (c .before .before .before .before .before .before .before .before .before .pre .1) .0)) (f .0, f .1)
 
--- src/storing.rt:165:1
 returns-9 : tie.Need-returns-9
 returns-9 c = let a = c .before .before .before .before .before .before .args in
     let h = ap (λ (sh : Shape). isIn sh (a .lent .now) (a .value)) (sym (c .before .before .shape5 .given .1)) ∙ c .before .before .before .before .before .before .pre .1 in

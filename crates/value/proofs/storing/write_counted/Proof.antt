@@ -1,22 +1,10 @@
-use Prim.Native.Nat.{ℕ, _+_, _-_, _*_, _/_, _%_, _^_, _≤_, _<_, min}
-use mathlib.Core.Path.{_≡_, refl, sym, ap, subst, _∙_}
-use mathlib.Core.Bool.{true, false}
-use mathlib.Core.List.{List, [], _++_}
+-- `value::storing::write_counted` meets its contract. Assumes nothing.
+use Prim.Native.Nat.{ℕ, _+_, _≤_}
+use mathlib.Core.Path.{ap, _∙_}
+use mathlib.Core.List.{_++_}
 use native.Mathlib.Omega.{arith}
-use borrow.Author.Tests.{lt-ltb, le-ltb, le-leb, lt-leb, eq-eqb, ne-eqb, not-true, not-false}
-use lib.ListN.{length, take, drop, length-append}
-use lib.Dec.{leb}
-use Rattle.value.specs.declared.shape.Shape.{Shape}
-use Rattle.value.specs.declared.shape.Shape.the-variants.{Unsigned, Signed, FloatBits, DoubleBits, YearByte, Timed, Fixed, Counted, NotTaken}
-use Rattle.value.specs.Shapes.{Sized, need, bytesOf, decode, fault}
-use Rattle.value.specs.Data.{tag, intIn, numberIn, whenIn, magnitudeOf}
-use Rattle.value.specs.Reading.{readOf, readValue, datumOf, placed}
-use Rattle.value.specs.Storing.{isIn, isLent, lenOf, startOf}
-use Rattle.wire.specs.Outcome.{refused}
-use Rattle.wire.specs.Stored.{store, answerOf, leftOf, writtenOf}
-use mir.Syntax.{w64}
-use mir.Val.{toZ, ofZ}
-use mir.ValLaws.{toZ-ofZ}
+use lib.ListN.{length, length-append}
+use Rattle.wire.specs.Stored.{store, leftOf}
 use Rattle.wire.specs.Number.{leBytes}
 use Rattle.wire.proofs.Bytes.{leBytes-length}
 use Rattle.wire.proofs.Stores.{room, no-room, not-wrote, wrote-two}
@@ -31,32 +19,25 @@ use Rattle.wire.proofs.refuse.Reads as refuse-reads
 use Rattle.wire.proofs.has_room.Reads as has-room-reads
 use Rattle.wire.proofs.write_bytes.Reads as write-bytes-reads
 
--- src/storing.rt:145:16
 add-size : tie.Need-add-size
 add-size c = search needs
 
--- src/storing.rt:146:8
 has-room-requires : tie.Need-has-room-requires
 has-room-requires c κs = search needs
 
--- src/storing.rt:147:9
 write-le-requires : tie.Need-write-le-requires
 write-le-requires c κs = search needs
 
--- src/storing.rt:148:22
 add-behind : tie.Need-add-behind
 add-behind c = let a = c .before .before .before .before .before .before .before .before .args in
     let r : a .at + (a .k + length (a .bytes .now)) ≤ length (a .buf .now) = room _ _ _ _ (c .before .before .before .before .before .has-room .ensures) (c .before .before .before .before .if1 .taken) in omega arith
 
--- src/storing.rt:149:9
 write-bytes-requires : tie.Need-write-bytes-requires
 write-bytes-requires c κs = search needs
 
--- src/storing.rt:149:9
 same-length : tie.Need-same-length
 same-length c = search needs
 
--- src/storing.rt:149:9
 returns : tie.Need-returns
 returns c = let a = c .before .before .before .before .before .before .before .before .before .before .before .before .args in
     let r : a .at + (a .k + length (a .bytes .now)) ≤ length (a .buf .now) = room _ _ _ _ (c .before .before .before .before .before .before .before .before .before .has-room .ensures) (c .before .before .before .before .before .before .before .before .if1 .taken) in
@@ -64,11 +45,9 @@ returns c = let a = c .before .before .before .before .before .before .before .b
     let p = c .before .before .before .before .before .before .write-le .ensures .1 ∙ ap (λ (j : ℕ). leftOf (a .buf .now) (store (a .buf .now) (a .at) (leBytes j (length (a .bytes .now))))) e in
     wrote-two (a .buf .now) (leBytes (a .k) (length (a .bytes .now))) (a .bytes .now) _ _ (a .at) (a .k) (c .before .before .write-bytes .result) (leBytes-length (a .k) (length (a .bytes .now))) r p (c .before .before .write-bytes .ensures)
 
--- src/storing.rt:151:22
 refuse-requires : tie.Need-refuse-requires
 refuse-requires c κs = search needs
 
--- src/storing.rt:140:1
 returns-2 : tie.Need-returns-2
 returns-2 c = let a = c .before .before .before .before .before .args in
     not-wrote (a .buf .now) (leBytes (a .k) (length (a .bytes .now)) ++ a .bytes .now) (a .at) (a .k + length (a .bytes .now)) _
