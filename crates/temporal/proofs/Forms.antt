@@ -16,7 +16,7 @@ use Rattle.wire.specs.Number.{Bytes, leValue, beValue, leBytes, beBytes}
 use Rattle.wire.specs.Stored.{store, stored}
 use Rattle.wire.proofs.Outcomes.{by-test, test-is-ok, test-refuses, ok-not-refused, same-refused}
 use Rattle.wire.proofs.Bytes.{leBytes-length, beBytes-length}
-use Rattle.wire.proofs.Inverse.{le-back, be-back, le-sound, be-sound, le-bound, be-bound, bytes-take, bytes-drop}
+use Rattle.wire.proofs.Inverse.{le-back, be-back, le-sound, be-sound, le-bound, be-bound, bytes-take, bytes-drop, bytes-append, leBytes-bytes, beBytes-bytes}
 use Rattle.wire.proofs.Stores.{store-fits, store-full}
 use Rattle.temporal.specs.declared.kind.Kind.{Kind}
 use Rattle.temporal.specs.declared.kind.Kind.the-variants.{Timestamp, OldTime, OldDatetime, Newdate, Timestamp2, Datetime2, Time2}
@@ -60,6 +60,17 @@ module _ (k : Kind) where
   pub sized : (t : Temporal) → length (bytesOf k t) ≡ sizeOf k
   sized = sized-by (isBig k) refl
 
+  -- and is bytes
+  form-bytes-by : (b : Bool) → isBig k ≡ b → (t : Temporal) → Bytes (bytesOf k t)
+  unfolding bytesOf
+  form-bytes-by true e t =
+      rw e
+      (bytes-append (beBytes (wholeBytes k) (wholeOf k t)) (beBytes (fractionOf k) (unitsOf k t)) (beBytes-bytes (wholeBytes k) (wholeOf k t)) (beBytes-bytes (fractionOf k) (unitsOf k t)))
+  form-bytes-by false e t = rw e (leBytes-bytes (wholeBytes k) (wholeOf k t))
+
+  pub form-bytes : (t : Temporal) → Bytes (bytesOf k t)
+  form-bytes = form-bytes-by (isBig k) refl
+
   -- the two numbers of a stored form are those that were stored
   numbers-by : (b : Bool) → isBig k ≡ b → (t : Temporal) → wholeOf k t < 256 ^ wholeBytes k → unitsOf k t < 256 ^ fractionOf k
       → (wholeIn k (bytesOf k t) ≡ wholeOf k t) × (unitsIn k (bytesOf k t) ≡ unitsOf k t)
@@ -83,6 +94,10 @@ module _ (k : Kind) where
       let l = number-law k .back t d in
       let n = numbers-by (isBig k) refl t (l .1) (l .2) in
       rw (n .0, n .1) (l .0, l .3)
+
+  -- no two that can be held have the same form
+  pub same-form : (t u : Temporal) → domain k t ≡ true → domain k u ≡ true → bytesOf k t ≡ bytesOf k u → t ≡ u
+  same-form t u d e p = sym (back t d .1) ∙ ap (decode k) p ∙ back u e .1
 
   -- the numbers of a form's bytes are of so many bytes, and their bytes are these
   record Numbers (b : List ℕ) : Type 0 where

@@ -28,6 +28,7 @@ fraction-small m =
     (λ h. rw (le-leb m 4 h) (omega arith))
     (λ h. rw (lt-leb m 4 (omega arith)) (omega arith))))))
 
+-- no unit is nothing: units can be divided by
 pub unit-positive : (w : ℕ) → w ≤ 3 → 0 < unitOf w
 unfolding unitOf
 unit-positive = widths (λ w. 0 < unitOf w) (omega arith) (omega arith) (omega arith) (omega arith)
@@ -39,6 +40,7 @@ unit-div w f h = mul-div-cancel f (unit-positive w h)
 pub unit-mod : (w f : ℕ) → f * unitOf w % unitOf w ≡ 0
 unit-mod w f = mul-mod-left f (unitOf w)
 
+-- some units are some microseconds, and none are none
 pub unit-some : (f w : ℕ) → 0 < f → w ≤ 3 → 0 < f * unitOf w
 unfolding unitOf
 unit-some f w h = widths (λ w. 0 < f * unitOf w) (omega arith) (omega arith) (omega arith) (omega arith) w
