@@ -1,4 +1,5 @@
--- Each kind's two numbers, both ways: those of what it can hold say just that, and what two numbers say with no part out of range can be held, and has
+-- Each kind's two numbers, both ways: those of what it can hold say just that, and what two numbers say with no part out of range can be held, and
+-- has
 -- just these numbers. No bytes yet. Assumes nothing.
 use Prim.Native.Nat.{ℕ, _+_, _-_, _*_, _/_, _%_, _^_, _≤_, _<_}
 use mathlib.Core.Path.{_≡_, refl, sym, ap, _∙_, subst}

@@ -1,4 +1,5 @@
--- `temporal::read::fraction_at` meets its contract. The fraction stands behind the whole part; the least significant byte first there is none. Assumes nothing.
+-- `temporal::read::fraction_at` meets its contract. The fraction stands behind the whole part; the least significant byte first there is none.
+-- Assumes nothing.
 use mathlib.Core.Path.{sym, _∙_}
 use Rattle.temporal.proofs.Steps.{units-big, units-little}
 use borrow.Author.Needs.{needs}

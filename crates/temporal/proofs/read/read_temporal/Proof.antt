@@ -1,4 +1,5 @@
--- `temporal::read::read_temporal` meets its contract. The test for room says whether the bytes are there; what `judge` answers of their two numbers is what is read. Assumes nothing.
+-- `temporal::read::read_temporal` meets its contract. The test for room says whether the bytes are there; what `judge` answers of their two numbers
+-- is what is read. Assumes nothing.
 use native.Mathlib.Omega.{arith}
 use mathlib.Core.Path.{sym, ap, _∙_}
 use Prim.Native.Nat.{_+_, _≤_}

@@ -1,4 +1,5 @@
--- `temporal::write::write_two` meets its contract. Room was tested for both runs of bytes, so both are written, and two stores in a row are one. Assumes nothing.
+-- `temporal::write::write_two` meets its contract. Room was tested for both runs of bytes, so both are written, and two stores in a row are one.
+-- Assumes nothing.
 use native.Mathlib.Omega.{arith}
 use mathlib.Core.Path.{_≡_}
 use Prim.Native.Nat.{_+_, _≤_, min}
