@@ -44,6 +44,7 @@ is-since (On x) e = let z : _≡_ {A = ℕ} 0 1 = cc in absurd (omega arith)
 is-since (At x) e = let z : _≡_ {A = ℕ} 0 1 = cc in absurd (omega arith)
 is-since (Lasts x) e = let z : _≡_ {A = ℕ} 0 1 = cc in absurd (omega arith)
 
+-- a date
 pub is-on : (t : Temporal) → eqb (sort t) 1 ≡ true → On (dateIn t) ≡ t
 unfolding sort dateIn
 is-on (Since x) e = let z : _≡_ {A = ℕ} 0 1 = cc in absurd (omega arith)
@@ -51,6 +52,7 @@ is-on (On x) e = refl
 is-on (At x) e = let z : _≡_ {A = ℕ} 0 1 = cc in absurd (omega arith)
 is-on (Lasts x) e = let z : _≡_ {A = ℕ} 0 1 = cc in absurd (omega arith)
 
+-- a moment
 pub is-at : (t : Temporal) → eqb (sort t) 2 ≡ true → At (momentIn t) ≡ t
 unfolding sort momentIn
 is-at (Since x) e = let z : _≡_ {A = ℕ} 0 1 = cc in absurd (omega arith)
@@ -58,6 +60,7 @@ is-at (On x) e = let z : _≡_ {A = ℕ} 0 1 = cc in absurd (omega arith)
 is-at (At x) e = refl
 is-at (Lasts x) e = let z : _≡_ {A = ℕ} 0 1 = cc in absurd (omega arith)
 
+-- a time
 pub is-lasts : (t : Temporal) → eqb (sort t) 3 ≡ true → Lasts (timeIn t) ≡ t
 unfolding sort timeIn
 is-lasts (Since x) e = let z : _≡_ {A = ℕ} 0 1 = cc in absurd (omega arith)

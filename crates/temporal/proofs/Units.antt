@@ -37,6 +37,7 @@ unit-positive = widths (λ w. 0 < unitOf w) (omega arith) (omega arith) (omega a
 pub unit-div : (w f : ℕ) → w ≤ 3 → f * unitOf w / unitOf w ≡ f
 unit-div w f h = mul-div-cancel f (unit-positive w h)
 
+-- and nothing is left over
 pub unit-mod : (w f : ℕ) → f * unitOf w % unitOf w ≡ 0
 unit-mod w f = mul-mod-left f (unitOf w)
 
@@ -45,6 +46,7 @@ pub unit-some : (f w : ℕ) → 0 < f → w ≤ 3 → 0 < f * unitOf w
 unfolding unitOf
 unit-some f w h = widths (λ w. 0 < f * unitOf w) (omega arith) (omega arith) (omega arith) (omega arith) w
 
+-- no microseconds are no units
 pub unit-none : (w : ℕ) → w ≤ 3 → 0 / unitOf w ≡ 0
 unfolding unitOf
 unit-none = widths (λ w. 0 / unitOf w ≡ 0) refl refl refl refl
