@@ -1,6 +1,6 @@
 -- The worked readings of document 01 that it marks P: one statement over one table, computed from the definitions. Assumes nothing.
 use Prim.Native.Nat.{ℕ}
-use mathlib.Core.Bool.{true}
+use mathlib.Core.Bool.{true, false}
 use mathlib.Core.List.{List, [], _∷_}
 use mathlib.Core.Path.{_≡_, refl}
 use lib.ListN.{length}
@@ -13,11 +13,14 @@ use Rattle.temporal.specs.declared.parts.Temporal.{Temporal}
 use Rattle.temporal.specs.declared.parts.Temporal.the-variants.{At, Lasts}
 use Rattle.temporal.specs.Ranges.{clockFault, dayFault}
 use Rattle.temporal.specs.Reading.{readTemporal}
+use Rattle.value.specs.declared.shape.Shape.the-variants.{Counted}
+use Rattle.value.specs.Columns.{charLength, shapeOf}
 
 -- a reading: what is read, and the bytes that say it
 pub data Reading : Type 0 where
   packed : ℕ → List ℕ → Reading
   temporal : Kind → List ℕ → Outcome Temporal → Reading
+  char : ℕ → ℕ → ℕ → ℕ → Reading
 
 -- a temporal, read to the end of its bytes, or a refusal
 abbrev pub whole : List ℕ → Outcome Temporal → Outcome (Temporal × ℕ)
@@ -30,6 +33,8 @@ abbrev pub Holds : Reading → Type 0
 Holds (packed number bytes) = (packedBytes number ≡ bytes) × (readPacked bytes 0 ≡ ok (number, length bytes))
 -- these bytes of a column of this kind are read as the temporal, to their end, or refused
 Holds (temporal kind bytes answer) = readTemporal kind 0 bytes 0 ≡ whole bytes answer
+-- a CHAR column with this metadata has this declared length, and its values so many length bytes
+Holds (char m0 m1 declared lengthBytes) = (charLength m0 m1 ≡ declared) × (shapeOf (record { kind = 254; m0 = m0; m1 = m1; unsigned = false }) ≡ Counted lengthBytes)
 
 abbrev pub Each : {A : Type 0} → (A → Type 0) → List A → Type 0
 Each P [] = Unit {0}
@@ -50,8 +55,10 @@ table =
     -- 2000-01-01 00:00:00
     ∷ temporal (Datetime2 0) (0x99 ∷ 0x64 ∷ 0x42 ∷ 0x00 ∷ 0x00 ∷ [])
     (ok (At record { year = 2000; month = 1; day = 1; hour = 0; minute = 0; second = 0; micros = 0 }))
+    ∷ char 0xfe 0xff 255 1
+    ∷ char 0xee 0x00 256 2
     ∷ []
 
 pub readings : Each Holds table
-unfolding table packedBytes leBytes readPacked formOf longForm leValue readTemporal clockFault dayFault
-readings = ((refl, refl), ((refl, refl), ((refl, refl), (refl, (refl, (refl, (refl, tt)))))))
+unfolding table packedBytes leBytes readPacked formOf longForm leValue readTemporal clockFault dayFault shapeOf
+readings = ((refl, refl), ((refl, refl), ((refl, refl), (refl, (refl, (refl, (refl, ((refl, refl), ((refl, refl), tt)))))))))
