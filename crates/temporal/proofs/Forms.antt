@@ -16,7 +16,7 @@ use Rattle.wire.specs.Number.{Bytes, leValue, beValue, leBytes, beBytes}
 use Rattle.wire.specs.Stored.{store, stored}
 use Rattle.wire.proofs.Outcomes.{by-test, test-is-ok, test-refuses, ok-not-refused, same-refused}
 use Rattle.wire.proofs.Bytes.{leBytes-length, beBytes-length}
-use Rattle.wire.proofs.Inverse.{le-back, be-back, le-sound, be-sound, le-bound, be-bound, bytes-take, bytes-drop}
+use Rattle.wire.proofs.Inverse.{le-back, be-back, le-sound, be-sound, le-bound, be-bound, bytes-take, bytes-drop, bytes-append, leBytes-bytes, beBytes-bytes}
 use Rattle.wire.proofs.Stores.{store-fits, store-full}
 use Rattle.temporal.specs.declared.kind.Kind.{Kind}
 use Rattle.temporal.specs.declared.kind.Kind.the-variants.{Timestamp, OldTime, OldDatetime, Newdate, Timestamp2, Datetime2, Time2}
@@ -39,6 +39,7 @@ size-least (Timestamp2 m0) = omega arith
 size-least (Datetime2 m0) = omega arith
 size-least (Time2 m0) = omega arith
 
+-- at most eight
 pub size-most : (k : Kind) → sizeOf k ≤ 8
 unfolding sizeOf wholeBytes fractionOf
 size-most Timestamp = omega arith
@@ -57,8 +58,21 @@ module _ (k : Kind) where
   sized-by true e t = rw (e, length-append, beBytes-length (wholeBytes k) (wholeOf k t), beBytes-length (fractionOf k) (unitsOf k t))
   sized-by false e t = rw (e, leBytes-length (wholeBytes k) (wholeOf k t), little-whole k e, add-zero (wholeBytes k))
 
+  -- of every temporal
   pub sized : (t : Temporal) → length (bytesOf k t) ≡ sizeOf k
   sized = sized-by (isBig k) refl
+
+  -- and is bytes
+  form-bytes-by : (b : Bool) → isBig k ≡ b → (t : Temporal) → Bytes (bytesOf k t)
+  unfolding bytesOf
+  form-bytes-by true e t =
+      rw e
+      (bytes-append (beBytes (wholeBytes k) (wholeOf k t)) (beBytes (fractionOf k) (unitsOf k t)) (beBytes-bytes (wholeBytes k) (wholeOf k t)) (beBytes-bytes (fractionOf k) (unitsOf k t)))
+  form-bytes-by false e t = rw e (leBytes-bytes (wholeBytes k) (wholeOf k t))
+
+  -- of every temporal
+  pub form-bytes : (t : Temporal) → Bytes (bytesOf k t)
+  form-bytes = form-bytes-by (isBig k) refl
 
   -- the two numbers of a stored form are those that were stored
   numbers-by : (b : Bool) → isBig k ≡ b → (t : Temporal) → wholeOf k t < 256 ^ wholeBytes k → unitsOf k t < 256 ^ fractionOf k
@@ -83,6 +97,10 @@ module _ (k : Kind) where
       let l = number-law k .back t d in
       let n = numbers-by (isBig k) refl t (l .1) (l .2) in
       rw (n .0, n .1) (l .0, l .3)
+
+  -- no two that can be held have the same form
+  pub same-form : (t u : Temporal) → domain k t ≡ true → domain k u ≡ true → bytesOf k t ≡ bytesOf k u → t ≡ u
+  same-form t u d e p = sym (back t d .1) ∙ ap (decode k) p ∙ back u e .1
 
   -- the numbers of a form's bytes are of so many bytes, and their bytes are these
   record Numbers (b : List ℕ) : Type 0 where
@@ -174,6 +192,7 @@ module _ (k : Kind) (place : ℕ) where
     pub says : decode k (at-place s at) ≡ t
     pub ends : next ≡ at + sizeOf k
 
+  -- from the answer
   pub read-says : (s : List ℕ) (at : ℕ) (t : Temporal) (next : ℕ) → readTemporal k place s at ≡ ok (t, next) → Reads s at t next
   unfolding readTemporal
   read-says s at t next e =
@@ -218,6 +237,7 @@ module _ (k : Kind) (place : ℕ) where
     short : length s < at + sizeOf k → Refuses s at (why 9 place)
     out : at + sizeOf k ≤ length s → (fault k (take (sizeOf k) (drop at s)) ≡ 0 → ⊥) → Refuses s at (why 10 place)
 
+  -- each refusal has its reason
   pub read-refuses : (s : List ℕ) (at : ℕ) (w : Refusal) → readTemporal k place s at ≡ refused w → Refuses s at w
   unfolding readTemporal
   read-refuses s at w e =
@@ -227,6 +247,7 @@ module _ (k : Kind) (place : ℕ) where
       subst (Refuses s at) (x .1) (out (leb-true (at + sizeOf k) (length s) h) (eqb-false (fault k (at-place s at)) 0 (x .0))))
       (λ h e₁. subst (Refuses s at) (same-refused e₁) (short (leb-false (at + sizeOf k) (length s) h)))
 
+  -- and each reason its refusal
   pub refuses-read : (s : List ℕ) (at : ℕ) (w : Refusal) → Refuses s at w → readTemporal k place s at ≡ refused w
   unfolding readTemporal
   refuses-read s at w (short h) = rw (lt-leb (at + sizeOf k) (length s) h)
@@ -237,6 +258,7 @@ module _ (k : Kind) (place : ℕ) where
     alien : domain k t ≡ false → NotWritten d at t (why 13 place)
     full : domain k t ≡ true → length d < at + sizeOf k → NotWritten d at t (why 8 0)
 
+  -- each refusal has its reason
   pub write-refuses : (d : List ℕ) (at : ℕ) (t : Temporal) (w : Refusal) → writeTemporal k place d at t ≡ refused w → NotWritten d at t w
   unfolding writeTemporal store
   write-refuses d at t w e =
@@ -247,6 +269,7 @@ module _ (k : Kind) (place : ℕ) where
       subst (NotWritten d at t) (x .1) (full g (omega (arith, sized k t))))
       (λ g e₁. subst (NotWritten d at t) (same-refused e₁) (alien g))
 
+  -- and each reason its refusal
   pub refuses-write : (d : List ℕ) (at : ℕ) (t : Temporal) (w : Refusal) → NotWritten d at t w → writeTemporal k place d at t ≡ refused w
   unfolding writeTemporal
   refuses-write d at t w (alien g) = rw g

@@ -22,6 +22,7 @@ pub record HoldsStamp (w : ℕ) (t : Stamp) : Type 0 where
   pub micros : t .micros ≤ 999999
   pub units : t .micros % unitOf w ≡ 0
 
+-- what the test says
 pub stamp-of : (w : ℕ) (t : Stamp) → stampDomain w t ≡ true → HoldsStamp w t
 unfolding stampDomain
 stamp-of w t e =
@@ -29,15 +30,18 @@ stamp-of w t e =
     let b = and-true _ _ (a .1) in
     record { seconds = leb-true _ _ (a .0); micros = leb-true _ _ (b .0); units = eqb-true _ _ (b .1) }
 
+-- and what it needs
 pub stamp-in : (w : ℕ) (t : Stamp) → HoldsStamp w t → stampDomain w t ≡ true
 unfolding stampDomain
 stamp-in w t h = simp (le-leb (t .seconds) 4294967295 (h .seconds), le-leb (t .micros) 999999 (h .micros), eq-eqb (t .micros % unitOf w) 0 (h .units))
 
+-- a moment
 pub record HoldsMoment (w : ℕ) (m : Moment) : Type 0 where
   pub date : Day (m .year) (m .month) (m .day)
   pub clock : Clock 23 (m .hour) (m .minute) (m .second) (m .micros)
   pub units : m .micros % unitOf w ≡ 0
 
+-- what the test says
 pub moment-of : (w : ℕ) (m : Moment) → momentDomain w m ≡ true → HoldsMoment w m
 unfolding momentDomain
 moment-of w m e =
@@ -45,13 +49,16 @@ moment-of w m e =
     let b = and-true _ _ (a .1) in
     record { date = day-of _ _ _ (a .0); clock = clock-of _ _ _ _ _ (b .0); units = eqb-true _ _ (b .1) }
 
+-- and what it needs
 pub moment-in : (w : ℕ) (m : Moment) → HoldsMoment w m → momentDomain w m ≡ true
 unfolding momentDomain
 moment-in w m h = rw (day-in (h .date), clock-in (h .clock), eq-eqb (m .micros % unitOf w) 0 (h .units)) refl
 
+-- zero where all parts are
 abbrev pub sum : Time → ℕ
 sum t = t .hours + t .minutes + t .seconds + t .micros
 
+-- a time, which is no negative zero
 pub record HoldsTime (w : ℕ) (t : Time) : Type 0 where
   pub clock : Clock 838 (t .hours) (t .minutes) (t .seconds) (t .micros)
   pub units : t .micros % unitOf w ≡ 0
@@ -66,6 +73,7 @@ not-zero : (b : Bool) (n : ℕ) → (b ≡ true → 0 < n) → not (b && eqb n 0
 not-zero true n h = let p = h refl in simp (ne-eqb n 0 (λ e. omega arith))
 not-zero false n h = refl
 
+-- what the test says
 pub time-of : (w : ℕ) (t : Time) → timeDomain w t ≡ true → HoldsTime w t
 unfolding timeDomain
 time-of w t e =
@@ -79,6 +87,7 @@ time-of w t e =
           omega arith;
     }
 
+-- and what it needs
 pub time-in : (w : ℕ) (t : Time) → HoldsTime w t → timeDomain w t ≡ true
 unfolding timeDomain
 time-in w t h = rw (clock-in (h .clock), eq-eqb (t .micros % unitOf w) 0 (h .units)) (not-zero (t .negative) (sum t) (h .signed))

@@ -1,4 +1,5 @@
--- Each kind's two numbers, both ways: those of what it can hold say just that, and what two numbers say with no part out of range can be held, and has
+-- Each kind's two numbers, both ways: those of what it can hold say just that, and what two numbers say with no part out of range can be held, and
+-- has
 -- just these numbers. No bytes yet. Assumes nothing.
 use Prim.Native.Nat.{ℕ, _+_, _-_, _*_, _/_, _%_, _^_, _≤_, _<_}
 use mathlib.Core.Path.{_≡_, refl, sym, ap, _∙_, subst}
@@ -36,34 +37,36 @@ pub record NumberLaw (k : Kind) : Type 0 where
       → (domain k (partsOf k a f) ≡ true) × (wholeOf k (partsOf k a f) ≡ a) × (unitsOf k (partsOf k a f) ≡ f)
 
 -- ---- a temporal of the sort that was tested is one
-module _ where
-  pub is-since : (t : Temporal) → eqb (sort t) 0 ≡ true → Since (stampIn t) ≡ t
-  unfolding sort stampIn
-  is-since (Since x) e = refl
-  is-since (On x) e = let z : _≡_ {A = ℕ} 0 1 = cc in absurd (omega arith)
-  is-since (At x) e = let z : _≡_ {A = ℕ} 0 1 = cc in absurd (omega arith)
-  is-since (Lasts x) e = let z : _≡_ {A = ℕ} 0 1 = cc in absurd (omega arith)
+pub is-since : (t : Temporal) → eqb (sort t) 0 ≡ true → Since (stampIn t) ≡ t
+unfolding sort stampIn
+is-since (Since x) e = refl
+is-since (On x) e = let z : _≡_ {A = ℕ} 0 1 = cc in absurd (omega arith)
+is-since (At x) e = let z : _≡_ {A = ℕ} 0 1 = cc in absurd (omega arith)
+is-since (Lasts x) e = let z : _≡_ {A = ℕ} 0 1 = cc in absurd (omega arith)
 
-  pub is-on : (t : Temporal) → eqb (sort t) 1 ≡ true → On (dateIn t) ≡ t
-  unfolding sort dateIn
-  is-on (Since x) e = let z : _≡_ {A = ℕ} 0 1 = cc in absurd (omega arith)
-  is-on (On x) e = refl
-  is-on (At x) e = let z : _≡_ {A = ℕ} 0 1 = cc in absurd (omega arith)
-  is-on (Lasts x) e = let z : _≡_ {A = ℕ} 0 1 = cc in absurd (omega arith)
+-- a date
+pub is-on : (t : Temporal) → eqb (sort t) 1 ≡ true → On (dateIn t) ≡ t
+unfolding sort dateIn
+is-on (Since x) e = let z : _≡_ {A = ℕ} 0 1 = cc in absurd (omega arith)
+is-on (On x) e = refl
+is-on (At x) e = let z : _≡_ {A = ℕ} 0 1 = cc in absurd (omega arith)
+is-on (Lasts x) e = let z : _≡_ {A = ℕ} 0 1 = cc in absurd (omega arith)
 
-  pub is-at : (t : Temporal) → eqb (sort t) 2 ≡ true → At (momentIn t) ≡ t
-  unfolding sort momentIn
-  is-at (Since x) e = let z : _≡_ {A = ℕ} 0 1 = cc in absurd (omega arith)
-  is-at (On x) e = let z : _≡_ {A = ℕ} 0 1 = cc in absurd (omega arith)
-  is-at (At x) e = refl
-  is-at (Lasts x) e = let z : _≡_ {A = ℕ} 0 1 = cc in absurd (omega arith)
+-- a moment
+pub is-at : (t : Temporal) → eqb (sort t) 2 ≡ true → At (momentIn t) ≡ t
+unfolding sort momentIn
+is-at (Since x) e = let z : _≡_ {A = ℕ} 0 1 = cc in absurd (omega arith)
+is-at (On x) e = let z : _≡_ {A = ℕ} 0 1 = cc in absurd (omega arith)
+is-at (At x) e = refl
+is-at (Lasts x) e = let z : _≡_ {A = ℕ} 0 1 = cc in absurd (omega arith)
 
-  pub is-lasts : (t : Temporal) → eqb (sort t) 3 ≡ true → Lasts (timeIn t) ≡ t
-  unfolding sort timeIn
-  is-lasts (Since x) e = let z : _≡_ {A = ℕ} 0 1 = cc in absurd (omega arith)
-  is-lasts (On x) e = let z : _≡_ {A = ℕ} 0 1 = cc in absurd (omega arith)
-  is-lasts (At x) e = let z : _≡_ {A = ℕ} 0 1 = cc in absurd (omega arith)
-  is-lasts (Lasts x) e = refl
+-- a time
+pub is-lasts : (t : Temporal) → eqb (sort t) 3 ≡ true → Lasts (timeIn t) ≡ t
+unfolding sort timeIn
+is-lasts (Since x) e = let z : _≡_ {A = ℕ} 0 1 = cc in absurd (omega arith)
+is-lasts (On x) e = let z : _≡_ {A = ℕ} 0 1 = cc in absurd (omega arith)
+is-lasts (At x) e = let z : _≡_ {A = ℕ} 0 1 = cc in absurd (omega arith)
+is-lasts (Lasts x) e = refl
 
 -- ---- seconds since 1970
 stamp-back : (w : ℕ) (t : Stamp) → HoldsStamp w t → stampOf w (t .seconds) (t .micros / unitOf w) ≡ t

@@ -14,6 +14,7 @@ use Rattle.temporal.specs.Moments.{momentBy, momentNumber}
 pub field-div : (n r v : ℕ) → v < r → (n * r + v) / r ≡ n
 field-div n r v h = mul-add-div-right {m = r} (omega arith) n v ∙ ap (λ (k : ℕ). n + k) (div-eq-of-lt h) ∙ add-zero n
 
+-- and the field is what is left over
 pub field-mod : (n r v : ℕ) → v < r → (n * r + v) % r ≡ v
 field-mod n r v h = mul-add-mod-self-right n r v ∙ mod-eq-of-lt h
 
@@ -29,6 +30,7 @@ time-back r t m s =
     let y = field-div (t .hours) r (t .minutes) m in
     rw (x, y, field-mod (t .hours) r (t .minutes) m, field-mod (t .hours * r + t .minutes) r (t .seconds) s)
 
+-- and the number of a number's fields is the number
 pub time-number : (r : ℕ) (b : Bool) (n u : ℕ) → timeNumber r (timeBy r b n u) ≡ n
 unfolding timeBy
 time-number r b n u = rw (div-add-mod' (n / r) r) (div-add-mod' n r)
@@ -41,6 +43,7 @@ pub record Below (r h d mo : ℕ) (m : Moment) : Type 0 where
   pub minute : m .minute < r
   pub second : m .second < r
 
+-- the fields of its number are its own
 pub moment-back : (r h d mo : ℕ) (m : Moment) → Below r h d mo m → momentBy r h d mo (momentNumber r h d mo m) (m .micros) ≡ m
 unfolding momentBy
 moment-back r h d mo m b =
@@ -61,6 +64,7 @@ moment-back r h d mo m b =
       field-mod n₄ r (m .second) (b .second),
     )
 
+-- and the number of a number's fields is the number
 pub moment-number : (r h d mo n u : ℕ) → momentNumber r h d mo (momentBy r h d mo n u) ≡ n
 unfolding momentBy
 moment-number r h d mo n u =

@@ -14,10 +14,12 @@ pub and-true : (a b : Bool) → (a && b) ≡ true → (a ≡ true) × (b ≡ tru
 and-true true b e = (refl, e)
 and-true false b e = let z : _≡_ {A = ℕ} 0 1 = cc in absurd (omega arith)
 
+-- one test that fails is enough
 pub and-no : (a : Bool) → (a && false) ≡ false
 and-no true = refl
 and-no false = refl
 
+-- one that does not fail decides nothing
 pub and-yes : (a : Bool) → (a && true) ≡ a
 and-yes true = refl
 and-yes false = refl
@@ -36,6 +38,7 @@ pub record Clock (top h m s u : ℕ) : Type 0 where
   pub second : s ≤ 59
   pub micros : u ≤ 999999
 
+-- of a date
 pub record Day (y mo d : ℕ) : Type 0 where
   pub year : y ≤ 9999
   pub month : mo ≤ 12
@@ -51,14 +54,17 @@ clock-clear top h m s u e =
     let d = over-clear u 999999 6 _ (c .1) in
     record { hour = a .0; minute = b .0; second = c .0; micros = d .0 }
 
+-- parts in range: no fault
 pub clock-none : {top h m s u : ℕ} → Clock top h m s u → clockFault top h m s u ≡ 0
 unfolding clockFault
 clock-none {top} {h} {m} {s} {u} c = simp (le-leb h top (c .hour), le-leb m 59 (c .minute), le-leb s 59 (c .second), le-leb u 999999 (c .micros))
 
+-- parts in range: the domain's test holds
 pub clock-in : {top h m s u : ℕ} → Clock top h m s u → inClock top h m s u ≡ true
 unfolding inClock
 clock-in {top} {h} {m} {s} {u} c = simp (le-leb h top (c .hour), le-leb m 59 (c .minute), le-leb s 59 (c .second), le-leb u 999999 (c .micros))
 
+-- and where that test holds they are in range
 pub clock-of : (top h m s u : ℕ) → inClock top h m s u ≡ true → Clock top h m s u
 unfolding inClock
 clock-of top h m s u e =
@@ -76,14 +82,17 @@ day-clear y mo d o e =
     let c = over-clear d 31 2 _ (b .1) in
     (record { year = a .0; month = b .0; day = c .0 }, c .1)
 
+-- parts in range: what follows decides
 pub day-none : {y mo d : ℕ} → (o : ℕ) → Day y mo d → dayFault y mo d o ≡ o
 unfolding dayFault
 day-none {y} {mo} {d} o c = simp (le-leb y 9999 (c .year), le-leb mo 12 (c .month), le-leb d 31 (c .day))
 
+-- parts in range: the domain's test holds
 pub day-in : {y mo d : ℕ} → Day y mo d → inDay y mo d ≡ true
 unfolding inDay
 day-in {y} {mo} {d} c = simp (le-leb y 9999 (c .year), le-leb mo 12 (c .month), le-leb d 31 (c .day))
 
+-- and where that test holds they are in range
 pub day-of : (y mo d : ℕ) → inDay y mo d ≡ true → Day y mo d
 unfolding inDay
 day-of y mo d e =
@@ -106,8 +115,10 @@ bool-same : (a : Bool) (n : ℕ) → (a ≡ true → n ≡ 0) → (n ≡ 0 → a
 bool-same true n f g = sym (eq-eqb n 0 (f refl))
 bool-same false n f g = sym (ne-eqb n 0 (λ e. let z : _≡_ {A = Bool} false true = g e in let y : _≡_ {A = ℕ} 0 1 = cc in omega arith))
 
+-- of a clock
 pub clock-same : (top h m s u : ℕ) → inClock top h m s u ≡ eqb (clockFault top h m s u) 0
 clock-same top h m s u = bool-same _ _ (λ e. clock-none (clock-of top h m s u e)) (λ e. clock-in (clock-clear top h m s u e))
 
+-- the same of a day
 pub day-same : (y mo d : ℕ) → inDay y mo d ≡ eqb (dayFault y mo d 0) 0
 day-same y mo d = bool-same _ _ (λ e. day-none 0 (day-of y mo d e)) (λ e. day-in (day-clear y mo d 0 e .0))

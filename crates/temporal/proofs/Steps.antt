@@ -48,6 +48,7 @@ of-eight : (k : ℕ) → k ≤ 8 → min k 8 ≡ k
 of-eight k h = omega arith
 
 module _ (kind : Kind) (s : List ℕ) (at r : ℕ) where
+  -- the whole part, the most significant byte first
   pub whole-big : (k : ℕ) → k ≡ wholeBytes kind → k ≤ 8 → isBig kind ≡ true → r ≡ beValue (take (min k 8) (drop at s)) → r < 256 ^ min k 8
       → (r ≡ wholeIn kind (take (sizeOf kind) (drop at s))) × (r < 256 ^ wholeBytes kind)
   unfolding wholeIn sizeOf
@@ -56,6 +57,7 @@ module _ (kind : Kind) (s : List ℕ) (at r : ℕ) where
       let q₁ : r < 256 ^ k = rw (of-eight k h) at q in
       rw (b, ← e, take-take k (k + fractionOf kind) (drop at s) (omega arith)) (p₁, q₁)
 
+  -- the whole part, the least significant byte first
   pub whole-little : (k : ℕ) → k ≡ wholeBytes kind → k ≤ 8 → isBig kind ≡ false → r ≡ leValue (take (min k 8) (drop at s)) → r < 256 ^ min k 8
       → (r ≡ wholeIn kind (take (sizeOf kind) (drop at s))) × (r < 256 ^ wholeBytes kind)
   unfolding wholeIn sizeOf
@@ -64,6 +66,7 @@ module _ (kind : Kind) (s : List ℕ) (at r : ℕ) where
       let q₁ : r < 256 ^ k = rw (of-eight k h) at q in
       rw (b, ← e, little-whole kind b, add-zero k) (p₁, q₁)
 
+  -- the fraction behind it
   pub units-big : (k w : ℕ) → k ≡ wholeBytes kind → w ≡ fractionOf kind → w ≤ 3 → isBig kind ≡ true → r ≡ beValue (take (min w 8) (drop (at + k) s)) → r < 256 ^ min w 8
       → (r ≡ unitsIn kind (take (sizeOf kind) (drop at s))) × (r < 256 ^ fractionOf kind)
   unfolding unitsIn sizeOf
@@ -72,6 +75,7 @@ module _ (kind : Kind) (s : List ℕ) (at r : ℕ) where
       let q₁ : r < 256 ^ w = rw (of-eight w (omega arith)) at q in
       rw (b, ← e, ← f, drop-take k w (drop at s), drop-drop k at s) (p₁, q₁)
 
+-- no fraction
 pub units-little : (kind : Kind) (b : List ℕ) → isBig kind ≡ false → (0 ≡ unitsIn kind b) × (0 < 256 ^ fractionOf kind)
 unfolding unitsIn
 units-little kind b e = rw (e, little-whole kind e) (refl, omega arith)
@@ -79,6 +83,7 @@ units-little kind b e = rw (e, little-whole kind e) (refl, omega arith)
 -- ---- what was judged is what is read
 module _ (kind : Kind) (place : ℕ) (s : List ℕ) (at a f : ℕ) (there : at + sizeOf kind ≤ length s)
     (x : a ≡ wholeIn kind (take (sizeOf kind) (drop at s))) (y : f ≡ unitsIn kind (take (sizeOf kind) (drop at s))) where
+  -- all parts in range
   pub read-in : (t : Temporal) → judgement (faultOf kind a f) (partsOf kind a f) ≡ In t → readTemporal kind place s at ≡ ok (t, at + sizeOf kind)
   unfolding readTemporal fault decode
   read-in t e =
@@ -86,6 +91,7 @@ module _ (kind : Kind) (place : ℕ) (s : List ℕ) (at a f : ℕ) (there : at +
       (λ z g. let p : partsOf kind a f ≡ t = cc in rw (le-leb _ _ there, ← x, ← y, z, p))
       (λ z g. let q : _≡_ {A = ℕ} 0 1 = cc in absurd (omega arith))
 
+  -- one that is not
   pub read-out : (n : ℕ) → judgement (faultOf kind a f) (partsOf kind a f) ≡ Out n → readTemporal kind place s at ≡ refuse 10 place
   unfolding readTemporal fault decode
   read-out n e =
@@ -93,6 +99,7 @@ module _ (kind : Kind) (place : ℕ) (s : List ℕ) (at a f : ℕ) (there : at +
       (λ z g. let q : _≡_ {A = ℕ} 0 1 = cc in absurd (omega arith))
       (λ z g. rw (le-leb _ _ there, ← x, ← y, z))
 
+-- bytes missing
 pub read-short : (kind : Kind) (place : ℕ) (s : List ℕ) (at : ℕ) → length s < at + sizeOf kind → readTemporal kind place s at ≡ refuse 9 place
 unfolding readTemporal
 read-short kind place s at h = rw (lt-leb _ _ h)
@@ -103,11 +110,13 @@ abbrev pub Writes : Kind → ℕ → List ℕ → ℕ → Temporal → Written �
 Writes kind place d at t r x = (writtenOf r ≡ answerOf (writeTemporal kind place d at t)) × (x ≡ leftOf d (writeTemporal kind place d at t))
 
 module _ (kind : Kind) (place : ℕ) (d : List ℕ) (at : ℕ) (t : Temporal) where
+  -- two numbers, the most significant byte first
   pub write-big : (r : Written) (x : List ℕ) (k w a f : ℕ) → domain kind t ≡ true → isBig kind ≡ true → k ≡ wholeBytes kind → w ≡ fractionOf kind
       → a ≡ wholeOf kind t → f ≡ unitsOf kind t → Wrote d at (beBytes k a ++ beBytes w f) r x → Writes kind place d at t r x
   unfolding writeTemporal bytesOf
   write-big r x k w a f g b ek ew ea ef o = rw (g, b, ← ek, ← ew, ← ea, ← ef) (o .0, o .1)
 
+  -- one number, the least significant byte first
   pub write-little : (r : Written) (x : List ℕ) (k a : ℕ) → domain kind t ≡ true → isBig kind ≡ false → k ≡ wholeBytes kind → k ≤ 8
       → a ≡ wholeOf kind t → Wrote d at (leBytes (min k 8) a) r x → Writes kind place d at t r x
   unfolding writeTemporal bytesOf
@@ -115,6 +124,7 @@ module _ (kind : Kind) (place : ℕ) (d : List ℕ) (at : ℕ) (t : Temporal) wh
       let p : Wrote d at (leBytes k a) r x = rw (of-eight k h) at o in
       rw (g, b, ← ek, ← ea) (p .0, p .1)
 
+  -- what the column cannot hold
   pub write-none : domain kind t ≡ false → writeTemporal kind place d at t ≡ refuse 13 place
   unfolding writeTemporal
   write-none g = rw g

@@ -28,6 +28,7 @@ fraction-small m =
     (λ h. rw (le-leb m 4 h) (omega arith))
     (λ h. rw (lt-leb m 4 (omega arith)) (omega arith))))))
 
+-- no unit is nothing: units can be divided by
 pub unit-positive : (w : ℕ) → w ≤ 3 → 0 < unitOf w
 unfolding unitOf
 unit-positive = widths (λ w. 0 < unitOf w) (omega arith) (omega arith) (omega arith) (omega arith)
@@ -36,13 +37,16 @@ unit-positive = widths (λ w. 0 < unitOf w) (omega arith) (omega arith) (omega a
 pub unit-div : (w f : ℕ) → w ≤ 3 → f * unitOf w / unitOf w ≡ f
 unit-div w f h = mul-div-cancel f (unit-positive w h)
 
+-- and nothing is left over
 pub unit-mod : (w f : ℕ) → f * unitOf w % unitOf w ≡ 0
 unit-mod w f = mul-mod-left f (unitOf w)
 
+-- some units are some microseconds, and none are none
 pub unit-some : (f w : ℕ) → 0 < f → w ≤ 3 → 0 < f * unitOf w
 unfolding unitOf
 unit-some f w h = widths (λ w. 0 < f * unitOf w) (omega arith) (omega arith) (omega arith) (omega arith) w
 
+-- no microseconds are no units
 pub unit-none : (w : ℕ) → w ≤ 3 → 0 / unitOf w ≡ 0
 unfolding unitOf
 unit-none = widths (λ w. 0 / unitOf w ≡ 0) refl refl refl refl

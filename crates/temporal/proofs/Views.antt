@@ -16,5 +16,6 @@ temporal-way : (a : TemporalRead) → temporal-back (temporalOf a) ≡ a
 temporal-way (Read temporal next) = refl
 temporal-way (Refused r) = refl
 
+-- equal looks, equal answers
 pub same-temporal : (a b : TemporalRead) → temporalOf a ≡ temporalOf b → a ≡ b
 same-temporal = same-by-back temporalOf temporal-back temporal-way

@@ -150,6 +150,7 @@ three : (m : ℕ) → 4 < m → fractionBytes m ≡ 3
 unfolding fractionBytes
 three m h = rw (ne-eqb m 0 (λ e. omega arith), lt-leb m 2 (omega arith), lt-leb m 4 h)
 
+-- what the bytes of a TIME2 are read as is what the paper says of them
 pub as-worded : (m0 : ℕ) (b : List ℕ) → length b ≡ sizeOf (Time2 m0) → Bytes b → decode (Time2 m0) b ≡ Lasts (worded m0 b)
 unfolding decode partsOf wholeIn unitsIn isBig wholeBytes sizeOf fractionOf worded
 as-worded m0 b e h =

@@ -26,7 +26,13 @@ in-day-requires c κs = search needs
 
 returns-2 : tie.Need-returns-2
 unfolding momentDomain
-returns-2 c = rw (← c .before .before .before .before .sort-of .ensures, eq-eqb _ _ (c .before .before .before .if1 .left), ← c .before .before .moment-in .ensures, ← c .before .in-day .ensures, not-true (c .before .in-day .result) (c .if2 .taken))
+returns-2 c = rw (
+  ← c .before .before .before .before .sort-of .ensures,
+  eq-eqb _ _ (c .before .before .before .if1 .left),
+  ← c .before .before .moment-in .ensures,
+  ← c .before .in-day .ensures,
+  not-true (c .before .in-day .result) (c .if2 .taken),
+)
 
 cast-hour : tie.Need-cast-hour
 cast-hour c = search needs
@@ -36,14 +42,30 @@ in-clock-requires c κs = search needs
 
 returns-3 : tie.Need-returns-3
 unfolding momentDomain
-returns-3 c = rw (← c .before .before .before .before .before .before .before .sort-of .ensures, eq-eqb _ _ (c .before .before .before .before .before .before .if1 .left), ← c .before .before .before .before .before .moment-in .ensures, ← c .before .before .before .before .in-day .ensures, not-false (c .before .before .before .before .in-day .result) (c .before .before .before .if2 .left), ← c .before .in-clock .ensures, not-true (c .before .in-clock .result) (c .if3 .taken))
+returns-3 c = rw (
+  ← c .before .before .before .before .before .before .before .sort-of .ensures,
+  eq-eqb _ _ (c .before .before .before .before .before .before .if1 .left),
+  ← c .before .before .before .before .before .moment-in .ensures,
+  ← c .before .before .before .before .in-day .ensures,
+  not-false (c .before .before .before .before .in-day .result) (c .before .before .before .if2 .left),
+  ← c .before .in-clock .ensures,
+  not-true (c .before .in-clock .result) (c .if3 .taken),
+)
 
 in-units-requires : tie.Need-in-units-requires
 in-units-requires c κs = search needs
 
 returns-4 : tie.Need-returns-4
 unfolding momentDomain
-returns-4 c = rw (← c .before .before .before .before .before .before .before .before .sort-of .ensures, eq-eqb _ _ (c .before .before .before .before .before .before .before .if1 .left), ← c .before .before .before .before .before .before .moment-in .ensures, ← c .before .before .before .before .before .in-day .ensures, not-false (c .before .before .before .before .before .in-day .result) (c .before .before .before .before .if2 .left), ← c .before .before .in-clock .ensures, not-false (c .before .before .in-clock .result) (c .before .if3 .left)) (c .in-units .ensures)
+returns-4 c = rw (
+  ← c .before .before .before .before .before .before .before .before .sort-of .ensures,
+  eq-eqb _ _ (c .before .before .before .before .before .before .before .if1 .left),
+  ← c .before .before .before .before .before .before .moment-in .ensures,
+  ← c .before .before .before .before .before .in-day .ensures,
+  not-false (c .before .before .before .before .before .in-day .result) (c .before .before .before .before .if2 .left),
+  ← c .before .before .in-clock .ensures,
+  not-false (c .before .before .in-clock .result) (c .before .if3 .left),
+) (c .in-units .ensures)
 
 pub holds-moment-spec : {M : Type 1} → statement M
 holds-moment-spec =

@@ -22,14 +22,26 @@ stamp-in-requires c κs = search needs
 
 returns-2 : tie.Need-returns-2
 unfolding stampDomain
-returns-2 c = rw (← c .before .before .before .before .sort-of .ensures, eq-eqb _ _ (c .before .before .before .if1 .left), ← c .before .before .stamp-in .ensures, le-leb (c .before .before .stamp-in .result .seconds) 4294967295 (omega arith), lt-leb _ _ (c .if2 .taken))
+returns-2 c = rw (
+  ← c .before .before .before .before .sort-of .ensures,
+  eq-eqb _ _ (c .before .before .before .if1 .left),
+  ← c .before .before .stamp-in .ensures,
+  le-leb (c .before .before .stamp-in .result .seconds) 4294967295 (omega arith),
+  lt-leb _ _ (c .if2 .taken),
+)
 
 in-units-requires : tie.Need-in-units-requires
 in-units-requires c κs = search needs
 
 returns-3 : tie.Need-returns-3
 unfolding stampDomain
-returns-3 c = rw (← c .before .before .before .before .before .sort-of .ensures, eq-eqb _ _ (c .before .before .before .before .if1 .left), ← c .before .before .before .stamp-in .ensures, le-leb (c .before .before .before .stamp-in .result .seconds) 4294967295 (omega arith), le-leb _ _ (c .before .if2 .left)) (c .in-units .ensures)
+returns-3 c = rw (
+  ← c .before .before .before .before .before .sort-of .ensures,
+  eq-eqb _ _ (c .before .before .before .before .if1 .left),
+  ← c .before .before .before .stamp-in .ensures,
+  le-leb (c .before .before .before .stamp-in .result .seconds) 4294967295 (omega arith),
+  le-leb _ _ (c .before .if2 .left),
+) (c .in-units .ensures)
 
 pub holds-stamp-spec : {M : Type 1} → statement M
 holds-stamp-spec =

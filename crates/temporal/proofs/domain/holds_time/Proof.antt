@@ -28,21 +28,43 @@ in-clock-requires c κs = search needs
 
 returns-2 : tie.Need-returns-2
 unfolding timeDomain
-returns-2 c = rw (← c .before .before .before .before .sort-of .ensures, eq-eqb _ _ (c .before .before .before .if1 .left), ← c .before .before .time-in .ensures, ← c .before .in-clock .ensures, not-true (c .before .in-clock .result) (c .if2 .taken))
+returns-2 c = rw (
+  ← c .before .before .before .before .sort-of .ensures,
+  eq-eqb _ _ (c .before .before .before .if1 .left),
+  ← c .before .before .time-in .ensures,
+  ← c .before .in-clock .ensures,
+  not-true (c .before .in-clock .result) (c .if2 .taken),
+)
 
 negative-zero-requires : tie.Need-negative-zero-requires
 negative-zero-requires c κs = search needs
 
 returns-3 : tie.Need-returns-3
 unfolding timeDomain
-returns-3 c = rw (← c .before .before .before .before .before .before .sort-of .ensures, eq-eqb _ _ (c .before .before .before .before .before .if1 .left), ← c .before .before .before .before .time-in .ensures, ← c .before .before .before .in-clock .ensures, not-false (c .before .before .before .in-clock .result) (c .before .before .if2 .left), ← c .before .negative-zero .ensures, c .if3 .taken) (sym (and-no (inUnits (c .before .before .before .before .before .before .before .args .w) (c .before .before .before .before .time-in .result .micros))))
+returns-3 c = rw (
+  ← c .before .before .before .before .before .before .sort-of .ensures,
+  eq-eqb _ _ (c .before .before .before .before .before .if1 .left),
+  ← c .before .before .before .before .time-in .ensures,
+  ← c .before .before .before .in-clock .ensures,
+  not-false (c .before .before .before .in-clock .result) (c .before .before .if2 .left),
+  ← c .before .negative-zero .ensures,
+  c .if3 .taken,
+) (sym (and-no (inUnits (c .before .before .before .before .before .before .before .args .w) (c .before .before .before .before .time-in .result .micros))))
 
 in-units-requires : tie.Need-in-units-requires
 in-units-requires c κs = search needs
 
 returns-4 : tie.Need-returns-4
 unfolding timeDomain
-returns-4 c = rw (← c .before .before .before .before .before .before .before .sort-of .ensures, eq-eqb _ _ (c .before .before .before .before .before .before .if1 .left), ← c .before .before .before .before .before .time-in .ensures, ← c .before .before .before .before .in-clock .ensures, not-false (c .before .before .before .before .in-clock .result) (c .before .before .before .if2 .left), ← c .before .before .negative-zero .ensures, c .before .if3 .left) (c .in-units .ensures ∙ sym (and-yes (inUnits (c .before .before .before .before .before .before .before .before .args .w) (c .before .before .before .before .before .time-in .result .micros))))
+returns-4 c = rw (
+  ← c .before .before .before .before .before .before .before .sort-of .ensures,
+  eq-eqb _ _ (c .before .before .before .before .before .before .if1 .left),
+  ← c .before .before .before .before .before .time-in .ensures,
+  ← c .before .before .before .before .in-clock .ensures,
+  not-false (c .before .before .before .before .in-clock .result) (c .before .before .before .if2 .left),
+  ← c .before .before .negative-zero .ensures,
+  c .before .if3 .left,
+) (c .in-units .ensures ∙ sym (and-yes (inUnits (c .before .before .before .before .before .before .before .before .args .w) (c .before .before .before .before .before .time-in .result .micros))))
 
 pub holds-time-spec : {M : Type 1} → statement M
 holds-time-spec =

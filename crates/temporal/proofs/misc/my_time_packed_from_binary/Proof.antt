@@ -1,4 +1,5 @@
--- `temporal::misc::my_time_packed_from_binary` meets its contract. At each return the tests that led there say which of the three rules it is. Assumes nothing.
+-- `temporal::misc::my_time_packed_from_binary` meets its contract. At each return the tests that led there say which of the three rules it is.
+-- Assumes nothing.
 use native.Mathlib.Omega.{arith}
 use mathlib.Core.Path.{_∙_}
 use Prim.Native.Nat.{_-_, _*_, _^_, _<_}

@@ -1,4 +1,5 @@
--- `temporal::read::fraction_at` meets its contract. The fraction stands behind the whole part; the least significant byte first there is none. Assumes nothing.
+-- `temporal::read::fraction_at` meets its contract. The fraction stands behind the whole part; the least significant byte first there is none.
+-- Assumes nothing.
 use mathlib.Core.Path.{sym, _∙_}
 use Rattle.temporal.proofs.Steps.{units-big, units-little}
 use borrow.Author.Needs.{needs}
@@ -27,7 +28,9 @@ read-be-requires : tie.Need-read-be-requires
 read-be-requires c κs = search needs
 
 returns : tie.Need-returns
-returns c = units-big (c .before .before .before .before .before .before .args .kind) (c .before .before .before .before .before .before .args .s .now) (c .before .before .before .before .before .before .args .at) _ _ _ (c .before .before .before .before .whole-bytes .ensures .0) (c .before .before .before .fraction-size .ensures .0) (c .before .before .before .fraction-size .ensures .1) (sym (c .before .before .is-big .ensures) ∙ c .before .if1 .taken) (c .read-be .ensures .0) (c .read-be .ensures .1)
+returns c = let a = c .before .before .before .before .before .before .args in
+    let w = c .before .before .before .fraction-size .ensures in
+    units-big (a .kind) (a .s .now) (a .at) _ _ _ (c .before .before .before .before .whole-bytes .ensures .0) (w .0) (w .1) (sym (c .before .before .is-big .ensures) ∙ c .before .if1 .taken) (c .read-be .ensures .0) (c .read-be .ensures .1)
 
 returns-2 : tie.Need-returns-2
 returns-2 c = units-little (c .before .before .before .before .before .args .kind) _ (sym (c .before .is-big .ensures) ∙ c .if1 .left)

@@ -21,13 +21,17 @@ read-be-requires : tie.Need-read-be-requires
 read-be-requires c κs = search needs
 
 returns : tie.Need-returns
-returns c = whole-big (c .before .before .before .before .before .args .kind) (c .before .before .before .before .before .args .s .now) (c .before .before .before .before .before .args .at) _ _ (c .before .before .before .whole-bytes .ensures .0) (c .before .before .before .whole-bytes .ensures .1) (sym (c .before .before .is-big .ensures) ∙ c .before .if1 .taken) (c .read-be .ensures .0) (c .read-be .ensures .1)
+returns c = let a = c .before .before .before .before .before .args in
+    let k = c .before .before .before .whole-bytes .ensures in
+    whole-big (a .kind) (a .s .now) (a .at) _ _ (k .0) (k .1) (sym (c .before .before .is-big .ensures) ∙ c .before .if1 .taken) (c .read-be .ensures .0) (c .read-be .ensures .1)
 
 read-le-requires : tie.Need-read-le-requires
 read-le-requires c κs = search needs
 
 returns-2 : tie.Need-returns-2
-returns-2 c = whole-little (c .before .before .before .before .before .args .kind) (c .before .before .before .before .before .args .s .now) (c .before .before .before .before .before .args .at) _ _ (c .before .before .before .whole-bytes .ensures .0) (c .before .before .before .whole-bytes .ensures .1) (sym (c .before .before .is-big .ensures) ∙ c .before .if1 .left) (c .read-le .ensures .0) (c .read-le .ensures .1)
+returns-2 c = let a = c .before .before .before .before .before .args in
+    let k = c .before .before .before .whole-bytes .ensures in
+    whole-little (a .kind) (a .s .now) (a .at) _ _ (k .0) (k .1) (sym (c .before .before .is-big .ensures) ∙ c .before .if1 .left) (c .read-le .ensures .0) (c .read-le .ensures .1)
 
 pub whole-at-spec : {M : Type 1} → statement M
 whole-at-spec =

@@ -1,4 +1,5 @@
--- `temporal::write::units_of` meets its contract. Each arm is its kind's row; a fraction of a time that TIME2 can hold is below 256 ^ w. Assumes nothing.
+-- `temporal::write::units_of` meets its contract. Each arm is its kind's row; a fraction of a time that TIME2 can hold is below 256 ^ w. Assumes
+-- nothing.
 use mathlib.Core.Path.{_≡_}
 use mathlib.Core.Bool.{true}
 use Rattle.temporal.specs.declared.kind.Kind.the-variants.{Time2}

@@ -1,4 +1,5 @@
--- `temporal::write::whole_of` meets its contract. Each arm is its kind's row; a time that TIME2 can hold is small enough to be taken from 2^23. Assumes nothing.
+-- `temporal::write::whole_of` meets its contract. Each arm is its kind's row; a time that TIME2 can hold is small enough to be taken from 2^23.
+-- Assumes nothing.
 use mathlib.Core.Path.{_≡_}
 use mathlib.Core.Bool.{true}
 use Rattle.temporal.specs.declared.kind.Kind.the-variants.{Time2}

@@ -25,7 +25,9 @@ refuse-requires : tie.Need-refuse-requires
 refuse-requires c κs = search needs
 
 returns : tie.Need-returns
-returns c = let z = write-none (c .before .before .before .before .args .kind) (c .before .before .before .before .args .place) (c .before .before .before .before .args .buf .now) (c .before .before .before .before .args .at) (c .before .before .before .before .args .temporal) (sym (c .before .before .in-domain .ensures) ∙ not-true (c .before .before .in-domain .result) (c .before .if1 .taken)) in
+returns c = let a = c .before .before .before .before .args in
+    let d = sym (c .before .before .in-domain .ensures) ∙ not-true (c .before .before .in-domain .result) (c .before .if1 .taken) in
+    let z = write-none (a .kind) (a .place) (a .buf .now) (a .at) (a .temporal) d in
     rw z (ap refused (c .refuse .ensures), refl)
 
 whole-bytes-requires : tie.Need-whole-bytes-requires
@@ -50,7 +52,12 @@ same-length : tie.Need-same-length
 same-length c = search needs
 
 returns-2 : tie.Need-returns-2
-returns-2 c = write-big (c .before .before .before .before .before .before .before .before .before .before .before .before .before .args .kind) (c .before .before .before .before .before .before .before .before .before .before .before .before .before .args .place) (c .before .before .before .before .before .before .before .before .before .before .before .before .before .args .buf .now) (c .before .before .before .before .before .before .before .before .before .before .before .before .before .args .at) (c .before .before .before .before .before .before .before .before .before .before .before .before .before .args .temporal) (c .before .before .write-two .result) _ _ _ _ _ (sym (c .before .before .before .before .before .before .before .before .before .before .before .in-domain .ensures) ∙ not-false (c .before .before .before .before .before .before .before .before .before .before .before .in-domain .result) (c .before .before .before .before .before .before .before .before .before .before .if1 .left)) (sym (c .before .before .before .before .before .before .before .is-big .ensures) ∙ c .before .before .before .before .before .before .if2 .taken) (c .before .before .before .before .before .before .before .before .before .whole-bytes .ensures .0) (c .before .before .before .before .before .fraction-size .ensures .0) (c .before .before .before .before .before .before .before .before .whole-of .ensures) (c .before .before .before .before .units-of .ensures) (c .before .before .write-two .ensures .0, c .before .before .write-two .ensures .1)
+returns-2 c = let a = c .before .before .before .before .before .before .before .before .before .before .before .before .before .args in
+    let d = sym (c .before .before .before .before .before .before .before .before .before .before .before .in-domain .ensures) ∙ not-false (c .before .before .before .before .before .before .before .before .before .before .before .in-domain .result) (c .before .before .before .before .before .before .before .before .before .before .if1 .left) in
+    let b = sym (c .before .before .before .before .before .before .before .is-big .ensures) ∙ c .before .before .before .before .before .before .if2 .taken in
+    let o = c .before .before .write-two in
+    write-big (a .kind) (a .place) (a .buf .now) (a .at) (a .temporal) (o .result) _ _ _ _ _ d b (c .before .before .before .before .before .before .before .before .before .whole-bytes .ensures .0) (c .before .before .before .before .before .fraction-size .ensures .0) (c .before .before .before .before .before .before .before .before .whole-of .ensures) (c .before .before .before .before .units-of .ensures)
+    (o .ensures .0, o .ensures .1)
 
 write-le-requires : tie.Need-write-le-requires
 write-le-requires c κs = search needs
@@ -59,7 +66,12 @@ same-length-2 : tie.Need-same-length-2
 same-length-2 c = search needs
 
 returns-3 : tie.Need-returns-3
-returns-3 c = write-little (c .before .before .before .before .before .before .before .before .before .before .before .args .kind) (c .before .before .before .before .before .before .before .before .before .before .before .args .place) (c .before .before .before .before .before .before .before .before .before .before .before .args .buf .now) (c .before .before .before .before .before .before .before .before .before .before .before .args .at) (c .before .before .before .before .before .before .before .before .before .before .before .args .temporal) (c .before .before .write-le .result) _ _ _ (sym (c .before .before .before .before .before .before .before .before .before .in-domain .ensures) ∙ not-false (c .before .before .before .before .before .before .before .before .before .in-domain .result) (c .before .before .before .before .before .before .before .before .if1 .left)) (sym (c .before .before .before .before .before .is-big .ensures) ∙ c .before .before .before .before .if2 .left) (c .before .before .before .before .before .before .before .whole-bytes .ensures .0) (c .before .before .before .before .before .before .before .whole-bytes .ensures .1) (c .before .before .before .before .before .before .whole-of .ensures) (c .before .before .write-le .ensures .0, c .before .before .write-le .ensures .1)
+returns-3 c = let a = c .before .before .before .before .before .before .before .before .before .before .before .args in
+    let d = sym (c .before .before .before .before .before .before .before .before .before .in-domain .ensures) ∙ not-false (c .before .before .before .before .before .before .before .before .before .in-domain .result) (c .before .before .before .before .before .before .before .before .if1 .left) in
+    let b = sym (c .before .before .before .before .before .is-big .ensures) ∙ c .before .before .before .before .if2 .left in
+    let k = c .before .before .before .before .before .before .before .whole-bytes .ensures in
+    let o = c .before .before .write-le in
+    write-little (a .kind) (a .place) (a .buf .now) (a .at) (a .temporal) (o .result) _ _ _ d b (k .0) (k .1) (c .before .before .before .before .before .before .whole-of .ensures) (o .ensures .0, o .ensures .1)
 
 pub write-temporal-spec : {M : Type 1} → statement M
 write-temporal-spec =

@@ -1,4 +1,5 @@
--- `temporal::write::write_two` meets its contract. Room was tested for both runs of bytes, so both are written, and two stores in a row are one. Assumes nothing.
+-- `temporal::write::write_two` meets its contract. Room was tested for both runs of bytes, so both are written, and two stores in a row are one.
+-- Assumes nothing.
 use native.Mathlib.Omega.{arith}
 use mathlib.Core.Path.{_≡_}
 use Prim.Native.Nat.{_+_, _≤_, min}
@@ -29,31 +30,41 @@ refuse-requires c κs = search needs
 
 returns : tie.Need-returns
 returns c = let a = c .before .before .before .before .args in
-    let l : length (beBytes (a .k) (a .whole) ++ beBytes (a .w) (a .units)) ≡ a .k + a .w = rw (length-append, beBytes-length (a .k) (a .whole), beBytes-length (a .w) (a .units)) in
-    not-wrote (a .buf .now) (beBytes (a .k) (a .whole) ++ beBytes (a .w) (a .units)) (a .at) (a .k + a .w) _ l (no-room _ _ _ _ (c .before .before .has-room .ensures) (not-true (c .before .before .has-room .result) (c .before .if1 .taken))) (c .refuse .ensures)
+    let x = beBytes (a .k) (a .whole) in
+    let y = beBytes (a .w) (a .units) in
+    let n : length (x ++ y) ≡ a .k + a .w = rw (length-append, beBytes-length (a .k) (a .whole), beBytes-length (a .w) (a .units)) in
+    let l = no-room _ _ _ _ (c .before .before .has-room .ensures) (not-true (c .before .before .has-room .result) (c .before .if1 .taken)) in
+    not-wrote (a .buf .now) (x ++ y) (a .at) (a .k + a .w) _ n l (c .refuse .ensures)
 
 write-be-requires : tie.Need-write-be-requires
 write-be-requires c κs = search needs
 
 add-middle : tie.Need-add-middle
-add-middle c = let r : c .before .before .before .before .before .before .before .args .at + (c .before .before .before .before .before .before .before .args .k + c .before .before .before .before .before .before .before .args .w) ≤ length (c .before .before .before .before .before .before .before .args .buf .now) = room _ _ _ _ (c .before .before .before .before .before .has-room .ensures) (not-false (c .before .before .before .before .before .has-room .result) (c .before .before .before .before .if1 .left)) in omega arith
+add-middle c = let a = c .before .before .before .before .before .before .before .args in
+    let l : a .at + (a .k + a .w) ≤ length (a .buf .now) = room _ _ _ _ (c .before .before .before .before .before .has-room .ensures) (not-false (c .before .before .before .before .before .has-room .result) (c .before .before .before .before .if1 .left)) in
+    omega arith
 
 write-be-requires-2 : tie.Need-write-be-requires-2
 write-be-requires-2 c κs = search needs
 
 add-next : tie.Need-add-next
-add-next c = let r : c .before .before .before .before .before .before .before .before .before .before .before .args .at + (c .before .before .before .before .before .before .before .before .before .before .before .args .k + c .before .before .before .before .before .before .before .before .before .before .before .args .w) ≤ length (c .before .before .before .before .before .before .before .before .before .before .before .args .buf .now) = room _ _ _ _ (c .before .before .before .before .before .before .before .before .before .has-room .ensures) (not-false (c .before .before .before .before .before .before .before .before .before .has-room .result) (c .before .before .before .before .before .before .before .before .if1 .left)) in omega arith
+add-next c = let a = c .before .before .before .before .before .before .before .before .before .before .before .args in
+    let l : a .at + (a .k + a .w) ≤ length (a .buf .now) = room _ _ _ _ (c .before .before .before .before .before .before .before .before .before .has-room .ensures) (not-false (c .before .before .before .before .before .before .before .before .before .has-room .result) (c .before .before .before .before .before .before .before .before .if1 .left)) in
+    omega arith
 
 same-length : tie.Need-same-length
 same-length c = search needs
 
 returns-2 : tie.Need-returns-2
 returns-2 c = let a = c .before .before .before .before .before .before .before .before .before .before .before .args in
-    let r : a .at + (a .k + a .w) ≤ length (a .buf .now) = room _ _ _ _ (c .before .before .before .before .before .before .before .before .before .has-room .ensures) (not-false (c .before .before .before .before .before .before .before .before .before .has-room .result) (c .before .before .before .before .before .before .before .before .if1 .left)) in
+    let x = beBytes (a .k) (a .whole) in
+    let y = beBytes (a .w) (a .units) in
+    let n = beBytes-length (a .k) (a .whole) in
+    let m = beBytes-length (a .w) (a .units) in
+    let l = room _ _ _ _ (c .before .before .before .before .before .before .before .before .before .has-room .ensures) (not-false (c .before .before .before .before .before .before .before .before .before .has-room .result) (c .before .before .before .before .before .before .before .before .if1 .left)) in
     let k : min (a .k) 8 ≡ a .k = omega arith in
     let w : min (a .w) 8 ≡ a .w = omega arith in
-    two-writes (a .buf .now) (beBytes (a .k) (a .whole)) (beBytes (a .w) (a .units)) _ _ (a .at) (a .k) (a .w) (beBytes-length (a .k) (a .whole)) (beBytes-length (a .w) (a .units)) r
-    (rw k at (c .before .before .before .before .before .before .write-be .ensures .1)) (rw w at (c .before .before .write-be2 .ensures .1))
+    two-writes (a .buf .now) x y _ _ (a .at) (a .k) (a .w) n m l (rw k at (c .before .before .before .before .before .before .write-be .ensures .1)) (rw w at (c .before .before .write-be2 .ensures .1))
 
 pub write-two-spec : {M : Type 1} → statement M
 write-two-spec =
