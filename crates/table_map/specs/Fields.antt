@@ -16,11 +16,16 @@ use Rattle.table_map.specs.declared.field.FieldStep.the-variants.{Field,
 use Rattle.table_map.specs.Parts.{partOf, bytesFor, longPart}
 use Rattle.table_map.specs.Lists.{Rule, Stepped, end, item, step}
 
--- how many of the types have a signedness bit
-unfoldable pub countSigned : Dialect → List ℕ → ℕ
+-- how many signedness bits a column of the type has
+unfoldable pub signBits : Dialect → ℕ → ℕ
 unfolding hasSignBit
+signBits d t = cond (hasSignBit d t) 1 0
+
+-- how many of the types have one
+unfoldable pub countSigned : Dialect → List ℕ → ℕ
+unfolding signBits
 countSigned d [] = 0
-countSigned d (t ∷ types) = cond (hasSignBit d t) 1 0 + countSigned d types
+countSigned d (t ∷ types) = signBits d t + countSigned d types
 
 -- "Types: 1 signedness .. 13 vector dimensions"
 abbrev pub isField : ℕ → Bool
@@ -47,13 +52,18 @@ fieldItem numeric columns s at =
     (cond (contentsHold numeric columns (getD s at 0) (partOf s (v .0))) (ok ((getD s at 0, v .0), v .1)) (refuse 7 at))
     (refuse 6 at))
 
+-- a step's answer with a cursor for its place: moved on, with the same counts
+abbrev pub withCursor : Fields → Stepped (ℕ × Part) ℕ → Stepped (ℕ × Part) Fields
+withCursor c end = end
+withCursor c (item field next) = item field (record { at = next; numeric = c .numeric; columns = c .columns })
+
 -- a step of the walk, from a cursor
-unfoldable pub fieldStep : Fields → List ℕ → Outcome (Stepped (ℕ × Part))
+unfoldable pub fieldStep : Fields → List ℕ → Outcome (Stepped (ℕ × Part) Fields)
 unfolding step fieldItem
-fieldStep c s = step (fieldItem (c .numeric) (c .columns)) s (c .at)
+fieldStep c s = after (step (fieldItem (c .numeric) (c .columns)) s (c .at)) (λ x. ok (withCursor c x))
 
 -- what the answer of a step says
-abbrev pub fieldOf : FieldStep → Outcome (Stepped (ℕ × Part))
-fieldOf (Field kind value next) = ok (item (kind, value) (next .at))
+abbrev pub fieldOf : FieldStep → Outcome (Stepped (ℕ × Part) Fields)
+fieldOf (Field kind value next) = ok (item (kind, value) next)
 fieldOf End = ok end
 fieldOf (Refused r) = refused r

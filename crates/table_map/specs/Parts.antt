@@ -7,6 +7,8 @@ use lib.Dec.{leb}
 use Rattle.wire.specs.Outcome.{Outcome, ok, refused, refuse, after}
 use Rattle.wire.specs.Packed.{readPacked}
 use Rattle.table_map.specs.declared.event.Part.{Part}
+use Rattle.table_map.specs.declared.part.LongPart.{LongPart}
+use Rattle.table_map.specs.declared.part.LongPart.the-variants.{Read, Refused}
 
 abbrev pub part : ℕ → ℕ → Part
 part start len = record { start = start; len = len }
@@ -32,3 +34,8 @@ shortPart s at = after (within s at 1 at) (λ a. after (within s a (getD s at 0)
 unfoldable pub longPart : List ℕ → ℕ → Outcome (Part × ℕ)
 unfolding within readPacked
 longPart s at = after (readPacked s at) (λ n. after (within s (n .1) (n .0) at) (λ b. ok (part (n .1) (n .0), b)))
+
+-- what the answer of its reader says
+abbrev pub longPartOf : LongPart → Outcome (Part × ℕ)
+longPartOf (Read part next) = ok (part, next)
+longPartOf (Refused r) = refused r

@@ -3,12 +3,14 @@
 mod event;
 mod field;
 mod list;
+mod part;
 
 pub use event::Event;
 pub use event::EventRead;
 pub use event::Part;
 pub use field::FieldStep;
 pub use field::Fields;
+pub use list::DefaultCharset;
 pub use list::GroupStep;
 pub use list::Groups;
 pub use list::IntegerStep;
@@ -17,3 +19,5 @@ pub use list::PairStep;
 pub use list::Pairs;
 pub use list::StringStep;
 pub use list::Strings;
+pub use list::default_charset;
+pub use list::flag;
