@@ -1,18 +1,18 @@
 -- The items of lists: what the readers' loops turn on, and that every item takes bytes, ends within them, and is refused only with 1 or 2 at a place within
 -- them. Assumes nothing.
 use Prim.Native.Nat.{ℕ, zero, suc, _+_, _-_, _≤_, _<_}
-use mathlib.Core.Path.{_≡_, refl, sym, ap, subst, _∙_}
-use mathlib.Core.Logic.{_⊎_, inl, inr, ⊎-elim}
+use mathlib.Core.Path.{_≡_, ap, subst}
+use mathlib.Core.Logic.{⊎-elim}
 use mathlib.Core.List.{List}
 use native.Mathlib.Omega.{arith}
 use borrow.Author.Tests.{leb-true}
 use lib.ListN.{length}
 use lib.Dec.{leb}
 use Rattle.wire.specs.declared.refusal.Refusal.{Refusal}
-use Rattle.wire.specs.Outcome.{Outcome, ok, refused, why, after}
+use Rattle.wire.specs.Outcome.{ok, refused, why, after}
 use Rattle.wire.specs.Number.{Bytes}
 use Rattle.wire.specs.Packed.{readPacked}
-use Rattle.wire.proofs.Outcomes.{after-is-ok, after-refuses, test-is-ok, test-refuses, ok-not-refused, same-ok, same-refused}
+use Rattle.wire.proofs.Outcomes.{after-is-ok, after-refuses, test-is-ok, test-refuses, ok-not-refused, same-ok}
 use Rattle.wire.proofs.Forms.{Refuses, short, cut, none, read-moves, read-refuses}
 use Rattle.table_map.specs.declared.event.Part.{Part}
 use Rattle.table_map.specs.Parts.{part, within, longPart}

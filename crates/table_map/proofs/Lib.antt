@@ -3,3 +3,4 @@
 pub mod Steps
 pub mod Items
 pub mod Walks
+pub mod Optional

@@ -3,14 +3,13 @@ use Prim.Native.Nat.{ℕ, _≤_, _<_}
 use mathlib.Core.Path.{_≡_, sym, ap}
 use mathlib.Core.Logic.{_⊎_, inl, inr}
 use mathlib.Core.List.{List}
-use mathlib.Core.Bool.{cond}
 use native.Mathlib.Omega.{arith}
-use borrow.Author.Tests.{lt-ltb, le-ltb, eq-eqb, ne-eqb, ltb-true, ltb-false, eqb-true, eqb-false}
+use borrow.Author.Tests.{lt-ltb, le-ltb, eq-eqb, ne-eqb, ltb-true, ltb-false, eqb-false}
 use lib.ListN.{length}
 use lib.Dec.{ltb, eqb}
 use Rattle.wire.specs.declared.refusal.Refusal.{Refusal}
 use Rattle.wire.specs.Outcome.{Outcome, ok, refused, refuse, why, after}
-use Rattle.wire.proofs.Outcomes.{by-test, after-is-ok, after-refuses, ok-not-refused, same-ok, same-refused}
+use Rattle.wire.proofs.Outcomes.{by-test, ok-not-refused, same-ok, same-refused}
 use Rattle.table_map.specs.Lists.{Rule, Stepped, end, item, step}
 
 -- at the length it has ended

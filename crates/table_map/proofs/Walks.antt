@@ -1,18 +1,17 @@
 -- Walks, by any rule whose items move: a walk is its first step and the walk from where that leads, it ends, and where it breaks, it breaks as the step there.
 -- Assumes nothing.
 use Prim.Native.Nat.{ℕ, zero, suc, _-_, _≤_, _<_}
-use mathlib.Core.Path.{_≡_, refl, sym, ap, _∙_}
+use mathlib.Core.Path.{_≡_, refl, ap, _∙_}
 use mathlib.Core.Logic.{_⊎_, inl, inr, ⊎-elim}
-use mathlib.Core.List.{List, _∷_}
+use mathlib.Core.List.{List}
 use native.Mathlib.Omega.{arith}
 use lib.ListN.{length}
 use Rattle.wire.specs.declared.refusal.Refusal.{Refusal}
 use Rattle.wire.specs.Outcome.{Outcome, ok, refused, why}
 use Rattle.wire.specs.Number.{Bytes}
-use Rattle.wire.proofs.Outcomes.{ok-not-refused}
-use Rattle.table_map.specs.Lists.{Rule, Stepped, end, item, step, Ended, whole, broken, Walked, onward, walkSteps, walk}
+use Rattle.table_map.specs.Lists.{Rule, Stepped, end, item, step, whole, broken, onward, walkSteps, walk}
 use Rattle.table_map.proofs.Steps.{item-read, refusal-told}
-use Rattle.table_map.proofs.Items.{Moves, Told, Tells, OneOrTwo, one}
+use Rattle.table_map.proofs.Items.{Moves, Told, Tells}
 
 -- where a step that answers an item leads
 pub item-moves : {A : Type 0} (rule : Rule A) → Moves rule → (s : List ℕ) (at : ℕ) (a : A) (next : ℕ) → step rule s at ≡ ok (item a next)

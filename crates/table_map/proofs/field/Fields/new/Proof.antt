@@ -1,3 +1,4 @@
+-- `table_map::field::Fields::new` meets its contract. Assumes nothing.
 use borrow.Author.Needs.{needs}
 use Rattle.table_map.proofs.field.Fields.new.Statement.{statement}
 use Rattle.table_map.proofs.field.Fields.new.Tie as tie
@@ -5,13 +6,11 @@ use Rattle.table_map.proofs.field.Fields.new.Reads as reads
 use Rattle.table_map.proofs.field.Fields.new.Lts as lts
 use Rattle.table_map.proofs.field.count_signed.Reads as count-signed-reads
 
--- src/field.rt:36:13
 count-signed-requires : tie.Need-count-signed-requires
 count-signed-requires c κs = search needs
 
--- src/field.rt:33:5
 returns : tie.Need-returns
-returns c = ?
+returns c = rw (c .count-signed .ensures)
 
 pub new-spec : {M : Type 1} → statement M
 new-spec = tie.close (tie.spec count-signed-requires returns)

@@ -1,3 +1,11 @@
+-- `table_map::list::Pairs::next` meets its contract. Assumes nothing.
+use mathlib.Core.Path.{sym, ap, _∙_}
+use Prim.Native.Nat.{_<_}
+use native.Mathlib.Omega.{arith}
+use lib.ListN.{length}
+use Rattle.wire.specs.Packed.{packedOf}
+use Rattle.table_map.specs.Lists.{pairItem}
+use Rattle.table_map.proofs.Steps.{step-end, step-past, step-before}
 use borrow.Author.Needs.{needs}
 use Rattle.table_map.proofs.list.Pairs.next.Statement.{statement}
 use Rattle.table_map.proofs.list.Pairs.next.Tie as tie
@@ -6,53 +14,53 @@ use Rattle.table_map.proofs.list.Pairs.next.Lts as lts
 use Rattle.wire.proofs.read_packed.Reads as read-packed-reads
 use Rattle.wire.proofs.refuse.Reads as refuse-reads
 
--- src/list.rt:64:13
 returns : tie.Need-returns
-returns c = ?
+returns c = sym (step-end pairItem _ _ (c .if1 .taken))
 
--- src/list.rt:67:38
 refuse-requires : tie.Need-refuse-requires
 refuse-requires c κs = search needs
 
--- src/list.rt:67:13
 returns-2 : tie.Need-returns-2
-returns-2 c = ?
+returns-2 c = rw (c .refuse .ensures) (sym (step-past pairItem _ _ (c .before .if2 .taken)))
 
--- src/list.rt:69:15
 read-packed-requires : tie.Need-read-packed-requires
 read-packed-requires c κs = search needs
 
--- src/list.rt:71:24
 enum-known-first : tie.Need-enum-known-first
 enum-known-first c = search needs
 
--- src/list.rt:73:24
 read-packed-requires-2 : tie.Need-read-packed-requires-2
 read-packed-requires-2 c κs = search needs
 
--- src/list.rt:75:28
 enum-known-second : tie.Need-enum-known-second
 enum-known-second c = search needs
 
--- src/list.rt:82:33
 enum-known-r : tie.Need-enum-known-r
 enum-known-r c = search needs
 
--- src/list.rt:84:29
 enum-known-r-2 : tie.Need-enum-known-r-2
 enum-known-r-2 c = search needs
 
--- src/list.rt:59:5
 returns-3 : tie.Need-returns-3
-returns-3 c = ?
+unfolding pairItem
+returns-3 c =
+    let a = c .before .before .before .before .before .before .before .before .before .before .before .args in
+    let h : a .self .at < length (a .s .now) = omega arith in
+    rw (step-before pairItem _ _ h, sym (c .before .before .before .before .before .before .before .read-packed .ensures) ∙ ap packedOf (c .before .before .before .before .before .first .given .1), sym (c .before .before .before .read-packed2 .ensures) ∙ ap packedOf (c .before .second .given .1))
 
--- src/list.rt:59:5
 returns-4 : tie.Need-returns-4
-returns-4 c = ?
+unfolding pairItem
+returns-4 c =
+    let a = c .before .before .before .before .before .before .before .before .before .before .before .args in
+    let h : a .self .at < length (a .s .now) = omega arith in
+    rw (step-before pairItem _ _ h, sym (c .before .before .before .before .before .before .before .read-packed .ensures) ∙ ap packedOf (c .before .before .before .before .before .first .given .1), sym (c .before .before .before .read-packed2 .ensures) ∙ ap packedOf (c .before .r .given .1))
 
--- src/list.rt:59:5
 returns-5 : tie.Need-returns-5
-returns-5 c = ?
+unfolding pairItem
+returns-5 c =
+    let a = c .before .before .before .before .before .before .before .args in
+    let h : a .self .at < length (a .s .now) = omega arith in
+    rw (step-before pairItem _ _ h, sym (c .before .before .before .read-packed .ensures) ∙ ap packedOf (c .before .r2 .given .1))
 
 pub next-spec : {M : Type 1} → statement M
 next-spec =
