@@ -1,0 +1,171 @@
+-- The items of lists: what the readers' loops turn on, and that every item takes bytes, ends within them, and is refused only with 1 or 2 at a place within
+-- them. Assumes nothing.
+use Prim.Native.Nat.{ℕ, zero, suc, _+_, _-_, _≤_, _<_}
+use mathlib.Core.Path.{_≡_, ap, subst}
+use mathlib.Core.Logic.{⊎-elim}
+use mathlib.Core.List.{List}
+use native.Mathlib.Omega.{arith}
+use borrow.Author.Tests.{leb-true}
+use lib.ListN.{length}
+use lib.Dec.{leb}
+use Rattle.wire.specs.declared.refusal.Refusal.{Refusal}
+use Rattle.wire.specs.Outcome.{ok, refused, why, after}
+use Rattle.wire.specs.Number.{Bytes}
+use Rattle.wire.specs.Packed.{readPacked}
+use Rattle.wire.proofs.Outcomes.{after-is-ok, after-refuses, test-is-ok, test-refuses, ok-not-refused, same-ok}
+use Rattle.wire.proofs.Forms.{Refuses, short, cut, none, read-moves, read-refuses}
+use Rattle.table_map.specs.declared.event.Part.{Part}
+use Rattle.table_map.specs.Parts.{part, within, longPart}
+use Rattle.table_map.specs.Lists.{Rule, integerItem, pairItem, stringItem, strings, groupItem}
+
+-- ---- the loop over the strings of a group, i of n read
+pub strings-none : (s : List ℕ) (n i at : ℕ) → n ≤ i → strings (n - i) s at ≡ ok at
+unfolding strings
+strings-none s n i at h =
+    let k : n - i ≡ 0 = omega arith in
+    rw k
+
+pub strings-turn : (s : List ℕ) (n i at : ℕ) → i < n → strings (n - i) s at ≡ after (longPart s at) (λ x. strings (n - (i + 1)) s (x .1))
+unfolding strings
+strings-turn s n i at h =
+    let k : n - i ≡ suc (n - (i + 1)) = omega arith in
+    ap (λ (j : ℕ). strings j s at) k
+
+-- ---- items move
+-- every item that the rule reads takes a byte at least, and ends within the bytes
+pub record Moves {A : Type 0} (rule : Rule A) : Type 0 where
+  pub moves : (s : List ℕ) (at : ℕ) (a : A) (next : ℕ) → rule s at ≡ ok (a, next) → (at < next) × (next ≤ length s)
+
+-- a part behind its length: it starts behind it, and what follows starts where it ends
+pub long-moves : (s : List ℕ) (at : ℕ) (p : Part) (next : ℕ) → longPart s at ≡ ok (p, next) → (at < p .start) × (p .start + p .len ≡ next) × (next ≤ length s)
+unfolding longPart within
+long-moves s at p next e =
+    let x = after-is-ok (readPacked s at) (λ n. after (within s (n .1) (n .0) at) (λ b. ok (part (n .1) (n .0), b))) (p, next) e in
+    let n = x .0 in
+    let m = read-moves s at (n .0) (n .1) (x .1) in
+    let y = after-is-ok (within s (n .1) (n .0) at) (λ b. ok (part (n .1) (n .0), b)) (p, next) (x .2) in
+    let t = test-is-ok (leb (n .1 + n .0) (length s)) (n .1 + n .0) (why 1 at) (y .0) (y .1) in
+    let l = leb-true (n .1 + n .0) (length s) (t .0) in
+    let z : _≡_ {A = Part × ℕ} (part (n .1) (n .0), y .0) (p, next) = same-ok (y .2) in
+    let q : part (n .1) (n .0) ≡ p = ap (λ (w : Part × ℕ). w .0) z in
+    let r : y .0 ≡ next = ap (λ (w : Part × ℕ). w .1) z in
+    let a : n .1 ≡ p .start = ap (λ (w : Part). w .start) q in
+    let b : n .0 ≡ p .len = ap (λ (w : Part). w .len) q in
+    (omega (arith, m .0), omega (arith, t .1), omega (arith, t .1, l))
+
+pub integer-moves : Moves integerItem
+integer-moves = record { moves = read-moves }
+
+pub string-moves : Moves stringItem
+string-moves = record {
+  moves = λ s at p next e.
+      let x = long-moves s at p next e in
+      (omega (arith, x .0, x .1), x .2);
+}
+
+pub pair-moves : Moves pairItem
+unfolding pairItem
+pair-moves = record {
+  moves = λ s at a next e.
+      let x = after-is-ok (readPacked s at) (λ a. after (readPacked s (a .1)) (λ b. ok ((a .0, b .0), b .1))) (a, next) e in
+      let y = after-is-ok (readPacked s (x .0 .1)) (λ b. ok ((x .0 .0, b .0), b .1)) (a, next) (x .2) in
+      let m = read-moves s at (x .0 .0) (x .0 .1) (x .1) in
+      let n = read-moves s (x .0 .1) (y .0 .0) (y .0 .1) (y .1) in
+      let z : y .0 .1 ≡ next = ap (λ (w : (ℕ × ℕ) × ℕ). w .1) (same-ok (y .2)) in
+      (omega (arith, m .0, n .0), omega (arith, n .1));
+}
+
+strings-move : (n : ℕ) (s : List ℕ) (at next : ℕ) → at ≤ length s → strings n s at ≡ ok next → (at ≤ next) × (next ≤ length s)
+unfolding strings
+strings-move zero s at next h e =
+    let x : at ≡ next = same-ok e in
+    (omega arith, omega arith)
+strings-move (suc n) s at next h e =
+    let x = after-is-ok (longPart s at) (λ x. strings n s (x .1)) next e in
+    let m = long-moves s at (x .0 .0) (x .0 .1) (x .1) in
+    let r = strings-move n s (x .0 .1) next (m .2) (x .2) in
+    (omega (arith, m .0, m .1, r .0), r .1)
+
+pub group-moves : Moves groupItem
+unfolding groupItem
+group-moves = record {
+  moves = λ s at a next e.
+      let x = after-is-ok (readPacked s at) (λ n. after (strings (n .0) s (n .1)) (λ b. ok ((n .0, n .1), b))) (a, next) e in
+      let y = after-is-ok (strings (x .0 .0) s (x .0 .1)) (λ b. ok ((x .0 .0, x .0 .1), b)) (a, next) (x .2) in
+      let m = read-moves s at (x .0 .0) (x .0 .1) (x .1) in
+      let n = strings-move (x .0 .0) s (x .0 .1) (y .0) (m .1) (y .1) in
+      let z : y .0 ≡ next = ap (λ (w : (ℕ × ℕ) × ℕ). w .1) (same-ok (y .2)) in
+      (omega (arith, m .0, n .0), omega (arith, n .1));
+}
+
+-- ---- items are refused
+-- with a number of these, at a place within the bytes
+pub record Told (numbers : ℕ → Type 0) (s : List ℕ) (w : Refusal) : Type 0 where
+  pub number : numbers (w .number)
+  pub place : w .place ≤ length s
+
+-- every refusal of the rule, at a place before the end, is such
+pub record Tells {A : Type 0} (numbers : ℕ → Type 0) (rule : Rule A) : Type 0 where
+  pub tells : (s : List ℕ) (at : ℕ) (w : Refusal) → Bytes s → at < length s → rule s at ≡ refused w → Told numbers s w
+
+-- lists refuse with these
+pub data OneOrTwo : ℕ → Type 0 where
+  one : OneOrTwo 1
+  two : OneOrTwo 2
+
+read-told : (s : List ℕ) (at : ℕ) (w : Refusal) → Bytes s → at ≤ length s → readPacked s at ≡ refused w → Told OneOrTwo s w
+read-told s at w b h e = go (read-refuses s at w b e)
+  where
+    go : {w : Refusal} → Refuses s at w → Told OneOrTwo s w
+    go (short l) = record { number = one; place = h }
+    go (cut first k least t g l m) = record { number = one; place = h }
+    go (none l g) = record { number = two; place = h }
+
+pub integer-tells : Tells OneOrTwo integerItem
+integer-tells = record { tells = λ s at w b h e. read-told s at w b (omega arith) e }
+
+pub long-told : (s : List ℕ) (at : ℕ) (w : Refusal) → Bytes s → at ≤ length s → longPart s at ≡ refused w → Told OneOrTwo s w
+unfolding longPart within
+long-told s at w b h e =
+    ⊎-elim (λ l. read-told s at w b h l)
+    (λ r.
+    ⊎-elim
+    (λ l. subst (Told OneOrTwo s) (test-refuses (leb (r .0 .1 + r .0 .0) (length s)) (r .0 .1 + r .0 .0) (why 1 at) w l .1) (record { number = one; place = h }))
+    (λ x. absurd (ok-not-refused (x .2)))
+    (after-refuses (within s (r .0 .1) (r .0 .0) at) (λ b. ok (part (r .0 .1) (r .0 .0), b)) w (r .2)))
+    (after-refuses (readPacked s at) (λ n. after (within s (n .1) (n .0) at) (λ b. ok (part (n .1) (n .0), b))) w e)
+
+pub string-tells : Tells OneOrTwo stringItem
+string-tells = record { tells = λ s at w b h e. long-told s at w b (omega arith) e }
+
+pub pair-tells : Tells OneOrTwo pairItem
+unfolding pairItem
+pair-tells = record {
+  tells = λ s at w b h e.
+      ⊎-elim (λ l. read-told s at w b (omega arith) l)
+      (λ r.
+      ⊎-elim (λ l. read-told s (r .0 .1) w b (read-moves s at (r .0 .0) (r .0 .1) (r .1) .1) l)
+      (λ x. absurd (ok-not-refused (x .2)))
+      (after-refuses (readPacked s (r .0 .1)) (λ b. ok ((r .0 .0, b .0), b .1)) w (r .2)))
+      (after-refuses (readPacked s at) (λ a. after (readPacked s (a .1)) (λ b. ok ((a .0, b .0), b .1))) w e);
+}
+
+strings-told : (n : ℕ) (s : List ℕ) (at : ℕ) (w : Refusal) → Bytes s → at ≤ length s → strings n s at ≡ refused w → Told OneOrTwo s w
+unfolding strings
+strings-told zero s at w b h e = absurd (ok-not-refused e)
+strings-told (suc n) s at w b h e =
+    ⊎-elim (λ l. long-told s at w b h l)
+    (λ r. strings-told n s (r .0 .1) w b (long-moves s at (r .0 .0) (r .0 .1) (r .1) .2) (r .2))
+    (after-refuses (longPart s at) (λ x. strings n s (x .1)) w e)
+
+pub group-tells : Tells OneOrTwo groupItem
+unfolding groupItem
+group-tells = record {
+  tells = λ s at w b h e.
+      ⊎-elim (λ l. read-told s at w b (omega arith) l)
+      (λ r.
+      ⊎-elim (λ l. strings-told (r .0 .0) s (r .0 .1) w b (read-moves s at (r .0 .0) (r .0 .1) (r .1) .1) l)
+      (λ x. absurd (ok-not-refused (x .2)))
+      (after-refuses (strings (r .0 .0) s (r .0 .1)) (λ b. ok ((r .0 .0, r .0 .1), b)) w (r .2)))
+      (after-refuses (readPacked s at) (λ n. after (strings (n .0) s (n .1)) (λ b. ok ((n .0, n .1), b))) w e);
+}

@@ -1,0 +1,6 @@
+-- The laws of the crate. `Steps`: a step of a walk, whatever the rule. `Items`: the items of lists move, and which refusals they give. `Walks`: a walk and its
+-- steps.
+pub mod Steps
+pub mod Items
+pub mod Walks
+pub mod Optional

@@ -1,0 +1,130 @@
+-- Optional fields: what a step answers, by what it met; that fields move, and which refusals they give; how many columns have a signedness bit. Assumes nothing.
+use Prim.Native.Nat.{ℕ, suc, _+_, _≤_, _<_}
+use mathlib.Core.Path.{_≡_, refl, sym, ap, subst}
+use mathlib.Core.Logic.{⊎-elim}
+use mathlib.Core.Bool.{Bool, true, false, cond}
+use mathlib.Core.List.{List, [], _∷_}
+use native.Mathlib.Omega.{arith}
+use lib.ListN.{length, getD, drop}
+use lib.Seq.{drop-cons}
+use Rattle.wire.specs.declared.refusal.Refusal.{Refusal}
+use Rattle.wire.specs.Outcome.{Outcome, ok, refused, refuse, after}
+use Rattle.wire.proofs.Outcomes.{by-test, after-is-ok, after-refuses, ok-not-refused, same-ok, same-refused}
+use Rattle.value.specs.declared.column.Dialect.{Dialect}
+use Rattle.value.specs.Columns.{hasSignBit}
+use Rattle.table_map.specs.declared.event.Part.{Part}
+use Rattle.table_map.specs.declared.field.Fields.{Fields}
+use Rattle.table_map.specs.Parts.{partOf, longPart}
+use Rattle.table_map.specs.Lists.{item}
+use Rattle.table_map.specs.Fields.{signBits, countSigned, isField, contentsHold, fieldItem, withCursor, fieldStep}
+use Rattle.table_map.proofs.Steps.{step-before}
+use Rattle.table_map.proofs.Items.{Moves, Told, Tells, OneOrTwo, one, two, long-moves, long-told}
+
+-- ---- counting
+one-at-most : (t : Bool) → cond t 1 0 ≤ 1
+one-at-most true = omega arith
+one-at-most false = omega arith
+
+pub sign-bits-most : (d : Dialect) (t : ℕ) → signBits d t ≤ 1
+unfolding signBits
+sign-bits-most d t = one-at-most (hasSignBit d t)
+
+-- no more columns have one than there are
+pub signed-within : (d : Dialect) (types : List ℕ) → countSigned d types ≤ length types
+unfolding countSigned
+signed-within d [] = omega arith
+signed-within d (t ∷ types) = omega (arith, sign-bits-most d t, signed-within d types)
+
+-- a turn of the loop, and its end
+pub signed-turn : (d : Dialect) (types : List ℕ) (i : ℕ) → i < length types → countSigned d (drop i types) ≡ signBits d (getD types i 0) + countSigned d (drop (i + 1) types)
+unfolding countSigned
+signed-turn d types i h =
+    let e : i + 1 ≡ suc i = omega arith in
+    rw (e, drop-cons types i 0 h)
+
+pub signed-none : (d : Dialect) → countSigned d [] ≡ 0
+unfolding countSigned
+signed-none d = refl
+
+-- ---- a step, before the end, by what stands at the place
+step-by-item : (c : Fields) (s : List ℕ) → c .at < length s
+    → fieldStep c s ≡ after (fieldItem (c .numeric) (c .columns) s (c .at)) (λ x. ok (withCursor c (item (x .0) (x .1))))
+unfolding fieldStep
+step-by-item c s h = rw (step-before (fieldItem (c .numeric) (c .columns)) s (c .at) h) (regrouped (fieldItem (c .numeric) (c .columns) s (c .at)))
+  where
+    regrouped : (o : Outcome ((ℕ × Part) × ℕ)) → after (after o (λ x. ok (item (x .0) (x .1)))) (λ x. ok (withCursor c x)) ≡ after o (λ x. ok (withCursor c (item (x .0) (x .1))))
+    regrouped (ok x) = refl
+    regrouped (refused w) = refl
+
+-- the value is not there
+pub no-value : (c : Fields) (s : List ℕ) (w : Refusal) → c .at < length s → longPart s (c .at + 1) ≡ refused w → fieldStep c s ≡ refused w
+unfolding fieldItem
+no-value c s w h e = rw (step-by-item c s h, e)
+
+-- the type is unknown
+pub no-type : (c : Fields) (s : List ℕ) (p : Part) (next : ℕ) → c .at < length s → longPart s (c .at + 1) ≡ ok (p, next) → isField (getD s (c .at) 0) ≡ false
+    → fieldStep c s ≡ refuse 6 (c .at)
+unfolding fieldItem
+no-type c s p next h e t = rw (step-by-item c s h, e, t)
+
+-- the contents break a rule
+pub no-contents : (c : Fields) (s : List ℕ) (p : Part) (next : ℕ) → c .at < length s → longPart s (c .at + 1) ≡ ok (p, next) → isField (getD s (c .at) 0) ≡ true
+    → contentsHold (c .numeric) (c .columns) (getD s (c .at) 0) (partOf s p) ≡ false → fieldStep c s ≡ refuse 7 (c .at)
+unfolding fieldItem
+no-contents c s p next h e t u = rw (step-by-item c s h, e, t, u)
+
+-- all is well
+pub a-field : (c : Fields) (s : List ℕ) (p : Part) (next : ℕ) → c .at < length s → longPart s (c .at + 1) ≡ ok (p, next) → isField (getD s (c .at) 0) ≡ true
+    → contentsHold (c .numeric) (c .columns) (getD s (c .at) 0) (partOf s p) ≡ true
+    → fieldStep c s ≡ ok (item (getD s (c .at) 0, p) (record { at = next; numeric = c .numeric; columns = c .columns }))
+unfolding fieldItem
+a-field c s p next h e t u = rw (step-by-item c s h, e, t, u)
+
+-- ---- fields move
+pub field-moves : (numeric columns : ℕ) → Moves (fieldItem numeric columns)
+unfolding fieldItem
+field-moves numeric columns = record {
+  moves = λ s at a next e.
+      let kind = getD s at 0 in
+      let x =
+      after-is-ok (longPart s (at + 1))
+      (λ v. cond (isField kind) (cond (contentsHold numeric columns kind (partOf s (v .0))) (ok ((kind, v .0), v .1)) (refuse 7 at)) (refuse 6 at))
+      (a, next) e in
+      let m = long-moves s (at + 1) (x .0 .0) (x .0 .1) (x .1) in
+      by-test (isField kind) _ _ _ (x .2)
+      (λ t f. by-test (contentsHold numeric columns kind (partOf s (x .0 .0))) _ _ _ f
+      (λ u g.
+      let n : x .0 .1 ≡ next = ap (λ (w : (ℕ × Part) × ℕ). w .1) (same-ok g) in
+      (omega (arith, m .0, m .1), omega (arith, m .2)))
+      (λ u g. absurd (ok-not-refused (sym g))))
+      (λ t f. absurd (ok-not-refused (sym f)));
+}
+
+-- ---- fields are refused with these
+pub data FieldNumber : ℕ → Type 0 where
+  cut-short : FieldNumber 1
+  not-packed : FieldNumber 2
+  unknown : FieldNumber 6
+  contents : FieldNumber 7
+
+of-value : {n : ℕ} → OneOrTwo n → FieldNumber n
+of-value one = cut-short
+of-value two = not-packed
+
+pub field-tells : (numeric columns : ℕ) → Tells FieldNumber (fieldItem numeric columns)
+unfolding fieldItem
+field-tells numeric columns = record {
+  tells = λ s at w b h e.
+      let kind = getD s at 0 in
+      ⊎-elim
+      (λ l.
+      let x = long-told s (at + 1) w b (omega arith) l in
+      record { number = of-value (x .number); place = x .place })
+      (λ r. by-test (isField kind) _ _ _ (r .2)
+      (λ t f. by-test (contentsHold numeric columns kind (partOf s (r .0 .0))) _ _ _ f (λ u g. absurd (ok-not-refused g))
+      (λ u g. subst (Told FieldNumber s) (same-refused g) (record { number = contents; place = omega arith })))
+      (λ t f. subst (Told FieldNumber s) (same-refused f) (record { number = unknown; place = omega arith })))
+      (after-refuses (longPart s (at + 1))
+      (λ v. cond (isField kind) (cond (contentsHold numeric columns kind (partOf s (v .0))) (ok ((kind, v .0), v .1)) (refuse 7 at)) (refuse 6 at))
+      w e);
+}

@@ -1,0 +1,115 @@
+-- Walks, by any rule whose items move: a walk is its first step and the walk from where that leads, it ends, and where it breaks, it breaks as the step there.
+-- Assumes nothing.
+use Prim.Native.Nat.{ℕ, zero, suc, _-_, _≤_, _<_}
+use mathlib.Core.Path.{_≡_, refl, ap, _∙_}
+use mathlib.Core.Logic.{_⊎_, inl, inr, ⊎-elim}
+use mathlib.Core.List.{List}
+use native.Mathlib.Omega.{arith}
+use lib.ListN.{length}
+use Rattle.wire.specs.declared.refusal.Refusal.{Refusal}
+use Rattle.wire.specs.Outcome.{Outcome, ok, refused, why}
+use Rattle.wire.specs.Number.{Bytes}
+use Rattle.table_map.specs.Lists.{Rule, Stepped, end, item, step, whole, broken, onward, walkSteps, walk}
+use Rattle.table_map.proofs.Steps.{item-read, refusal-told}
+use Rattle.table_map.proofs.Items.{Moves, Told, Tells}
+
+-- where a step that answers an item leads
+pub item-moves : {A : Type 0} (rule : Rule A) → Moves rule → (s : List ℕ) (at : ℕ) (a : A) (next : ℕ) → step rule s at ≡ ok (item a next)
+    → (at < next) × (next ≤ length s)
+item-moves rule m s at a next e = m .moves s at a next (item-read rule s at a next e .1)
+
+-- ---- more steps than bytes are enough
+enough : {A : Type 0} (rule : Rule A) → Moves rule → (m k : ℕ) (s : List ℕ) (at : ℕ) → length s - at < m → length s - at < k
+    → walkSteps m rule s at ≡ walkSteps k rule s at
+unfolding walkSteps
+enough rule v zero k s at h l = absurd (omega arith)
+enough rule v (suc m) zero s at h l = absurd (omega arith)
+enough {A} rule v (suc m) (suc k) s at h l = go (λ next. enough rule v m k s next) (step rule s at) refl
+  where
+    go : ((next : ℕ) → length s - next < m → length s - next < k → walkSteps m rule s next ≡ walkSteps k rule s next)
+        → (o : Outcome (Stepped A ℕ)) → step rule s at ≡ o → onward (walkSteps m rule s) o ≡ onward (walkSteps k rule s) o
+    go again (ok end) e = refl
+    go again (ok (item a next)) e =
+        let w = item-moves rule v s at a next e in
+        rw (again next (omega (arith, w .0, w .1)) (omega (arith, w .0, w .1)))
+    go again (refused r) e = refl
+
+-- a walk is its first step, and the walk from where that leads
+pub walk-steps : {A : Type 0} (rule : Rule A) → Moves rule → (s : List ℕ) (at : ℕ) → walk rule s at ≡ onward (walk rule s) (step rule s at)
+unfolding walkSteps
+walk-steps {A} rule v s at = go (step rule s at) refl
+  where
+    go : (o : Outcome (Stepped A ℕ)) → step rule s at ≡ o → onward (walkSteps (length s - at) rule s) o ≡ onward (walk rule s) o
+    go (ok end) e = refl
+    go (ok (item a next)) e =
+        let w = item-moves rule v s at a next e in
+        let x = enough rule v (length s - at) (suc (length s - next)) s next (omega (arith, w .0, w .1)) (omega arith) in
+        rw x
+    go (refused r) e = refl
+
+-- ---- a walk ends: it has no more items than bytes are left
+few : {A : Type 0} (rule : Rule A) → Moves rule → (m : ℕ) (s : List ℕ) (at : ℕ) → length (walkSteps m rule s at .items) ≤ length s - at
+unfolding walkSteps
+few rule v zero s at = omega arith
+few {A} rule v (suc m) s at = go (λ next. few rule v m s next) (step rule s at) refl
+  where
+    go : ((next : ℕ) → length (walkSteps m rule s next .items) ≤ length s - next)
+        → (o : Outcome (Stepped A ℕ)) → step rule s at ≡ o → length (onward (walkSteps m rule s) o .items) ≤ length s - at
+    go again (ok end) e = omega arith
+    go again (ok (item a next)) e =
+        let w = item-moves rule v s at a next e in
+        omega (arith, w .0, w .1, again next)
+    go again (refused r) e = omega arith
+
+pub walk-ends : {A : Type 0} (rule : Rule A) → Moves rule → (s : List ℕ) (at : ℕ) → length (walk rule s at .items) ≤ length s - at
+walk-ends rule v s at = few rule v (suc (length s - at)) s at
+
+-- ---- a walk that breaks, breaks as the step at the place that it had come to
+-- there, the step refuses so; it is where the walk began, or a place within the bytes
+pub record Breaks {A : Type 0} (rule : Rule A) (s : List ℕ) (at : ℕ) (w : Refusal) : Type 0 where
+  pub there : ℕ
+  pub from : (there ≡ at) ⊎ ((at < there) × (there ≤ length s))
+  pub refuses : step rule s there ≡ refused w
+
+same-broken : {v w : Refusal} → broken v ≡ broken w → v ≡ w
+same-broken e = cc
+
+whole-not-broken : {w : Refusal} → whole ≡ broken w → ⊥
+whole-not-broken e = let z : _≡_ {A = ℕ} 0 1 = cc in omega arith
+
+further : {A : Type 0} {rule : Rule A} {s : List ℕ} {w : Refusal} (at next : ℕ) → at < next → next ≤ length s → Breaks rule s next w → Breaks rule s at w
+further at next h l b = record {
+  there = b .there;
+  from = inr (⊎-elim (λ e. (omega arith, omega arith)) (λ p. (omega (arith, p .0), p .1)) (b .from));
+  refuses = b .refuses;
+}
+
+breaks : {A : Type 0} (rule : Rule A) → Moves rule → (m : ℕ) (s : List ℕ) (at : ℕ) (w : Refusal) → walkSteps m rule s at .how ≡ broken w → Breaks rule s at w
+unfolding walkSteps
+breaks rule v zero s at w e = absurd (whole-not-broken e)
+breaks {A} rule v (suc m) s at w e = go (λ next. breaks rule v m s next w) (step rule s at) refl e
+  where
+    go : ((next : ℕ) → walkSteps m rule s next .how ≡ broken w → Breaks rule s next w)
+        → (o : Outcome (Stepped A ℕ)) → step rule s at ≡ o → onward (walkSteps m rule s) o .how ≡ broken w → Breaks rule s at w
+    go again (ok end) f g = absurd (whole-not-broken g)
+    go again (ok (item a next)) f g =
+        let x = item-moves rule v s at a next f in
+        further at next (x .0) (x .1) (again next g)
+    go again (refused r) f g =
+        let x : r ≡ w = same-broken g in
+        record { there = at; from = inl refl; refuses = f ∙ ap (λ (y : Refusal). refused y) x }
+
+pub walk-breaks : {A : Type 0} (rule : Rule A) → Moves rule → (s : List ℕ) (at : ℕ) (w : Refusal) → walk rule s at .how ≡ broken w → Breaks rule s at w
+walk-breaks rule v s at w e = breaks rule v (suc (length s - at)) s at w e
+
+-- ---- which refusals a step and a walk give: those of the rule, or 1 at an offset past the bytes
+pub step-told : {A : Type 0} {numbers : ℕ → Type 0} (rule : Rule A) → Tells numbers rule → (s : List ℕ) (at : ℕ) (w : Refusal) → Bytes s → step rule s at ≡ refused w
+    → ((length s < at) × (w ≡ why 1 at)) ⊎ Told numbers s w
+step-told rule t s at w b e = ⊎-elim (λ l. inl l) (λ r. inr (t .tells s at w b (r .0) (r .1))) (refusal-told rule s at w e)
+
+pub walk-told : {A : Type 0} {numbers : ℕ → Type 0} (rule : Rule A) → Moves rule → Tells numbers rule → (s : List ℕ) (at : ℕ) (w : Refusal) → Bytes s
+    → walk rule s at .how ≡ broken w → ((length s < at) × (w ≡ why 1 at)) ⊎ Told numbers s w
+walk-told rule v t s at w b e =
+    let x = walk-breaks rule v s at w e in
+    ⊎-elim (λ l. ⊎-elim (λ f. inl (omega (arith, l .0), l .1 ∙ ap (why 1) f)) (λ f. absurd (omega (arith, l .0, f .1))) (x .from)) (λ r. inr r)
+    (step-told rule t s (x .there) w b (x .refuses))

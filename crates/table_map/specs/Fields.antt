@@ -1,0 +1,69 @@
+-- Optional fields: "Type byte, packed length, value. The value is cut out first, then type, then contents judged." "The walk judges contents only so: 1 holds
+-- ceil(numeric/8) bytes and 12 ceil(n/8), no more; 2 and 10 start with a packed integer." Assumes nothing.
+use Prim.Native.Nat.{ℕ, zero, suc, _+_}
+use mathlib.Core.Bool.{Bool, true, false, cond, _&&_, _||_}
+use mathlib.Core.List.{List, [], _∷_}
+use lib.ListN.{length, getD}
+use lib.Dec.{leb, eqb}
+use Rattle.wire.specs.Outcome.{Outcome, ok, refused, refuse, after}
+use Rattle.wire.specs.Packed.{readPacked}
+use Rattle.value.specs.declared.column.Dialect.{Dialect}
+use Rattle.value.specs.Columns.{hasSignBit}
+use Rattle.table_map.specs.declared.event.Part.{Part}
+use Rattle.table_map.specs.declared.field.Fields.{Fields}
+use Rattle.table_map.specs.declared.field.FieldStep.{FieldStep}
+use Rattle.table_map.specs.declared.field.FieldStep.the-variants.{Field, End, Refused}
+use Rattle.table_map.specs.Parts.{partOf, bytesFor, longPart}
+use Rattle.table_map.specs.Lists.{Rule, Stepped, end, item, step}
+
+-- how many signedness bits a column of the type has
+unfoldable pub signBits : Dialect → ℕ → ℕ
+unfolding hasSignBit
+signBits d t = cond (hasSignBit d t) 1 0
+
+-- how many of the types have one
+unfoldable pub countSigned : Dialect → List ℕ → ℕ
+unfolding signBits
+countSigned d [] = 0
+countSigned d (t ∷ types) = signBits d t + countSigned d types
+
+-- "Types: 1 signedness .. 13 vector dimensions"
+abbrev pub isField : ℕ → Bool
+isField kind = leb 1 kind && leb kind 13
+
+abbrev pub isRead : {A : Type 0} → Outcome A → Bool
+isRead (ok a) = true
+isRead (refused r) = false
+
+unfoldable pub contentsHold : ℕ → ℕ → ℕ → List ℕ → Bool
+unfolding readPacked
+contentsHold numeric columns kind value =
+    cond (eqb kind 1) (eqb (length value) (bytesFor numeric))
+    (cond (eqb kind 12) (eqb (length value) (bytesFor columns))
+    (cond (eqb kind 2 || eqb kind 10) (isRead (readPacked value 0))
+    true))
+
+-- the field at a place: its type and its value
+unfoldable pub fieldItem : ℕ → ℕ → Rule (ℕ × Part)
+unfolding longPart contentsHold
+fieldItem numeric columns s at =
+    after (longPart s (at + 1)) (λ v.
+    cond (isField (getD s at 0))
+    (cond (contentsHold numeric columns (getD s at 0) (partOf s (v .0))) (ok ((getD s at 0, v .0), v .1)) (refuse 7 at))
+    (refuse 6 at))
+
+-- a step's answer with a cursor for its place: moved on, with the same counts
+abbrev pub withCursor : Fields → Stepped (ℕ × Part) ℕ → Stepped (ℕ × Part) Fields
+withCursor c end = end
+withCursor c (item field next) = item field (record { at = next; numeric = c .numeric; columns = c .columns })
+
+-- a step of the walk, from a cursor
+unfoldable pub fieldStep : Fields → List ℕ → Outcome (Stepped (ℕ × Part) Fields)
+unfolding step fieldItem
+fieldStep c s = after (step (fieldItem (c .numeric) (c .columns)) s (c .at)) (λ x. ok (withCursor c x))
+
+-- what the answer of a step says
+abbrev pub fieldOf : FieldStep → Outcome (Stepped (ℕ × Part) Fields)
+fieldOf (Field kind value next) = ok (item (kind, value) next)
+fieldOf End = ok end
+fieldOf (Refused r) = refused r

@@ -1,0 +1,135 @@
+// The optional fields, one after the other (table_map_event.rs: OptionalMetadataIter).
+use crate::event::Part;
+use crate::part::LongPart;
+use crate::part::bytes_for;
+use crate::part::long_part;
+use value::Dialect;
+use wire::Packed;
+use wire::Refusal;
+use wire::refusal::BAD_FIELD;
+use wire::refusal::SHORT;
+use wire::refusal::UNKNOWN_FIELD;
+ghost use mathlib.Core.Path.{_≡_};
+ghost use Prim.Native.Nat.{_+_, _-_, _≤_};
+ghost use lib.ListN.{length, drop};
+ghost use Rattle.wire.specs.Packed.{readPacked};
+ghost use Rattle.table_map.specs.Fields.{signBits, countSigned, isRead, contentsHold, fieldStep, fieldOf};
+
+// Where a walk over the optional bytes stands, with what it needs of the map: how many columns have a signedness bit, and how many columns there are. The two are counted once.
+pub struct Fields {
+    pub at: usize,
+    pub numeric: usize,
+    pub columns: usize,
+}
+
+pub enum FieldStep {
+    Field { kind: u8, value: Part, next: Fields },
+    End,
+    Refused(Refusal),
+}
+
+impl Fields {
+    // At a place of the optional bytes of a map with these type bytes.
+    pub fn new(dialect: Dialect, types: &[u8], at: usize) -> Fields
+        ensures { λ r. ⌜ r ≡ record { at = at; numeric = countSigned dialect (now (types .entry)); columns = length (now (types .entry)) } ⌝ }
+    {
+        let numeric = count_signed(dialect, types);
+        let columns = types.len();
+        Fields {
+            at,
+            numeric,
+            columns,
+        }
+    }
+
+    pub fn next(self, optional: &[u8]) -> FieldStep
+        ensures { λ r. ⌜ fieldOf r ≡ fieldStep self (now (optional .entry)) ⌝ }
+    {
+        let at = self.at;
+        let numeric = self.numeric;
+        let columns = self.columns;
+        if at == optional.len() {
+            return FieldStep::End;
+        }
+        if optional.len() < at {
+            return FieldStep::Refused(wire::refuse(SHORT, at));
+        }
+        match long_part(optional, at + 1) {
+            LongPart::Read { part, next: behind } => {
+                let kind = optional[at];
+                if kind < 1 {
+                    return FieldStep::Refused(wire::refuse(UNKNOWN_FIELD, at));
+                }
+                if 13 < kind {
+                    return FieldStep::Refused(wire::refuse(UNKNOWN_FIELD, at));
+                }
+                let start = part.start;
+                let end = start + part.len;
+                if contents_hold(numeric, columns, kind, &optional[start..end]) {
+                    let next = Fields {
+                        at: behind,
+                        numeric,
+                        columns,
+                    };
+                    return FieldStep::Field {
+                        kind,
+                        value: part,
+                        next,
+                    };
+                }
+                FieldStep::Refused(wire::refuse(BAD_FIELD, at))
+            }
+            LongPart::Refused(r) => FieldStep::Refused(r),
+        }
+    }
+}
+
+// How many of the columns have a signedness bit.
+fn count_signed(dialect: Dialect, types: &[u8]) -> usize
+    ensures { λ r. ⌜ r ≡ countSigned dialect (now (types .entry)) ⌝ }
+{
+    let mut n: usize = 0;
+    let mut i: usize = 0;
+    while i < types.len() {
+        n += sign_bits(dialect, types[i]);
+        i += 1;
+    }
+    n
+}
+
+fn sign_bits(dialect: Dialect, kind: u8) -> usize
+    ensures { λ r. ⌜ (r ≡ signBits dialect kind) × (r ≤ 1) ⌝ }
+{
+    if value::has_sign_bit(dialect, kind) {
+        return 1;
+    }
+    0
+}
+
+// Whether the contents of a field are as the walk asks.
+fn contents_hold(numeric: usize, columns: usize, kind: u8, value: &[u8]) -> bool
+    ensures { λ r. ⌜ r ≡ contentsHold numeric columns kind (now (value .entry)) ⌝ }
+{
+    if kind == 1 {
+        return value.len() == bytes_for(numeric);
+    }
+    if kind == 12 {
+        return value.len() == bytes_for(columns);
+    }
+    if kind == 2 {
+        return starts_packed(value);
+    }
+    if kind == 10 {
+        return starts_packed(value);
+    }
+    true
+}
+
+fn starts_packed(value: &[u8]) -> bool
+    ensures { λ r. ⌜ r ≡ isRead (readPacked (now (value .entry)) 0) ⌝ }
+{
+    match wire::read_packed(value, 0) {
+        Packed::Value { value: _, next: _ } => true,
+        Packed::Refused(_) => false,
+    }
+}

@@ -1,0 +1,23 @@
+// The table map event: its parts, its writer, its optional fields and the lists in them.
+// Ports mysql_common 0.38.2: binlog/events/table_map_event.rs.
+mod event;
+mod field;
+mod list;
+mod part;
+
+pub use event::Event;
+pub use event::EventRead;
+pub use event::Part;
+pub use field::FieldStep;
+pub use field::Fields;
+pub use list::DefaultCharset;
+pub use list::GroupStep;
+pub use list::Groups;
+pub use list::IntegerStep;
+pub use list::Integers;
+pub use list::PairStep;
+pub use list::Pairs;
+pub use list::StringStep;
+pub use list::Strings;
+pub use list::default_charset;
+pub use list::flag;

@@ -1,0 +1,213 @@
+// The lists in optional fields: integers, pairs, strings and groups of strings (table_map_event.rs: IterCharsets, IterNonDefault, IterNames, IterSetStrValues and their like).
+use crate::event::Part;
+use crate::part::LongPart;
+use crate::part::long_part;
+use wire::Packed;
+use wire::Refusal;
+use wire::refusal::SHORT;
+ghost use mathlib.Core.Path.{_≡_};
+ghost use Prim.Native.Nat.{_-_, _≤_};
+ghost use Rattle.wire.specs.Bits.{bitMsb0};
+ghost use Rattle.table_map.specs.Lists.{step, integerItem, pairItem, stringItem, groupItem, strings, integerOf, pairOf, stringOf, groupOf, reachedOf, defaultCharset, charsetOf};
+
+pub struct Integers {
+    pub at: usize,
+}
+
+pub enum IntegerStep {
+    Item { value: u64, next: Integers },
+    End,
+    Refused(Refusal),
+}
+
+impl Integers {
+    pub fn next(self, s: &[u8]) -> IntegerStep
+        ensures { λ r. ⌜ integerOf r ≡ step integerItem (now (s .entry)) (self .at) ⌝ }
+    {
+        let at = self.at;
+        if at == s.len() {
+            return IntegerStep::End;
+        }
+        if s.len() < at {
+            return IntegerStep::Refused(wire::refuse(SHORT, at));
+        }
+        match wire::read_packed(s, at) {
+            Packed::Value { value, next } => IntegerStep::Item {
+                value,
+                next: Integers { at: next },
+            },
+            Packed::Refused(r) => IntegerStep::Refused(r),
+        }
+    }
+}
+
+pub struct Pairs {
+    pub at: usize,
+}
+
+pub enum PairStep {
+    Item {
+        first: u64,
+        second: u64,
+        next: Pairs,
+    },
+    End,
+    Refused(Refusal),
+}
+
+impl Pairs {
+    pub fn next(self, s: &[u8]) -> PairStep
+        ensures { λ r. ⌜ pairOf r ≡ step pairItem (now (s .entry)) (self .at) ⌝ }
+    {
+        let at = self.at;
+        if at == s.len() {
+            return PairStep::End;
+        }
+        if s.len() < at {
+            return PairStep::Refused(wire::refuse(SHORT, at));
+        }
+        match wire::read_packed(s, at) {
+            Packed::Value {
+                value: first,
+                next: middle,
+            } => match wire::read_packed(s, middle) {
+                Packed::Value {
+                    value: second,
+                    next,
+                } => PairStep::Item {
+                    first,
+                    second,
+                    next: Pairs { at: next },
+                },
+                Packed::Refused(r) => PairStep::Refused(r),
+            },
+            Packed::Refused(r) => PairStep::Refused(r),
+        }
+    }
+}
+
+pub struct Strings {
+    pub at: usize,
+}
+
+pub enum StringStep {
+    Item { value: Part, next: Strings },
+    End,
+    Refused(Refusal),
+}
+
+impl Strings {
+    pub fn next(self, s: &[u8]) -> StringStep
+        ensures { λ r. ⌜ stringOf r ≡ step stringItem (now (s .entry)) (self .at) ⌝ }
+    {
+        let at = self.at;
+        if at == s.len() {
+            return StringStep::End;
+        }
+        if s.len() < at {
+            return StringStep::Refused(wire::refuse(SHORT, at));
+        }
+        match long_part(s, at) {
+            LongPart::Read { part, next } => StringStep::Item {
+                value: part,
+                next: Strings { at: next },
+            },
+            LongPart::Refused(r) => StringStep::Refused(r),
+        }
+    }
+}
+
+// A group is told by how many strings it has and where the first stands.
+pub struct Groups {
+    pub at: usize,
+}
+
+pub enum GroupStep {
+    Item {
+        count: u64,
+        first: usize,
+        next: Groups,
+    },
+    End,
+    Refused(Refusal),
+}
+
+impl Groups {
+    pub fn next(self, s: &[u8]) -> GroupStep
+        ensures { λ r. ⌜ groupOf r ≡ step groupItem (now (s .entry)) (self .at) ⌝ }
+    {
+        let at = self.at;
+        if at == s.len() {
+            return GroupStep::End;
+        }
+        if s.len() < at {
+            return GroupStep::Refused(wire::refuse(SHORT, at));
+        }
+        match wire::read_packed(s, at) {
+            Packed::Value {
+                value: count,
+                next: first,
+            } => match skip_strings(s, first, count) {
+                Reached::To(next) => GroupStep::Item {
+                    count,
+                    first,
+                    next: Groups { at: next },
+                },
+                Reached::Refused(r) => GroupStep::Refused(r),
+            },
+            Packed::Refused(r) => GroupStep::Refused(r),
+        }
+    }
+}
+
+// The place after what was read, or why it was not.
+enum Reached {
+    To(usize),
+    Refused(Refusal),
+}
+
+// Reads n strings, one after the other, up to the first that is not there: n is believed only as far as the bytes go.
+fn skip_strings(s: &[u8], at: usize, n: u64) -> Reached
+    ensures { λ r. ⌜ reachedOf r ≡ strings n (now (s .entry)) at ⌝ }
+{
+    let mut place = at;
+    let mut i: u64 = 0;
+    while i < n {
+        match long_part(s, place) {
+            LongPart::Read { part: _, next } => {
+                place = next;
+            }
+            LongPart::Refused(r) => return Reached::Refused(r),
+        }
+        i += 1;
+    }
+    Reached::To(place)
+}
+
+// The default charset at the start of fields 2 and 10, and the pairs (rank, charset) that follow it.
+pub enum DefaultCharset {
+    Read { charset: u64, pairs: Pairs },
+    Refused(Refusal),
+}
+
+pub fn default_charset(value: &[u8]) -> DefaultCharset
+    ensures { λ r. ⌜ charsetOf r ≡ defaultCharset (now (value .entry)) ⌝ }
+{
+    match wire::read_packed(value, 0) {
+        Packed::Value {
+            value: charset,
+            next,
+        } => DefaultCharset::Read {
+            charset,
+            pairs: Pairs { at: next },
+        },
+        Packed::Refused(r) => DefaultCharset::Refused(r),
+    }
+}
+
+// Bit i of fields 1 and 12, counted from the highest down; one past the bytes is not set.
+pub fn flag(value: &[u8], i: usize) -> bool
+    ensures { λ r. ⌜ r ≡ bitMsb0 (now (value .entry)) i ⌝ }
+{
+    wire::bit_msb0(value, i)
+}

@@ -1,0 +1,40 @@
+// Parts of the lent bytes behind a packed length, and how many bytes bits take (io.rs: eat_lenenc_str; misc/raw/bytes.rs: LenEnc).
+use crate::event::Part;
+use wire::Packed;
+use wire::Refusal;
+use wire::refusal::SHORT;
+ghost use mathlib.Core.Path.{_≡_};
+ghost use Rattle.table_map.specs.Parts.{bytesFor, longPart, longPartOf};
+
+// A part and the place after it, or why there is none.
+pub(crate) enum LongPart {
+    Read { part: Part, next: usize },
+    Refused(Refusal),
+}
+
+// The part behind the packed length at `at`.
+pub(crate) fn long_part(s: &[u8], at: usize) -> LongPart
+    ensures { λ r. ⌜ longPartOf r ≡ longPart (now (s .entry)) at ⌝ }
+{
+    match wire::read_packed(s, at) {
+        Packed::Value { value, next: start } => {
+            let len = value as usize;
+            if s.len() - start < len {
+                return LongPart::Refused(wire::refuse(SHORT, at));
+            }
+            let next = start + len;
+            LongPart::Read {
+                part: Part { start, len },
+                next,
+            }
+        }
+        Packed::Refused(r) => LongPart::Refused(r),
+    }
+}
+
+// How many bytes n bits take. The sum of n and 7 may be too large to be made.
+pub(crate) fn bytes_for(n: usize) -> usize
+    ensures { λ r. ⌜ r ≡ bytesFor n ⌝ }
+{
+    n / 8 + (n % 8 + 7) / 8
+}
