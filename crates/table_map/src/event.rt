@@ -1,5 +1,17 @@
 // The event's parts, as places in the lent bytes (table_map_event.rs: TableMapEvent).
+use wire::Packed;
 use wire::Refusal;
+use wire::refusal::SHORT;
+ghost use mathlib.Core.Path.{_≡_};
+ghost use Prim.Native.Nat.{_+_, _≤_, _<_};
+ghost use lib.ListN.{length};
+ghost use Rattle.wire.specs.Packed.{readPacked};
+ghost use Rattle.table_map.specs.Parts.{part, partOf, within, shortPart, longPart};
+ghost use Rattle.table_map.specs.Events.{idBytes, readNames, readColumns, readEvent, eventOf, partIn};
+ghost use Rattle.table_map.specs.Reads.{placeOf, announcedOf, partRead, namesOf, columnsOf};
+
+// The post-header length of events whose table id has 4 bytes.
+pub const SHORT_POST_HEADER: u8 = 6;
 
 // A part of the lent bytes.
 pub struct Part {
@@ -22,4 +34,222 @@ pub struct Event {
 pub enum EventRead {
     Read(Event),
     Refused(Refusal),
+}
+
+// The place after some bytes, or why they are not all there.
+enum Place {
+    At(usize),
+    Refused(Refusal),
+}
+
+// What a packed length announces: it may run past the bytes.
+enum Announced {
+    Read(Part),
+    Refused(Refusal),
+}
+
+// A part, and the place after it.
+struct Cut {
+    part: Part,
+    next: usize,
+}
+
+enum PartRead {
+    Read(Cut),
+    Refused(Refusal),
+}
+
+// The names, and the place after the byte behind the second.
+struct Names {
+    database: Part,
+    table: Part,
+    next: usize,
+}
+
+enum NamesRead {
+    Read(Names),
+    Refused(Refusal),
+}
+
+// What there is of the columns, and the place after it.
+struct Columns {
+    types: Part,
+    metadata: Part,
+    bits: Part,
+    next: usize,
+}
+
+enum ColumnsRead {
+    Read(Columns),
+    Refused(Refusal),
+}
+
+// The place after the n bytes from at on; if they end early, the refusal is placed at `place`.
+fn within(s: &[u8], at: usize, n: usize, place: usize) -> Place
+    ensures { λ r. ⌜ placeOf r ≡ within (now (s .entry)) at n place ⌝ }
+{
+    if wire::has_room(s.len(), at, n) {
+        let next = at + n;
+        return Place::At(next);
+    }
+    Place::Refused(wire::refuse(SHORT, place))
+}
+
+// The packed length at `at`, and the bytes behind it that it announces.
+fn read_length(s: &[u8], at: usize) -> Announced
+    ensures { λ r. ⌜ announcedOf r ≡ readPacked (now (s .entry)) at ⌝ }
+{
+    match wire::read_packed(s, at) {
+        Packed::Value { value, next } => {
+            let len = value as usize;
+            Announced::Read(Part { start: next, len })
+        }
+        Packed::Refused(r) => Announced::Refused(r),
+    }
+}
+
+// A part behind its length in a byte.
+fn short_part(s: &[u8], at: usize) -> PartRead
+    ensures { λ r. ⌜ partRead r ≡ shortPart (now (s .entry)) at ⌝ }
+{
+    let start = match within(s, at, 1, at) {
+        Place::At(next) => next,
+        Place::Refused(r) => return PartRead::Refused(r),
+    };
+    let len = s[at] as usize;
+    let next = match within(s, start, len, at) {
+        Place::At(next) => next,
+        Place::Refused(r) => return PartRead::Refused(r),
+    };
+    PartRead::Read(Cut {
+        part: Part { start, len },
+        next,
+    })
+}
+
+// A part behind a packed length.
+fn long_part(s: &[u8], at: usize) -> PartRead
+    ensures { λ r. ⌜ partRead r ≡ longPart (now (s .entry)) at ⌝ }
+{
+    let part = match read_length(s, at) {
+        Announced::Read(part) => part,
+        Announced::Refused(r) => return PartRead::Refused(r),
+    };
+    let next = match within(s, part.start, part.len, at) {
+        Place::At(next) => next,
+        Place::Refused(r) => return PartRead::Refused(r),
+    };
+    PartRead::Read(Cut { part, next })
+}
+
+fn read_names(s: &[u8], at: usize) -> NamesRead
+    ensures { λ r. ⌜ namesOf r ≡ readNames (now (s .entry)) at ⌝ }
+{
+    let first = match short_part(s, at) {
+        PartRead::Read(cut) => cut,
+        PartRead::Refused(r) => return NamesRead::Refused(r),
+    };
+    let behind = match within(s, first.next, 1, first.next) {
+        Place::At(next) => next,
+        Place::Refused(r) => return NamesRead::Refused(r),
+    };
+    let second = match short_part(s, behind) {
+        PartRead::Read(cut) => cut,
+        PartRead::Refused(r) => return NamesRead::Refused(r),
+    };
+    let next = match within(s, second.next, 1, second.next) {
+        Place::At(next) => next,
+        Place::Refused(r) => return NamesRead::Refused(r),
+    };
+    let database = first.part;
+    let table = second.part;
+    NamesRead::Read(Names {
+        database,
+        table,
+        next,
+    })
+}
+
+fn read_columns(s: &[u8], at: usize) -> ColumnsRead
+    ensures { λ r. ⌜ columnsOf r ≡ readColumns (now (s .entry)) at ⌝ }
+{
+    let types = match read_length(s, at) {
+        Announced::Read(part) => part,
+        Announced::Refused(r) => return ColumnsRead::Refused(r),
+    };
+    let behind = match within(s, types.start, types.len, types.start) {
+        Place::At(next) => next,
+        Place::Refused(r) => return ColumnsRead::Refused(r),
+    };
+    let cut = match long_part(s, behind) {
+        PartRead::Read(cut) => cut,
+        PartRead::Refused(r) => return ColumnsRead::Refused(r),
+    };
+    let start = cut.next;
+    let len = (types.len + 7) / 8;
+    let next = match within(s, start, len, start) {
+        Place::At(next) => next,
+        Place::Refused(r) => return ColumnsRead::Refused(r),
+    };
+    let metadata = cut.part;
+    let bits = Part { start, len };
+    ColumnsRead::Read(Columns {
+        types,
+        metadata,
+        bits,
+        next,
+    })
+}
+
+// How many bytes the table id has.
+fn id_bytes(post_header: u8) -> usize
+    ensures { λ r. ⌜ r ≡ idBytes «post_header» ⌝ }
+{
+    if post_header == SHORT_POST_HEADER {
+        return 4;
+    }
+    6
+}
+
+// The event in the lent bytes, which stand behind its header; post_header is what the format description says of table maps.
+pub fn read_event(event: &[u8], post_header: u8) -> EventRead
+    ensures { λ r. ⌜ eventOf r ≡ readEvent (now (event .entry)) «post_header» ⌝ }
+{
+    let width = id_bytes(post_header);
+    let at = match within(event, 0, width, 0) {
+        Place::At(next) => next,
+        Place::Refused(r) => return EventRead::Refused(r),
+    };
+    let behind = match within(event, at, 2, at) {
+        Place::At(next) => next,
+        Place::Refused(r) => return EventRead::Refused(r),
+    };
+    let names = match read_names(event, behind) {
+        NamesRead::Read(names) => names,
+        NamesRead::Refused(r) => return EventRead::Refused(r),
+    };
+    let columns = match read_columns(event, names.next) {
+        ColumnsRead::Read(columns) => columns,
+        ColumnsRead::Refused(r) => return EventRead::Refused(r),
+    };
+    let start = columns.next;
+    let len = event.len() - start;
+    let id = wire::read_le(event, 0, width);
+    let flags = wire::read_le(event, at, 2) as u16;
+    let database = names.database;
+    let table = names.table;
+    let types = columns.types;
+    let metadata = columns.metadata;
+    let bits = columns.bits;
+    let optional = Part { start, len };
+    EventRead::Read(Event {
+        id,
+        flags,
+        database,
+        table,
+        types,
+        metadata,
+        bits,
+        optional,
+    })
 }

@@ -8,6 +8,7 @@ mod part;
 pub use event::Event;
 pub use event::EventRead;
 pub use event::Part;
+pub use event::read_event;
 pub use field::FieldStep;
 pub use field::Fields;
 pub use list::DefaultCharset;

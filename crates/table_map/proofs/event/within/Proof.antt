@@ -1,0 +1,34 @@
+-- `table_map::event::within` meets its contract. Assumes nothing.
+use Prim.Native.Nat.{_+_, _≤_}
+use native.Mathlib.Omega.{arith}
+use mathlib.Core.Path.{sym, _∙_}
+use lib.ListN.{length}
+use Rattle.table_map.specs.Parts.{within}
+use Rattle.wire.proofs.Stores.{room}
+use borrow.Author.Needs.{needs}
+use Rattle.table_map.proofs.event.within.Statement.{statement}
+use Rattle.table_map.proofs.event.within.Tie as tie
+use Rattle.table_map.proofs.event.within.Reads as reads
+use Rattle.table_map.proofs.event.within.Lts as lts
+use Rattle.wire.proofs.refuse.Reads as refuse-reads
+use Rattle.wire.proofs.has_room.Reads as has-room-reads
+
+has-room-requires : tie.Need-has-room-requires
+has-room-requires c κs = search needs
+
+add-next : tie.Need-add-next
+add-next c = let r : c .before .before .before .args .at + c .before .before .before .args .n ≤ length (c .before .before .before .args .s .now) = room _ _ _ _ (c .before .has-room .ensures) (c .if1 .taken) in omega arith
+
+returns : tie.Need-returns
+unfolding within
+returns c = rw (sym (c .before .has-room .ensures) ∙ c .if1 .taken)
+
+refuse-requires : tie.Need-refuse-requires
+refuse-requires c κs = search needs
+
+returns-2 : tie.Need-returns-2
+unfolding within
+returns-2 c = rw (sym (c .before .before .has-room .ensures) ∙ c .before .if1 .left, c .refuse .ensures)
+
+pub within-spec : {M : Type 1} → statement M
+within-spec = tie.close (tie.spec has-room-requires add-next returns refuse-requires returns-2)
