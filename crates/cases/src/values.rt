@@ -1,4 +1,5 @@
-// Value words: read into values, their bytes into the arena.
+// Value words: read into values, their bytes into the arena. A part is first held to its width; the
+// remainder that is taken where it is narrowed changes nothing, and shows that it fits.
 use crate::slices::find;
 use crate::slices::part;
 use crate::slices::same;
@@ -22,10 +23,12 @@ const MOST_16: u64 = 65535;
 
 const MOST_32: u64 = 4294967295;
 
-// The greatest of the signed integers.
+// The greatest of the signed integers, and the least without its minus.
 const MOST_INT: u64 = 9223372036854775807;
 
-// The digits that an integer has at most.
+const LEAST_INT: u64 = 9223372036854775808;
+
+// The digits that a signed integer has at most.
 const INT_DIGITS: usize = 19;
 
 // The value, the place in the arena after its bytes, and the place of the next word. The bytes of a
@@ -80,10 +83,13 @@ fn parse_natural(s: &[u8]) -> Plain {
     if s.len() > INT_DIGITS {
         return Plain::Bad;
     }
-    let Decimal::Value(n) = parse_limited(s, MOST_INT) else {
+    let Decimal::Value(n) = parse_decimal(s) else {
         return Plain::Bad;
     };
-    Plain::Value(Value::Int((n % 9223372036854775808) as i64))
+    if n > MOST_INT {
+        return Plain::Bad;
+    }
+    Plain::Value(Value::Int(n as i64))
 }
 
 // The digits behind a minus.
@@ -91,13 +97,16 @@ fn parse_negative(s: &[u8]) -> Plain {
     if s.len() > INT_DIGITS {
         return Plain::Bad;
     }
-    let Decimal::Value(n) = parse_limited(s, MOST_INT + 1) else {
+    let Decimal::Value(n) = parse_decimal(s) else {
         return Plain::Bad;
     };
+    if n > LEAST_INT {
+        return Plain::Bad;
+    }
     if n == 0 {
         return Plain::Value(Value::Int(0));
     }
-    let below = ((n - 1) % 9223372036854775808) as i64;
+    let below = (n - 1) as i64;
     Plain::Value(Value::Int(-1 - below))
 }
 
