@@ -1,6 +1,9 @@
 // Reads cases from standard input, a line each, and prints an answer line for each.
+mod fields;
 mod input;
+mod lists;
 mod lone;
+mod maps;
 mod output;
 mod printing;
 mod room;
@@ -13,6 +16,7 @@ use input::Source;
 use input::next_line;
 use lone::store_case;
 use lone::value_case;
+use maps::answer_map;
 use output::flush;
 use output::put_bad;
 use output::put_byte;
@@ -114,7 +118,7 @@ fn answer(line: &[u8], arena: &mut [u8], room: &mut [u8], out: &mut [u8], used: 
     if same(word, b"store") {
         return store_case(line, next, arena, room, out, used);
     }
-    put_bad(out, used)
+    answer_map(word, line, next, arena, out, used)
 }
 
 // Reads one line, and answers it.

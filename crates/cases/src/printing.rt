@@ -3,7 +3,7 @@ use crate::output::put_byte;
 use crate::output::put_hex;
 use crate::output::put_number;
 use crate::output::put_text;
-use crate::slices::part;
+use crate::slices::cut;
 use temporal::Date;
 use temporal::Moment;
 use temporal::Stamp;
@@ -12,7 +12,7 @@ use temporal::Time;
 use value::Value;
 
 // A name, and a number behind it.
-fn put_named(out: &mut [u8], used: usize, name: &[u8], n: u64) -> usize {
+pub(crate) fn put_named(out: &mut [u8], used: usize, name: &[u8], n: u64) -> usize {
     let used = put_text(out, used, name);
     put_number(out, used, n)
 }
@@ -105,8 +105,7 @@ fn put_temporal(out: &mut [u8], used: usize, temporal: Temporal) -> usize {
 // The bytes that stand at `start` of `s`.
 fn put_bytes(out: &mut [u8], used: usize, s: &[u8], start: usize, len: usize) -> usize {
     let used = put_text(out, used, b"bytes:");
-    let behind = part(s, start, s.len());
-    put_hex(out, used, part(behind, 0, len))
+    put_hex(out, used, cut(s, start, len))
 }
 
 // A value, its bytes those of the slice that it was read from.

@@ -12,6 +12,11 @@ pub(crate) fn part(s: &[u8], from: usize, to: usize) -> &[u8] {
     &s[from..to]
 }
 
+// The `len` bytes from `start` on, or none where they are not all there.
+pub(crate) fn cut(s: &[u8], start: usize, len: usize) -> &[u8] {
+    part(part(s, start, s.len()), 0, len)
+}
+
 // The place of the first `sought` from `from` on, or the length where there is none.
 pub(crate) fn find(s: &[u8], from: usize, sought: u8) -> usize {
     let mut i = from;

@@ -35,6 +35,12 @@ pub(crate) enum Bytes {
     Bad,
 }
 
+// The same for two byte strings, the second behind the first.
+pub(crate) enum Bytes2 {
+    Found(usize, usize, usize),
+    Bad,
+}
+
 // What a text that has no spaces says, as a number.
 pub(crate) enum Decimal {
     Value(u64),
@@ -193,4 +199,15 @@ pub(crate) fn read_bytes(line: &[u8], at: usize, arena: &mut [u8], from: usize) 
         return Bytes::Bad;
     };
     Bytes::Found(end, next)
+}
+
+// Two byte strings, decoded into `arena` from `from` on.
+pub(crate) fn read_bytes2(line: &[u8], at: usize, arena: &mut [u8], from: usize) -> Bytes2 {
+    let Bytes::Found(first, next) = read_bytes(line, at, arena, from) else {
+        return Bytes2::Bad;
+    };
+    let Bytes::Found(second, next) = read_bytes(line, next, arena, first) else {
+        return Bytes2::Bad;
+    };
+    Bytes2::Found(first, second, next)
 }
