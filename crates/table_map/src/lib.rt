@@ -3,11 +3,18 @@
 mod event;
 mod field;
 mod list;
+mod write;
 
 pub use event::Event;
 pub use event::EventRead;
 pub use event::Part;
+pub use event::column_metadata;
+pub use event::column_types;
+pub use event::database_name;
+pub use event::nullable_bits;
+pub use event::optional_metadata;
 pub use event::read_event;
+pub use event::table_name;
 pub use field::FieldStep;
 pub use field::Fields;
 pub use list::GroupStep;
@@ -18,3 +25,5 @@ pub use list::PairStep;
 pub use list::Pairs;
 pub use list::StringStep;
 pub use list::Strings;
+pub use write::event_size;
+pub use write::write_event;
