@@ -17,7 +17,7 @@ use Rattle.wire.proofs.Forms.{read-back}
 use Rattle.table_map.specs.declared.event.Event.{Event}
 use Rattle.table_map.specs.Parts.{part, partOf, bytesFor, within, shortPart, longPart}
 use Rattle.table_map.specs.Events.{readNames, readColumns, readEvent}
-use Rattle.table_map.specs.Writes.{Parts, parts, nameBytes, eventBytes, isEvent, columnBytes}
+use Rattle.table_map.specs.Writes.{Parts, nameBytes, eventBytes, isEvent, columnBytes}
 use Rattle.table_map.specs.Canonical.{partsOf}
 use Rattle.table_map.proofs.Puts.{taken}
 
@@ -31,7 +31,7 @@ pub from-more : (a b : List ℕ) (n : ℕ) {s : List ℕ} {at : ℕ} → length 
 from-more a b n {s} {at} l f =
     record { is = sym (drop-drop n at s) ∙ ap (drop n) (f .is) ∙ drop-at a b n l; ends = omega (arith, f .ends, length-append a b) }
 
-from-part : (a b : List ℕ) (n : ℕ) {s : List ℕ} {at : ℕ} → length a ≡ n → From s at (a ++ b) → take n (drop at s) ≡ a
+pub from-part : (a b : List ℕ) (n : ℕ) {s : List ℕ} {at : ℕ} → length a ≡ n → From s at (a ++ b) → take n (drop at s) ≡ a
 from-part a b n {s} {at} l f = ap (take n) (f .is) ∙ take-at a b n l
 
 from-within : (a b : List ℕ) (n place : ℕ) {s : List ℕ} {at : ℕ} → length a ≡ n → From s at (a ++ b) → within s at n place ≡ ok (at + n)
@@ -141,7 +141,7 @@ columns-back p {s} {at} h k l f =
     from-more (p .bits) (p .optional) (bytesFor (length (p .types))) l f₃)
 
 -- ---- the event
-abbrev behindFlags : Parts → List ℕ
+abbrev pub behindFlags : Parts → List ℕ
 behindFlags p = nameBytes (p .database) ++ (nameBytes (p .table) ++ columnBytes (p .types) (p .metadata) (p .bits) (p .optional))
 
 pub from-id : (p : Parts) → From (eventBytes p) 0 (leBytes 6 (p .id) ++ (leBytes 2 (p .flags) ++ behindFlags p))

@@ -3,10 +3,9 @@ use wire::Packed;
 use wire::Refusal;
 use wire::refusal::SHORT;
 ghost use mathlib.Core.Path.{_≡_};
-ghost use Prim.Native.Nat.{_+_, _≤_, _<_, _^_};
-ghost use lib.ListN.{length};
+ghost use Prim.Native.Nat.{_+_, _<_, _^_};
 ghost use Rattle.wire.specs.Packed.{readPacked};
-ghost use Rattle.table_map.specs.Parts.{partOf, lentPart, bytesFor, within, shortPart, longPart};
+ghost use Rattle.table_map.specs.Parts.{lentPart, bytesFor, within, shortPart, longPart};
 ghost use Rattle.table_map.specs.Events.{idBytes, readNames, readColumns, readEvent, eventOf, partIn};
 ghost use Rattle.table_map.specs.Reads.{placeOf, announcedOf, partRead, namesOf, columnsOf};
 
