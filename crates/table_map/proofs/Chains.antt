@@ -7,14 +7,14 @@ use native.Mathlib.Omega.{arith}
 use borrow.Author.Tests.{leb-true}
 use lib.ListN.{length, getD, take, drop}
 use lib.Dec.{leb, eqb}
-use Rattle.wire.specs.Outcome.{Outcome, ok, why}
+use Rattle.wire.specs.Outcome.{ok, why}
 use Rattle.wire.specs.Number.{leValue}
 use Rattle.wire.specs.Packed.{readPacked}
 use Rattle.wire.proofs.Outcomes.{test-is-ok, after-is-ok, same-ok}
 use Rattle.wire.proofs.Forms.{read-moves}
 use Rattle.table_map.specs.declared.event.Part.{Part}
 use Rattle.table_map.specs.declared.event.Event.{Event}
-use Rattle.table_map.specs.Parts.{part, bytesFor, within, shortPart, longPart}
+use Rattle.table_map.specs.Parts.{bytesFor, within, shortPart, longPart}
 use Rattle.table_map.specs.Events.{idBytes, readNames, readColumns, readEvent}
 
 -- bytes that are all there
@@ -164,12 +164,12 @@ laid s postHeader e r =
     let q7 : y .0 .3 ≡ e .optional .start = ap (λ (z : Event). z .optional .start) q in
     let q8 : length s - y .0 .3 ≡ e .optional .len = ap (λ (z : Event). z .optional .len) q in
     let k′ : TwoNamed s (idBytes postHeader + 2) (e .database) (e .table) (x .0 .2) =
-        subst (λ (v : ℕ). TwoNamed s v (e .database) (e .table) (x .0 .2)) w2
-        (subst (λ (p : Part). TwoNamed s (b .0) (e .database) p (x .0 .2)) q3 (subst (λ (p : Part). TwoNamed s (b .0) p (x .0 .1) (x .0 .2)) q2 k)) in
+    subst (λ (v : ℕ). TwoNamed s v (e .database) (e .table) (x .0 .2)) w2
+    (subst (λ (p : Part). TwoNamed s (b .0) (e .database) p (x .0 .2)) q3 (subst (λ (p : Part). TwoNamed s (b .0) p (x .0 .1) (x .0 .2)) q2 k)) in
     let l′ : Columned s (x .0 .2) (e .types) (e .metadata) (e .bits) (y .0 .3) =
-        subst (λ (p : Part). Columned s (x .0 .2) (e .types) (e .metadata) p (y .0 .3)) q6
-        (subst (λ (p : Part). Columned s (x .0 .2) (e .types) p (y .0 .2) (y .0 .3)) q5
-        (subst (λ (p : Part). Columned s (x .0 .2) p (y .0 .1) (y .0 .2) (y .0 .3)) q4 l)) in
+    subst (λ (p : Part). Columned s (x .0 .2) (e .types) (e .metadata) p (y .0 .3)) q6
+    (subst (λ (p : Part). Columned s (x .0 .2) (e .types) p (y .0 .2) (y .0 .3)) q5
+    (subst (λ (p : Part). Columned s (x .0 .2) p (y .0 .1) (y .0 .2) (y .0 .3)) q4 l)) in
     let m : x .0 .2 ≡ e .table .start + e .table .len + 1 = k′ .next-is in
     let n : y .0 .3 ≡ e .bits .start + e .bits .len = l′ .next-is in
     record {
@@ -177,8 +177,8 @@ laid s postHeader e r =
       flags = sym q1 ∙ ap (λ (v : ℕ). leValue (take 2 (drop v s))) w;
       names = subst (λ (v : ℕ). TwoNamed s (idBytes postHeader + 2) (e .database) (e .table) v) m k′;
       columns =
-        subst (λ (v : ℕ). Columned s v (e .types) (e .metadata) (e .bits) (e .bits .start + e .bits .len)) m
-        (subst (λ (v : ℕ). Columned s (x .0 .2) (e .types) (e .metadata) (e .bits) v) n l′);
+          subst (λ (v : ℕ). Columned s v (e .types) (e .metadata) (e .bits) (e .bits .start + e .bits .len)) m
+          (subst (λ (v : ℕ). Columned s (x .0 .2) (e .types) (e .metadata) (e .bits) v) n l′);
       rest-start = omega arith;
       rest-len = omega (arith, l′ .ends);
     }
@@ -194,3 +194,51 @@ id-narrow postHeader = go (eqb postHeader 6)
     go : (t : Bool) → cond t 4 6 ≤ 6
     go true = omega arith
     go false = omega arith
+
+-- ---- the parts in order, end to end, from the byte behind the database name's length to the last
+pub record Ordered (s : List ℕ) (w : ℕ) (e : Event) : Type 0 where
+  pub database : e .database .start ≡ w + 3
+  -- a skipped byte and the length byte stand between the names
+  pub table : e .table .start ≡ e .database .start + e .database .len + 2
+  -- a skipped byte and the count stand before the types
+  pub types : e .table .start + e .table .len + 1 < e .types .start
+  -- the packed length stands before the metadata
+  pub metadata : e .types .start + e .types .len < e .metadata .start
+  pub bits : e .bits .start ≡ e .metadata .start + e .metadata .len
+  pub optional : e .optional .start ≡ e .bits .start + e .bits .len
+  pub ends : e .optional .start + e .optional .len ≡ length s
+
+pub parts-within : (s : List ℕ) (postHeader : ℕ) (e : Event) → readEvent s postHeader ≡ ok e → Ordered s (idBytes postHeader) e
+parts-within s postHeader e r =
+    let l = laid s postHeader e r in
+    let d : e .database .start ≡ idBytes postHeader + 2 + 1 = l .names .one .start in
+    let t : e .table .start ≡ e .database .start + e .database .len + 1 + 1 = l .names .two .start in
+    record {
+      database = omega arith;
+      table = omega arith;
+      types = read-moves s (e .table .start + e .table .len + 1) (e .types .len) (e .types .start) (l .columns .count) .0;
+      metadata = read-moves s (e .types .start + e .types .len) (e .metadata .len) (e .metadata .start) (l .columns .announced) .0;
+      bits = l .columns .bits-start;
+      optional = l .rest-start;
+      ends = l .rest-len;
+    }
+
+-- so each ends within the bytes
+pub record Within (s : List ℕ) (e : Event) : Type 0 where
+  pub database : e .database .start + e .database .len ≤ length s
+  pub table : e .table .start + e .table .len ≤ length s
+  pub types : e .types .start + e .types .len ≤ length s
+  pub metadata : e .metadata .start + e .metadata .len ≤ length s
+  pub bits : e .bits .start + e .bits .len ≤ length s
+  pub optional : e .optional .start + e .optional .len ≤ length s
+
+pub each-within : (s : List ℕ) (postHeader : ℕ) (e : Event) → readEvent s postHeader ≡ ok e → Within s e
+each-within s postHeader e r =
+    let o = parts-within s postHeader e r in
+    let t = o .table in
+    let y = o .types in
+    let m = o .metadata in
+    let b = o .bits in
+    let p = o .optional in
+    let n = o .ends in
+    record { database = omega arith; table = omega arith; types = omega arith; metadata = omega arith; bits = omega arith; optional = omega arith }

@@ -1,7 +1,7 @@
 -- The event, in document 01's order: "Table id: 4 bytes if the post-header length is 6, else 6 bytes. Flags 2. Database name: length byte, bytes, one
 -- skipped byte. Table name likewise. Packed column count n; n type bytes; packed length and the metadata; ceil(n/8) bytes of nullable bits, lowest
 -- first; the rest is optional metadata. Integers are little-endian." Assumes nothing.
-use Prim.Native.Nat.{ℕ, _+_, _-_}
+use Prim.Native.Nat.{ℕ, _-_}
 use mathlib.Core.List.{List, []}
 use mathlib.Core.Bool.{cond}
 use lib.ListN.{length, take, drop}

@@ -17,6 +17,10 @@ part start len = record { start = start; len = len }
 abbrev pub partOf : List ℕ → Part → List ℕ
 partOf s p = take (p .len) (drop (p .start) s)
 
+-- the same, and none where it runs past the bytes
+abbrev pub lentPart : List ℕ → Part → List ℕ
+lentPart s p = cond (leb (p .start + p .len) (length s)) (partOf s p) []
+
 -- how many bytes n bits take
 abbrev pub bytesFor : ℕ → ℕ
 bytesFor n = (n + 7) / 8

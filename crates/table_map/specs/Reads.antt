@@ -2,9 +2,6 @@
 use Prim.Native.Nat.{ℕ}
 use Rattle.wire.specs.Outcome.{Outcome, ok, refused}
 use Rattle.table_map.specs.declared.event.Part.{Part}
-use Rattle.table_map.specs.declared.event.Cut.{Cut}
-use Rattle.table_map.specs.declared.event.Names.{Names}
-use Rattle.table_map.specs.declared.event.Columns.{Columns}
 use Rattle.table_map.specs.declared.event.Place.{Place}
 use Rattle.table_map.specs.declared.event.Place.the-variants.{At, Refused as Refused₁}
 use Rattle.table_map.specs.declared.event.Announced.{Announced}

@@ -3,10 +3,9 @@ use wire::Packed;
 use wire::Refusal;
 use wire::refusal::SHORT;
 ghost use mathlib.Core.Path.{_≡_};
-ghost use Prim.Native.Nat.{_+_, _≤_, _<_};
-ghost use lib.ListN.{length};
+ghost use Prim.Native.Nat.{_+_, _<_, _^_};
 ghost use Rattle.wire.specs.Packed.{readPacked};
-ghost use Rattle.table_map.specs.Parts.{part, partOf, within, shortPart, longPart};
+ghost use Rattle.table_map.specs.Parts.{lentPart, bytesFor, within, shortPart, longPart};
 ghost use Rattle.table_map.specs.Events.{idBytes, readNames, readColumns, readEvent, eventOf, partIn};
 ghost use Rattle.table_map.specs.Reads.{placeOf, announcedOf, partRead, namesOf, columnsOf};
 
@@ -93,6 +92,14 @@ fn within(s: &[u8], at: usize, n: usize, place: usize) -> Place
         return Place::At(next);
     }
     Place::Refused(wire::refuse(SHORT, place))
+}
+
+// How many bytes n bits take.
+pub(crate) fn bytes_for(n: usize) -> usize
+    requires { ⌜ n < 2 ^ 63 ⌝ }
+    ensures { λ r. ⌜ r ≡ bytesFor n ⌝ }
+{
+    (n + 7) / 8
 }
 
 // The packed length at `at`, and the bytes behind it that it announces.
@@ -186,7 +193,7 @@ fn read_columns(s: &[u8], at: usize) -> ColumnsRead
         PartRead::Refused(r) => return ColumnsRead::Refused(r),
     };
     let start = cut.next;
-    let len = (types.len + 7) / 8;
+    let len = bytes_for(types.len);
     let next = match within(s, start, len, start) {
         Place::At(next) => next,
         Place::Refused(r) => return ColumnsRead::Refused(r),
@@ -252,4 +259,90 @@ pub fn read_event(event: &[u8], post_header: u8) -> EventRead
         bits,
         optional,
     })
+}
+
+// The bytes of a part, none where it runs past those lent.
+fn part_of(s: &[u8], part: Part) -> &[u8]
+    ensures { λ r. ⌜ now r ≡ lentPart (now (s .entry)) part ⌝ }
+{
+    let start = part.start;
+    if wire::has_room(s.len(), start, part.len) {
+        let end = start + part.len;
+        return &s[start..end];
+    }
+    &s[0..0]
+}
+
+// ---- the parts of an event, uncopied: empty where it is refused
+
+// The name of the database.
+pub fn database_name(event: &[u8], post_header: u8) -> &[u8]
+    ensures { λ r. ⌜ now r ≡ partIn (λ e. e .database) (now (event .entry)) (readEvent (now (event .entry)) «post_header») ⌝ }
+{
+    let e = match read_event(event, post_header) {
+        EventRead::Read(e) => e,
+        EventRead::Refused(_) => return &event[0..0],
+    };
+    let part = e.database;
+    part_of(event, part)
+}
+
+// The name of the table.
+pub fn table_name(event: &[u8], post_header: u8) -> &[u8]
+    ensures { λ r. ⌜ now r ≡ partIn (λ e. e .table) (now (event .entry)) (readEvent (now (event .entry)) «post_header») ⌝ }
+{
+    let e = match read_event(event, post_header) {
+        EventRead::Read(e) => e,
+        EventRead::Refused(_) => return &event[0..0],
+    };
+    let part = e.table;
+    part_of(event, part)
+}
+
+// A type byte for each column.
+pub fn column_types(event: &[u8], post_header: u8) -> &[u8]
+    ensures { λ r. ⌜ now r ≡ partIn (λ e. e .types) (now (event .entry)) (readEvent (now (event .entry)) «post_header») ⌝ }
+{
+    let e = match read_event(event, post_header) {
+        EventRead::Read(e) => e,
+        EventRead::Refused(_) => return &event[0..0],
+    };
+    let part = e.types;
+    part_of(event, part)
+}
+
+// The metadata of all columns.
+pub fn column_metadata(event: &[u8], post_header: u8) -> &[u8]
+    ensures { λ r. ⌜ now r ≡ partIn (λ e. e .metadata) (now (event .entry)) (readEvent (now (event .entry)) «post_header») ⌝ }
+{
+    let e = match read_event(event, post_header) {
+        EventRead::Read(e) => e,
+        EventRead::Refused(_) => return &event[0..0],
+    };
+    let part = e.metadata;
+    part_of(event, part)
+}
+
+// A bit for each column, the lowest of each byte first: whether it can be NULL.
+pub fn nullable_bits(event: &[u8], post_header: u8) -> &[u8]
+    ensures { λ r. ⌜ now r ≡ partIn (λ e. e .bits) (now (event .entry)) (readEvent (now (event .entry)) «post_header») ⌝ }
+{
+    let e = match read_event(event, post_header) {
+        EventRead::Read(e) => e,
+        EventRead::Refused(_) => return &event[0..0],
+    };
+    let part = e.bits;
+    part_of(event, part)
+}
+
+// The optional fields.
+pub fn optional_metadata(event: &[u8], post_header: u8) -> &[u8]
+    ensures { λ r. ⌜ now r ≡ partIn (λ e. e .optional) (now (event .entry)) (readEvent (now (event .entry)) «post_header») ⌝ }
+{
+    let e = match read_event(event, post_header) {
+        EventRead::Read(e) => e,
+        EventRead::Refused(_) => return &event[0..0],
+    };
+    let part = e.optional;
+    part_of(event, part)
 }

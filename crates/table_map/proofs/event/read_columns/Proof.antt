@@ -9,6 +9,7 @@ use Rattle.table_map.proofs.event.read_columns.Statement.{statement}
 use Rattle.table_map.proofs.event.read_columns.Tie as tie
 use Rattle.table_map.proofs.event.read_columns.Reads as reads
 use Rattle.table_map.proofs.event.read_columns.Lts as lts
+use Rattle.table_map.proofs.event.bytes_for.Reads as bytes-for-reads
 use Rattle.table_map.proofs.event.long_part.Reads as long-part-reads
 use Rattle.table_map.proofs.event.read_length.Reads as read-length-reads
 use Rattle.table_map.proofs.event.within.Reads as within-reads
@@ -52,8 +53,8 @@ returns-3 : tie.Need-returns-3
 unfolding readColumns
 returns-3 c = rw (sym (c .before .before .before .before .before .before .before .before .before .before .before .read-length .ensures) ∙ ap announcedOf (c .before .before .before .before .before .before .before .before .before .part .given .1), sym (c .before .before .before .before .before .before .before .within .ensures) ∙ ap placeOf (c .before .before .before .before .before .next .given .1), sym (c .before .before .before .long-part .ensures) ∙ ap partRead (c .before .r3 .given .1))
 
-add-len : tie.Need-add-len
-add-len c = omega (arith, within-ok _ _ _ _ _ (sym (c .before .before .before .before .before .before .before .before .within .ensures) ∙ ap placeOf (c .before .before .before .before .before .before .next .given .1)))
+bytes-for-requires : tie.Need-bytes-for-requires
+bytes-for-requires c κs = omega (arith, within-ok _ _ _ _ _ (sym (c .before .before .before .before .before .before .before .within .ensures) ∙ ap placeOf (c .before .before .before .before .before .next .given .1)))
 
 within-requires-2 : tie.Need-within-requires-2
 within-requires-2 c κs = search needs
@@ -66,11 +67,11 @@ enum-known-r-4 c = search needs
 
 returns-4 : tie.Need-returns-4
 unfolding readColumns
-returns-4 c = rw (sym (c .before .before .before .before .before .before .before .before .before .before .before .before .before .before .before .before .read-length .ensures) ∙ ap announcedOf (c .before .before .before .before .before .before .before .before .before .before .before .before .before .before .part .given .1), sym (c .before .before .before .before .before .before .before .before .before .before .before .before .within .ensures) ∙ ap placeOf (c .before .before .before .before .before .before .before .before .before .before .next .given .1), sym (c .before .before .before .before .before .before .before .before .long-part .ensures) ∙ ap partRead (c .before .before .before .before .before .before .cut .given .1), sym (c .before .before .before .within2 .ensures) ∙ ap placeOf (c .before .r4 .given .1))
+returns-4 c = rw (sym (c .before .before .before .before .before .before .before .before .before .before .before .before .before .before .before .before .read-length .ensures) ∙ ap announcedOf (c .before .before .before .before .before .before .before .before .before .before .before .before .before .before .part .given .1), sym (c .before .before .before .before .before .before .before .before .before .before .before .before .within .ensures) ∙ ap placeOf (c .before .before .before .before .before .before .before .before .before .before .next .given .1), sym (c .before .before .before .before .before .before .before .before .long-part .ensures) ∙ ap partRead (c .before .before .before .before .before .before .cut .given .1), ← c .before .before .before .before .bytes-for .ensures, sym (c .before .before .before .within2 .ensures) ∙ ap placeOf (c .before .r4 .given .1))
 
 returns-5 : tie.Need-returns-5
 unfolding readColumns
-returns-5 c = rw (sym (c .before .before .before .before .before .before .before .before .before .before .before .before .before .before .before .before .before .read-length .ensures) ∙ ap announcedOf (c .before .before .before .before .before .before .before .before .before .before .before .before .before .before .before .part .given .1), sym (c .before .before .before .before .before .before .before .before .before .before .before .before .before .within .ensures) ∙ ap placeOf (c .before .before .before .before .before .before .before .before .before .before .before .next .given .1), sym (c .before .before .before .before .before .before .before .before .before .long-part .ensures) ∙ ap partRead (c .before .before .before .before .before .before .before .cut .given .1), sym (c .before .before .before .before .within2 .ensures) ∙ ap placeOf (c .before .before .next2 .given .1))
+returns-5 c = rw (sym (c .before .before .before .before .before .before .before .before .before .before .before .before .before .before .before .before .before .read-length .ensures) ∙ ap announcedOf (c .before .before .before .before .before .before .before .before .before .before .before .before .before .before .before .part .given .1), sym (c .before .before .before .before .before .before .before .before .before .before .before .before .before .within .ensures) ∙ ap placeOf (c .before .before .before .before .before .before .before .before .before .before .before .next .given .1), sym (c .before .before .before .before .before .before .before .before .before .long-part .ensures) ∙ ap partRead (c .before .before .before .before .before .before .before .cut .given .1), ← c .before .before .before .before .before .bytes-for .ensures, sym (c .before .before .before .before .within2 .ensures) ∙ ap placeOf (c .before .before .next2 .given .1))
 
 pub read-columns-spec : {M : Type 1} → statement M
 read-columns-spec =
@@ -88,7 +89,7 @@ read-columns-spec =
     enum-known-cut
     enum-known-r-3
     returns-3
-    add-len
+    bytes-for-requires
     within-requires-2
     enum-known-next-2
     enum-known-r-4

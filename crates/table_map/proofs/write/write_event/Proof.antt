@@ -1,0 +1,77 @@
+-- `table_map::write::write_event` meets its contract. Assumes nothing.
+use native.Mathlib.Omega.{arith}
+use mathlib.Core.Path.{refl, sym, ap, _∙_}
+use Rattle.value.specs.Storing.{sizeSaid}
+use Rattle.table_map.specs.Writes.{parts}
+use Rattle.table_map.proofs.Puts.{taken, sized, not-sized, no-room-for, event-put, event-length, column-length, head-length, after-put, then}
+use borrow.Author.Needs.{needs}
+use Rattle.table_map.proofs.write.write_event.Statement.{statement}
+use Rattle.table_map.proofs.write.write_event.Tie as tie
+use Rattle.table_map.proofs.write.write_event.Reads as reads
+use Rattle.table_map.proofs.write.write_event.Lts as lts
+use Rattle.table_map.proofs.write.event_size.Reads as event-size-reads
+use Rattle.table_map.proofs.write.put_columns.Reads as put-columns-reads
+use Rattle.table_map.proofs.write.put_head.Reads as put-head-reads
+use Rattle.wire.proofs.refuse.Reads as refuse-reads
+
+event-size-requires : tie.Need-event-size-requires
+event-size-requires c κs = search needs
+
+enum-known-n : tie.Need-enum-known-n
+enum-known-n c = search needs
+
+enum-known-r : tie.Need-enum-known-r
+enum-known-r c = search needs
+
+returns : tie.Need-returns
+returns c = let a = c .before .before .before .before .before .before .before .before .before .before .before .args in
+    let p = parts (a .id) (a .flags) (a .database .now) (a .table .now) (a .types .now) (a .metadata .now) (a .bits .now) (a .optional .now) in
+    rw (not-sized p (a .buf .now) _ (omega arith) (sym (c .before .before .before .event-size .ensures) ∙ ap sizeSaid (c .before .r .given .1))) (refl, refl)
+
+refuse-requires : tie.Need-refuse-requires
+refuse-requires c κs = search needs
+
+returns-2 : tie.Need-returns-2
+returns-2 c = let a = c .before .before .before .before .before .before .before .before .before .before .before .before .before .args in
+    let p = parts (a .id) (a .flags) (a .database .now) (a .table .now) (a .types .now) (a .metadata .now) (a .bits .now) (a .optional .now) in
+    let e = sym (c .before .before .before .before .before .event-size .ensures) ∙ ap sizeSaid (c .before .before .before .n .given .1) in
+    rw (no-room-for p (a .buf .now) (c .before .before .before .n .given .0 .0) (omega arith) e, c .refuse .ensures) (refl, refl)
+
+put-head-requires : tie.Need-put-head-requires
+put-head-requires c κs = let a = c .before .before .before .before .before .before .before .before .before .before .before .before .before .args in
+    let p = parts (a .id) (a .flags) (a .database .now) (a .table .now) (a .types .now) (a .metadata .now) (a .bits .now) (a .optional .now) in
+    let e = sym (c .before .before .before .before .before .event-size .ensures) ∙ ap sizeSaid (c .before .before .before .n .given .1) in
+    let z = sized p (c .before .before .before .n .given .0 .0) e in
+    let k = taken p (z .0) in
+    (k .database, k .table, omega (arith, z .1, event-length p))
+
+put-columns-requires : tie.Need-put-columns-requires
+put-columns-requires c κs = let a = c .before .before .before .before .before .before .before .before .before .before .before .before .before .before .before .before .before .args in
+    let p = parts (a .id) (a .flags) (a .database .now) (a .table .now) (a .types .now) (a .metadata .now) (a .bits .now) (a .optional .now) in
+    let e = sym (c .before .before .before .before .before .before .before .before .before .event-size .ensures) ∙ ap sizeSaid (c .before .before .before .before .before .before .before .n .given .1) in
+    let z = sized p (c .before .before .before .before .before .before .before .n .given .0 .0) e in
+    omega (arith, z .1, event-length p, column-length (a .types .now) (a .metadata .now) (a .bits .now) (a .optional .now), head-length (a .id) (a .flags) (a .database .now) (a .table .now), after-put (c .before .before .before .put-head .ensures))
+
+same-length : tie.Need-same-length
+same-length c = search needs
+
+returns-3 : tie.Need-returns-3
+returns-3 c = let a = c .before .before .before .before .before .before .before .before .before .before .before .before .before .before .before .before .before .before .before .before .args in
+    let p = parts (a .id) (a .flags) (a .database .now) (a .table .now) (a .types .now) (a .metadata .now) (a .bits .now) (a .optional .now) in
+    let e = sym (c .before .before .before .before .before .before .before .before .before .before .before .before .event-size .ensures) ∙ ap sizeSaid (c .before .before .before .before .before .before .before .before .before .before .n .given .1) in
+    rw (event-put p (a .buf .now) _ (c .before .before .before .before .before .before .before .before .before .before .n .given .0 .0) _ e (then (c .before .before .before .before .before .before .put-head .ensures) (c .before .before .put-columns .ensures))) (refl, refl)
+
+pub write-event-spec : {M : Type 1} → statement M
+write-event-spec =
+    tie.close
+    (tie.spec
+    event-size-requires
+    enum-known-n
+    enum-known-r
+    returns
+    refuse-requires
+    returns-2
+    put-head-requires
+    put-columns-requires
+    same-length
+    returns-3)

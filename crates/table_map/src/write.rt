@@ -1,0 +1,161 @@
+// The event written, all or nothing, and its size (table_map_event.rs: MySerialize and BinlogStruct for TableMapEvent).
+use crate::event::bytes_for;
+use value::Size;
+use wire::Written;
+use wire::refusal::NO_ROOM;
+use wire::refusal::NOT_TAKEN;
+ghost use mathlib.Core.Path.{_≡_};
+ghost use mathlib.Core.List.{[]};
+ghost use Prim.Native.Nat.{_+_, _≤_};
+ghost use lib.ListN.{length};
+ghost use Rattle.wire.specs.Number.{leBytes};
+ghost use Rattle.wire.specs.Packed.{packedBytes};
+ghost use Rattle.wire.specs.Stored.{answerOf, leftOf, writtenOf};
+ghost use Rattle.value.specs.Storing.{sizeSaid};
+ghost use Rattle.table_map.specs.Writes.{parts, nameBytes, headBytes, columnBytes, isEvent, writeEvent, eventSize, Put};
+
+// Ids are below this.
+const ID_END: u64 = 281474976710656;
+
+// The most bytes a name has.
+const NAME_MOST: usize = 255;
+
+// The greatest size that a machine number holds.
+const SIZE_MOST: usize = 18446744073709551615;
+
+// Whether the writer takes these parts.
+fn is_event(id: u64, database: &[u8], table: &[u8], types: &[u8], bits: &[u8]) -> bool
+    ensures { λ r. ⌜ r ≡ isEvent (parts id 0 (now (database .entry)) (now (table .entry)) (now (types .entry)) [] (now (bits .entry)) []) ⌝ }
+{
+    if ID_END <= id {
+        return false;
+    }
+    if NAME_MOST < database.len() {
+        return false;
+    }
+    if NAME_MOST < table.len() {
+        return false;
+    }
+    bits.len() == bytes_for(types.len())
+}
+
+// How many bytes the event takes, or why it is not written.
+pub fn event_size(
+    id: u64,
+    flags: u16,
+    database: &[u8],
+    table: &[u8],
+    types: &[u8],
+    metadata: &[u8],
+    bits: &[u8],
+    optional: &[u8],
+) -> Size
+    ensures { λ r. ⌜ sizeSaid r ≡ eventSize (parts id flags (now (database .entry)) (now (table .entry)) (now (types .entry)) (now (metadata .entry)) (now (bits .entry)) (now (optional .entry))) ⌝ }
+{
+    if !is_event(id, database, table, types, bits) {
+        return Size::Refused(wire::refuse(NOT_TAKEN, 0));
+    }
+    let lengths = wire::packed_size(types.len() as u64) + wire::packed_size(metadata.len() as u64);
+    let head = 12 + database.len() + table.len() + lengths;
+    let most = head + types.len() + bits.len();
+    if !wire::has_room(SIZE_MOST, most, metadata.len()) {
+        return Size::Refused(wire::refuse(NO_ROOM, 0));
+    }
+    let body = most + metadata.len();
+    if !wire::has_room(SIZE_MOST, body, optional.len()) {
+        return Size::Refused(wire::refuse(NO_ROOM, 0));
+    }
+    Size::Takes(body + optional.len())
+}
+
+// Writes the event from the buffer's first byte on, with an id of 6 bytes.
+pub fn write_event(
+    id: u64,
+    flags: u16,
+    database: &[u8],
+    table: &[u8],
+    types: &[u8],
+    metadata: &[u8],
+    bits: &[u8],
+    optional: &[u8],
+    buf: &mut [u8],
+) -> Written
+    ensures { λ r. ⌜ writtenOf r ≡ answerOf (writeEvent (parts id flags (now (database .entry)) (now (table .entry)) (now (types .entry)) (now (metadata .entry)) (now (bits .entry)) (now (optional .entry))) (now (buf .entry))) ⌝ }
+    ensures { λ _. ⌜ now (buf .exit) ≡ leftOf (now (buf .entry)) (writeEvent (parts id flags (now (database .entry)) (now (table .entry)) (now (types .entry)) (now (metadata .entry)) (now (bits .entry)) (now (optional .entry))) (now (buf .entry))) ⌝ }
+{
+    let size = match event_size(id, flags, database, table, types, metadata, bits, optional) {
+        Size::Takes(n) => n,
+        Size::Refused(r) => return Written::Refused(r),
+    };
+    if buf.len() < size {
+        return Written::Refused(wire::refuse(NO_ROOM, 0));
+    }
+    let behind = put_head(buf, id, flags, database, table);
+    let next = put_columns(buf, behind, types, metadata, bits, optional);
+    Written::Done { next }
+}
+
+// ---- each writes from at on, where there is room, and hands back the place after what it wrote
+
+fn put_le(buf: &mut [u8], at: usize, k: usize, v: u64) -> usize
+    requires { ⌜ (k ≤ 8) × (at + k ≤ length (now buf)) ⌝ }
+    ensures { λ r. ⌜ Put (now (buf .entry)) at (leBytes k v) (now (buf .exit)) r ⌝ }
+{
+    wire::write_le(buf, at, k, v);
+    at + k
+}
+
+fn put_packed(buf: &mut [u8], at: usize, v: u64) -> usize
+    requires { ⌜ at + length (packedBytes v) ≤ length (now buf) ⌝ }
+    ensures { λ r. ⌜ Put (now (buf .entry)) at (packedBytes v) (now (buf .exit)) r ⌝ }
+{
+    wire::write_packed(buf, at, v);
+    at + wire::packed_size(v)
+}
+
+fn put_bytes(buf: &mut [u8], at: usize, bytes: &[u8]) -> usize
+    requires { ⌜ at + length (now bytes) ≤ length (now buf) ⌝ }
+    ensures { λ r. ⌜ Put (now (buf .entry)) at (now (bytes .entry)) (now (buf .exit)) r ⌝ }
+{
+    wire::write_bytes(buf, at, bytes);
+    at + bytes.len()
+}
+
+// A name behind its length, and a zero byte.
+fn put_name(buf: &mut [u8], at: usize, name: &[u8]) -> usize
+    requires { ⌜ (length (now name) ≤ 255) × (at + (length (now name) + 2) ≤ length (now buf)) ⌝ }
+    ensures { λ r. ⌜ Put (now (buf .entry)) at (nameBytes (now (name .entry))) (now (buf .exit)) r ⌝ }
+{
+    let start = put_le(buf, at, 1, name.len() as u64);
+    let end = put_bytes(buf, start, name);
+    put_le(buf, end, 1, 0)
+}
+
+fn put_head(buf: &mut [u8], id: u64, flags: u16, database: &[u8], table: &[u8]) -> usize
+    requires { ⌜ (length (now database) ≤ 255) × (length (now table) ≤ 255) × (12 + length (now database) + length (now table) ≤ length (now buf)) ⌝ }
+    ensures { λ r. ⌜ Put (now (buf .entry)) 0 (headBytes id flags (now (database .entry)) (now (table .entry))) (now (buf .exit)) r ⌝ }
+{
+    let a = put_le(buf, 0, 6, id);
+    let b = put_le(buf, a, 2, flags as u64);
+    let c = put_name(buf, b, database);
+    put_name(buf, c, table)
+}
+
+fn put_columns(
+    buf: &mut [u8],
+    at: usize,
+    types: &[u8],
+    metadata: &[u8],
+    bits: &[u8],
+    optional: &[u8],
+) -> usize
+    requires { ⌜ at + length (columnBytes (now types) (now metadata) (now bits) (now optional)) ≤ length (now buf) ⌝ }
+    ensures { λ r. ⌜ Put (now (buf .entry)) at (columnBytes (now (types .entry)) (now (metadata .entry)) (now (bits .entry)) (now (optional .entry))) (now (buf .exit)) r ⌝ }
+{
+    let a = put_packed(buf, at, types.len() as u64);
+    let b = put_bytes(buf, a, types);
+    let c = put_packed(buf, b, metadata.len() as u64);
+    let d = put_bytes(buf, c, metadata);
+    let e = put_bytes(buf, d, bits);
+    put_bytes(buf, e, optional)
+}
