@@ -1,13 +1,18 @@
 // Reads cases from standard input, a line each, and prints an answer line for each.
 mod input;
+mod lone;
 mod output;
+mod printing;
 mod room;
 mod slices;
+mod values;
 mod words;
 
 use input::Next;
 use input::Source;
 use input::next_line;
+use lone::store_case;
+use lone::value_case;
 use output::flush;
 use output::put_bad;
 use output::put_byte;
@@ -102,6 +107,12 @@ fn answer(line: &[u8], arena: &mut [u8], room: &mut [u8], out: &mut [u8], used: 
     }
     if same(word, b"pack") {
         return pack(line, next, room, out, used);
+    }
+    if same(word, b"value") {
+        return value_case(line, next, arena, out, used);
+    }
+    if same(word, b"store") {
+        return store_case(line, next, arena, room, out, used);
     }
     put_bad(out, used)
 }

@@ -23,6 +23,12 @@ pub(crate) enum Number {
     Bad,
 }
 
+// The same for a number of 8 bits.
+pub(crate) enum Number8 {
+    Found(u8, usize),
+    Bad,
+}
+
 // The place in the arena after the bytes, and that of the next word.
 pub(crate) enum Bytes {
     Found(usize, usize),
@@ -108,6 +114,17 @@ pub(crate) fn read_number(line: &[u8], at: usize) -> Number {
         return Number::Bad;
     };
     Number::Found(value, next)
+}
+
+// A number of 8 bits.
+pub(crate) fn read_number8(line: &[u8], at: usize) -> Number8 {
+    let Number::Found(value, next) = read_number(line, at) else {
+        return Number8::Bad;
+    };
+    if value > 255 {
+        return Number8::Bad;
+    }
+    Number8::Found(value as u8, next)
 }
 
 // The value of a lower-case hex digit.
