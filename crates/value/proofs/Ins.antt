@@ -22,7 +22,7 @@ use Rattle.value.specs.declared.shape.Shape.{Shape}
 use Rattle.value.specs.declared.shape.Shape.the-variants.{Unsigned, Signed, FloatBits, DoubleBits, YearByte, Timed, Fixed, Counted, NotTaken}
 use Rattle.value.specs.declared.datum.Value.{Value}
 use Rattle.value.specs.declared.datum.Value.the-variants.{Null, Int, Uint, Float, Double, Year, When, Bytes}
-use Rattle.value.specs.Data.{Datum, tag, intIn, numberIn, whenIn, bytesIn, magnitudeOf}
+use Rattle.value.specs.Data.{Datum, bytes, tag, intIn, numberIn, whenIn, bytesIn, magnitudeOf}
 use Rattle.value.specs.Domains.{domain}
 use Rattle.value.specs.Shapes.{bytesOf, need}
 use Rattle.value.specs.Columns.{isTaken, refusalOf}
@@ -33,49 +33,32 @@ use Rattle.value.proofs.Laws.{taken-at}
 use Rattle.value.proofs.Signs.{halves-is}
 
 -- ---- all but its bytes a value says whatever is lent
+any : {B : Type 0} (f : Datum → B) → ((b c : List ℕ) → f (bytes b) ≡ f (bytes c)) → (s : List ℕ) (v : Value) → f (datumOf s v) ≡ f (datumOf [] v)
+unfolding datumOf
+any f e s Null = refl
+any f e s (Int z) = refl
+any f e s (Uint n) = refl
+any f e s (Float n) = refl
+any f e s (Double n) = refl
+any f e s (Year n) = refl
+any f e s (When t) = refl
+any f e s (Bytes start len) = e _ _
+
 pub tag-any : (s : List ℕ) (v : Value) → tag (datumOf s v) ≡ tag (datumOf [] v)
-unfolding tag datumOf
-tag-any s Null = refl
-tag-any s (Int z) = refl
-tag-any s (Uint n) = refl
-tag-any s (Float n) = refl
-tag-any s (Double n) = refl
-tag-any s (Year n) = refl
-tag-any s (When t) = refl
-tag-any s (Bytes start len) = refl
+unfolding tag
+tag-any = any tag (λ b c. refl)
 
 pub number-any : (s : List ℕ) (v : Value) → numberIn (datumOf s v) ≡ numberIn (datumOf [] v)
-unfolding numberIn datumOf
-number-any s Null = refl
-number-any s (Int z) = refl
-number-any s (Uint n) = refl
-number-any s (Float n) = refl
-number-any s (Double n) = refl
-number-any s (Year n) = refl
-number-any s (When t) = refl
-number-any s (Bytes start len) = refl
+unfolding numberIn
+number-any = any numberIn (λ b c. refl)
 
 pub int-any : (s : List ℕ) (v : Value) → intIn (datumOf s v) ≡ intIn (datumOf [] v)
-unfolding intIn datumOf
-int-any s Null = refl
-int-any s (Int z) = refl
-int-any s (Uint n) = refl
-int-any s (Float n) = refl
-int-any s (Double n) = refl
-int-any s (Year n) = refl
-int-any s (When t) = refl
-int-any s (Bytes start len) = refl
+unfolding intIn
+int-any = any intIn (λ b c. refl)
 
 pub when-any : (s : List ℕ) (v : Value) → whenIn (datumOf s v) ≡ whenIn (datumOf [] v)
-unfolding whenIn datumOf
-when-any s Null = refl
-when-any s (Int z) = refl
-when-any s (Uint n) = refl
-when-any s (Float n) = refl
-when-any s (Double n) = refl
-when-any s (Year n) = refl
-when-any s (When t) = refl
-when-any s (Bytes start len) = refl
+unfolding whenIn
+when-any = any whenIn (λ b c. refl)
 
 -- its bytes are a part of what is lent
 pub bytes-part : (s : List ℕ) (v : Value) → bytesIn (datumOf s v) ≡ take (lenOf v) (drop (startOf v) s)
