@@ -5,11 +5,11 @@ use mathlib.Core.Path.{_≡_, ap, subst}
 use mathlib.Core.Logic.{⊎-elim}
 use mathlib.Core.List.{List}
 use native.Mathlib.Omega.{arith}
-use borrow.Author.Tests.{leb-true}
+use borrow.Author.Tests.{le-leb, leb-true}
 use lib.ListN.{length}
 use lib.Dec.{leb}
 use Rattle.wire.specs.declared.refusal.Refusal.{Refusal}
-use Rattle.wire.specs.Outcome.{ok, refused, why, after}
+use Rattle.wire.specs.Outcome.{ok, refused, refuse, why, after}
 use Rattle.wire.specs.Number.{Bytes}
 use Rattle.wire.specs.Packed.{readPacked}
 use Rattle.wire.proofs.Outcomes.{after-is-ok, after-refuses, test-is-ok, test-refuses, ok-not-refused, same-ok}
@@ -17,6 +17,7 @@ use Rattle.wire.proofs.Forms.{Refuses, short, cut, none, read-moves, read-refus
 use Rattle.table_map.specs.declared.event.Part.{Part}
 use Rattle.table_map.specs.Parts.{part, within, longPart}
 use Rattle.table_map.specs.Lists.{Rule, integerItem, pairItem, stringItem, strings, groupItem}
+use Rattle.table_map.proofs.Steps.{Early}
 
 -- ---- the loop over the strings of a group, i of n read
 pub strings-none : (s : List ℕ) (n i at : ℕ) → n ≤ i → strings (n - i) s at ≡ ok at
@@ -30,6 +31,23 @@ unfolding strings
 strings-turn s n i at h =
     let k : n - i ≡ suc (n - (i + 1)) = omega arith in
     ap (λ (j : ℕ). strings j s at) k
+
+-- ---- past the bytes nothing is read
+pub integer-early : Early integerItem
+unfolding readPacked
+integer-early = record { early = λ s at h. rw (le-leb (length s) at h) }
+
+pub pair-early : Early pairItem
+unfolding pairItem
+pair-early = record { early = λ s at h. rw (integer-early .early s at h) }
+
+pub string-early : Early stringItem
+unfolding longPart
+string-early = record { early = λ s at h. rw (integer-early .early s at h) }
+
+pub group-early : Early groupItem
+unfolding groupItem
+group-early = record { early = λ s at h. rw (integer-early .early s at h) }
 
 -- ---- items move
 -- every item that the rule reads takes a byte at least, and ends within the bytes
@@ -86,6 +104,28 @@ strings-move (suc n) s at next h e =
     let r = strings-move n s (x .0 .1) next (m .2) (x .2) in
     (omega (arith, m .0, m .1, r .0), r .1)
 
+-- a count is believed only as far as the bytes go: n strings take n bytes at least
+strings-take : (n : ℕ) (s : List ℕ) (at next : ℕ) → strings n s at ≡ ok next → at + n ≤ next
+unfolding strings
+strings-take zero s at next e =
+    let x : at ≡ next = same-ok e in
+    omega arith
+strings-take (suc n) s at next e =
+    let x = after-is-ok (longPart s at) (λ x. strings n s (x .1)) next e in
+    let m = long-moves s at (x .0 .0) (x .0 .1) (x .1) in
+    omega (arith, m .0, m .1, strings-take n s (x .0 .1) next (x .2))
+
+-- and where the bytes end before the count, it is refused at their end
+pub strings-missing : (m n : ℕ) (s : List ℕ) (at : ℕ) → m < n → strings m s at ≡ ok (length s) → strings n s at ≡ refuse 1 (length s)
+unfolding strings
+strings-missing m zero s at h e = absurd (omega arith)
+strings-missing zero (suc n) s at h e =
+    let x : at ≡ length s = same-ok e in
+    rw (x, string-early .early s (length s) (omega arith))
+strings-missing (suc m) (suc n) s at h e =
+    let x = after-is-ok (longPart s at) (λ x. strings m s (x .1)) (length s) e in
+    rw (x .1) (strings-missing m n s (x .0 .1) (omega arith) (x .2))
+
 pub group-moves : Moves groupItem
 unfolding groupItem
 group-moves = record {
@@ -97,6 +137,19 @@ group-moves = record {
       let z : y .0 ≡ next = ap (λ (w : (ℕ × ℕ) × ℕ). w .1) (same-ok (y .2)) in
       (omega (arith, m .0, n .0), omega (arith, n .1));
 }
+
+-- how many strings a group has at most
+pub group-count : (s : List ℕ) (at count first next : ℕ) → groupItem s at ≡ ok ((count, first), next) → (at < first) × (first + count ≤ next)
+unfolding groupItem
+group-count s at count first next e =
+    let x = after-is-ok (readPacked s at) (λ n. after (strings (n .0) s (n .1)) (λ b. ok ((n .0, n .1), b))) ((count, first), next) e in
+    let y = after-is-ok (strings (x .0 .0) s (x .0 .1)) (λ b. ok ((x .0 .0, x .0 .1), b)) ((count, first), next) (x .2) in
+    let m = read-moves s at (x .0 .0) (x .0 .1) (x .1) in
+    let z = same-ok (y .2) in
+    let c : x .0 .0 ≡ count = ap (λ (w : (ℕ × ℕ) × ℕ). w .0 .0) z in
+    let f : x .0 .1 ≡ first = ap (λ (w : (ℕ × ℕ) × ℕ). w .0 .1) z in
+    let n : y .0 ≡ next = ap (λ (w : (ℕ × ℕ) × ℕ). w .1) z in
+    (omega (arith, m .0), omega (arith, strings-take (x .0 .0) s (x .0 .1) (y .0) (y .1)))
 
 -- ---- items are refused
 -- with a number of these, at a place within the bytes
