@@ -1,6 +1,7 @@
--- Optional fields: what a step answers, by what it met; that fields move, and which refusals they give; how many columns have a signedness bit. Assumes nothing.
+-- Optional fields: what a step answers, by what it met; what a field that was read is; that fields move, and which refusals they give; how many columns have a
+-- signedness bit. Assumes nothing.
 use Prim.Native.Nat.{ℕ, suc, _+_, _≤_, _<_}
-use mathlib.Core.Path.{_≡_, refl, sym, ap, subst}
+use mathlib.Core.Path.{_≡_, refl, sym, subst}
 use mathlib.Core.Logic.{⊎-elim}
 use mathlib.Core.Bool.{Bool, true, false, cond}
 use mathlib.Core.List.{List, [], _∷_}
@@ -36,7 +37,8 @@ signed-within d [] = omega arith
 signed-within d (t ∷ types) = omega (arith, sign-bits-most d t, signed-within d types)
 
 -- a turn of the loop, and its end
-pub signed-turn : (d : Dialect) (types : List ℕ) (i : ℕ) → i < length types → countSigned d (drop i types) ≡ signBits d (getD types i 0) + countSigned d (drop (i + 1) types)
+pub signed-turn : (d : Dialect) (types : List ℕ) (i : ℕ) → i < length types
+    → countSigned d (drop i types) ≡ signBits d (getD types i 0) + countSigned d (drop (i + 1) types)
 unfolding countSigned
 signed-turn d types i h =
     let e : i + 1 ≡ suc i = omega arith in
@@ -52,7 +54,8 @@ step-by-item : (c : Fields) (s : List ℕ) → c .at < length s
 unfolding fieldStep
 step-by-item c s h = rw (step-before (fieldItem (c .numeric) (c .columns)) s (c .at) h) (regrouped (fieldItem (c .numeric) (c .columns) s (c .at)))
   where
-    regrouped : (o : Outcome ((ℕ × Part) × ℕ)) → after (after o (λ x. ok (item (x .0) (x .1)))) (λ x. ok (withCursor c x)) ≡ after o (λ x. ok (withCursor c (item (x .0) (x .1))))
+    regrouped : (o : Outcome ((ℕ × Part) × ℕ))
+        → after (after o (λ x. ok (item (x .0) (x .1)))) (λ x. ok (withCursor c x)) ≡ after o (λ x. ok (withCursor c (item (x .0) (x .1))))
     regrouped (ok x) = refl
     regrouped (refused w) = refl
 
@@ -127,9 +130,9 @@ unfolding fieldItem
 field-read numeric columns s at a next e =
     let kind = getD s at 0 in
     let x =
-        after-is-ok (longPart s (at + 1))
-        (λ v. cond (isField kind) (cond (contentsHold numeric columns kind (partOf s (v .0))) (ok ((kind, v .0), v .1)) (refuse 7 at)) (refuse 6 at))
-        (a, next) e in
+    after-is-ok (longPart s (at + 1))
+    (λ v. cond (isField kind) (cond (contentsHold numeric columns kind (partOf s (v .0))) (ok ((kind, v .0), v .1)) (refuse 7 at)) (refuse 6 at))
+    (a, next) e in
     by-test (isField kind) _ _ _ (x .2)
     (λ t f. by-test (contentsHold numeric columns kind (partOf s (x .0 .0))) _ _ _ f
     (λ u g.
@@ -143,7 +146,7 @@ pub field-moves : (numeric columns : ℕ) → Moves (fieldItem numeric columns)
 field-moves numeric columns = record {
   moves = λ s at a next e.
       let m = long-moves s (at + 1) (a .1) next (field-read numeric columns s at a next e .value) in
-      (omega (arith, m .0, m .1), m .2)
+      (omega (arith, m .0, m .1), m .2);
 }
 
 -- ---- fields are refused with these

@@ -1,5 +1,4 @@
 -- `table_map::field::is_field` meets its contract. Assumes nothing.
-use mathlib.Core.Path.{_≡_, sym, ap, _∙_}
 use Rattle.wire.proofs.Rules.{tests}
 use Rattle.table_map.proofs.field.is_field.Statement.{statement}
 use Rattle.table_map.proofs.field.is_field.Tie as tie

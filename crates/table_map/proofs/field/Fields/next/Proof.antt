@@ -22,7 +22,8 @@ use Rattle.wire.proofs.refuse.Reads as refuse-reads
 -- where the value is known: the place is before the end, and the value stands behind the type byte
 met : (c : tie.After-part)
     → (c .before .before .before .before .before .before .args .self .at < length (c .before .before .before .before .before .before .args .optional .now))
-    × (longPart (c .before .before .before .before .before .before .args .optional .now) (c .before .before .before .before .before .before .args .self .at + 1) ≡ ok (c .part .given .0 .0, c .part .given .0 .1 .0))
+    × (longPart (c .before .before .before .before .before .before .args .optional .now) (c .before .before .before .before .before .before .args .self .at + 1)
+    ≡ ok (c .part .given .0 .0, c .part .given .0 .1 .0))
 met c = (omega arith, sym (c .before .before .long-part .ensures) ∙ ap longPartOf (c .part .given .1))
 
 returns : tie.Need-returns
@@ -76,20 +77,26 @@ contents-hold-requires c κs = search needs
 
 returns-3 : tie.Need-returns-3
 returns-3 c =
-    let m = met (c .before .before .before .before .before .before .before .before) in
-    let g = c .before .before .before .before .before .before .before .before .part .given in
-    let d : g .0 .0 .start + g .0 .0 .len - g .0 .0 .start ≡ g .0 .0 .len = omega arith in
-    sym (a-field (c .before .before .before .before .before .before .before .before .before .before .before .before .before .before .args .self) _ _ _ (m .0) (m .1) (sym (c .before .before .before .before .before .is-field .ensures) ∙ c .before .before .before .before .if3 .taken) (rw d at (sym (c .before .contents-hold .ensures) ∙ c .if4 .taken)))
+    let p = c .before .before .before .before .before .before .before .before in
+    let m = met p in
+    let t = sym (c .before .before .before .before .before .is-field .ensures) ∙ c .before .before .before .before .if3 .taken in
+    let g = p .part .given .0 .0 in
+    let d : g .start + g .len - g .start ≡ g .len = omega arith in
+    let u = rw d at (sym (c .before .contents-hold .ensures) ∙ c .if4 .taken) in
+    sym (a-field (p .before .before .before .before .before .before .args .self) _ _ _ (m .0) (m .1) t u)
 
 refuse-requires-2 : tie.Need-refuse-requires-2
 refuse-requires-2 c κs = search needs
 
 returns-4 : tie.Need-returns-4
 returns-4 c =
-    let m = met (c .before .before .before .before .before .before .before .before .before) in
-    let g = c .before .before .before .before .before .before .before .before .before .part .given in
-    let d : g .0 .0 .start + g .0 .0 .len - g .0 .0 .start ≡ g .0 .0 .len = omega arith in
-    rw (c .refuse2 .ensures) (sym (no-contents (c .before .before .before .before .before .before .before .before .before .before .before .before .before .before .before .args .self) _ _ _ (m .0) (m .1) (sym (c .before .before .before .before .before .before .is-field .ensures) ∙ c .before .before .before .before .before .if3 .taken) (rw d at (sym (c .before .before .contents-hold .ensures) ∙ c .before .if4 .left))))
+    let p = c .before .before .before .before .before .before .before .before .before in
+    let m = met p in
+    let t = sym (c .before .before .before .before .before .before .is-field .ensures) ∙ c .before .before .before .before .before .if3 .taken in
+    let g = p .part .given .0 .0 in
+    let d : g .start + g .len - g .start ≡ g .len = omega arith in
+    let u = rw d at (sym (c .before .before .contents-hold .ensures) ∙ c .before .if4 .left) in
+    rw (c .refuse2 .ensures) (sym (no-contents (p .before .before .before .before .before .before .args .self) _ _ _ (m .0) (m .1) t u))
 
 refuse-requires-3 : tie.Need-refuse-requires-3
 refuse-requires-3 c κs = search needs
@@ -99,8 +106,10 @@ enum-known-r c = search needs
 
 returns-5 : tie.Need-returns-5
 returns-5 c =
-    let m = met (c .before .before .before .before .before) in
-    rw (c .refuse3 .ensures) (sym (no-type (c .before .before .before .before .before .before .before .before .before .before .before .args .self) _ _ _ (m .0) (m .1) (sym (c .before .before .is-field .ensures) ∙ c .before .if3 .left)))
+    let p = c .before .before .before .before .before in
+    let m = met p in
+    let t = sym (c .before .before .is-field .ensures) ∙ c .before .if3 .left in
+    rw (c .refuse3 .ensures) (sym (no-type (p .before .before .before .before .before .before .args .self) _ _ _ (m .0) (m .1) t))
 
 returns-6 : tie.Need-returns-6
 returns-6 c =

@@ -35,15 +35,26 @@ enum-known-r-2 c = search needs
 
 returns-2 : tie.Need-returns-2
 unfolding groupItem
-returns-2 c = rw (step-else groupItem group-early _ _ (c .before .before .before .before .before .before .before .before .if1 .left), sym (c .before .before .before .before .before .before .before .read-packed .ensures) ∙ ap packedOf (c .before .before .before .before .before .count .given .1), sym (c .before .before .before .skip-strings .ensures) ∙ ap reachedOf (c .before .next .given .1))
+returns-2 c = rw (
+  step-else groupItem group-early _ _ (c .before .before .before .before .before .before .before .before .if1 .left),
+  sym (c .before .before .before .before .before .before .before .read-packed .ensures) ∙ ap packedOf (c .before .before .before .before .before .count .given .1),
+  sym (c .before .before .before .skip-strings .ensures) ∙ ap reachedOf (c .before .next .given .1),
+)
 
 returns-3 : tie.Need-returns-3
 unfolding groupItem
-returns-3 c = rw (step-else groupItem group-early _ _ (c .before .before .before .before .before .before .before .before .if1 .left), sym (c .before .before .before .before .before .before .before .read-packed .ensures) ∙ ap packedOf (c .before .before .before .before .before .count .given .1), sym (c .before .before .before .skip-strings .ensures) ∙ ap reachedOf (c .before .r .given .1))
+returns-3 c = rw (
+  step-else groupItem group-early _ _ (c .before .before .before .before .before .before .before .before .if1 .left),
+  sym (c .before .before .before .before .before .before .before .read-packed .ensures) ∙ ap packedOf (c .before .before .before .before .before .count .given .1),
+  sym (c .before .before .before .skip-strings .ensures) ∙ ap reachedOf (c .before .r .given .1),
+)
 
 returns-4 : tie.Need-returns-4
 unfolding groupItem
-returns-4 c = rw (step-else groupItem group-early _ _ (c .before .before .before .before .if1 .left), sym (c .before .before .before .read-packed .ensures) ∙ ap packedOf (c .before .r2 .given .1))
+returns-4 c = rw (
+  step-else groupItem group-early _ _ (c .before .before .before .before .if1 .left),
+  sym (c .before .before .before .read-packed .ensures) ∙ ap packedOf (c .before .r2 .given .1),
+)
 
 pub next-spec : {M : Type 1} → statement M
 next-spec =

@@ -24,10 +24,16 @@ enum-known-r : tie.Need-enum-known-r
 enum-known-r c = search needs
 
 returns-2 : tie.Need-returns-2
-returns-2 c = rw (step-else integerItem integer-early _ _ (c .before .before .before .before .if1 .left), sym (c .before .before .before .read-packed .ensures) ∙ ap packedOf (c .before .value .given .1))
+returns-2 c = rw (
+  step-else integerItem integer-early _ _ (c .before .before .before .before .if1 .left),
+  sym (c .before .before .before .read-packed .ensures) ∙ ap packedOf (c .before .value .given .1),
+)
 
 returns-3 : tie.Need-returns-3
-returns-3 c = rw (step-else integerItem integer-early _ _ (c .before .before .before .before .if1 .left), sym (c .before .before .before .read-packed .ensures) ∙ ap packedOf (c .before .r .given .1))
+returns-3 c = rw (
+  step-else integerItem integer-early _ _ (c .before .before .before .before .if1 .left),
+  sym (c .before .before .before .read-packed .ensures) ∙ ap packedOf (c .before .r .given .1),
+)
 
 pub next-spec : {M : Type 1} → statement M
 next-spec =
