@@ -1,7 +1,7 @@
 -- The items of lists: what the readers' loops turn on, and that every item takes bytes, ends within them, and is refused only with 1 or 2 at a place within
 -- them. Assumes nothing.
 use Prim.Native.Nat.{ℕ, zero, suc, _+_, _-_, _≤_, _<_}
-use mathlib.Core.Path.{_≡_, ap, subst}
+use mathlib.Core.Path.{_≡_, refl, ap, subst}
 use mathlib.Core.Logic.{⊎-elim}
 use mathlib.Core.List.{List}
 use native.Mathlib.Omega.{arith}
@@ -54,22 +54,25 @@ group-early = record { early = λ s at h. rw (integer-early .early s at h) }
 pub record Moves {A : Type 0} (rule : Rule A) : Type 0 where
   pub moves : (s : List ℕ) (at : ℕ) (a : A) (next : ℕ) → rule s at ≡ ok (a, next) → (at < next) × (next ≤ length s)
 
--- a part behind its length: it starts behind it, and what follows starts where it ends
+-- a part that is there ends where what follows starts, within the bytes
+part-ends : (s : List ℕ) (start len place : ℕ) (p : Part) (next : ℕ)
+    → after {B = Part × ℕ} (within s start len place) (λ b. ok (part start len, b)) ≡ ok (p, next)
+    → (start ≡ p .start) × (p .start + p .len ≡ next) × (next ≤ length s)
+unfolding within
+part-ends s start len place p next e =
+    let x = after-is-ok (within s start len place) (λ b. ok (part start len, b)) (p, next) e in
+    let t = test-is-ok (leb (start + len) (length s)) (start + len) (why 1 place) (x .0) (x .1) in
+    let l = leb-true (start + len) (length s) (t .0) in
+    subst (λ (w : Part × ℕ). (start ≡ w .0 .start) × (w .0 .start + w .0 .len ≡ w .1) × (w .1 ≤ length s)) (same-ok (x .2)) (refl, t .1, omega (arith, t .1, l))
+
+-- a part behind its length: it starts behind it
 pub long-moves : (s : List ℕ) (at : ℕ) (p : Part) (next : ℕ) → longPart s at ≡ ok (p, next) → (at < p .start) × (p .start + p .len ≡ next) × (next ≤ length s)
-unfolding longPart within
+unfolding longPart
 long-moves s at p next e =
     let x = after-is-ok (readPacked s at) (λ n. after (within s (n .1) (n .0) at) (λ b. ok (part (n .1) (n .0), b))) (p, next) e in
-    let n = x .0 in
-    let m = read-moves s at (n .0) (n .1) (x .1) in
-    let y = after-is-ok (within s (n .1) (n .0) at) (λ b. ok (part (n .1) (n .0), b)) (p, next) (x .2) in
-    let t = test-is-ok (leb (n .1 + n .0) (length s)) (n .1 + n .0) (why 1 at) (y .0) (y .1) in
-    let l = leb-true (n .1 + n .0) (length s) (t .0) in
-    let z : _≡_ {A = Part × ℕ} (part (n .1) (n .0), y .0) (p, next) = same-ok (y .2) in
-    let q : part (n .1) (n .0) ≡ p = ap (λ (w : Part × ℕ). w .0) z in
-    let r : y .0 ≡ next = ap (λ (w : Part × ℕ). w .1) z in
-    let a : n .1 ≡ p .start = ap (λ (w : Part). w .start) q in
-    let b : n .0 ≡ p .len = ap (λ (w : Part). w .len) q in
-    (omega (arith, m .0), omega (arith, t .1), omega (arith, t .1, l))
+    let m = read-moves s at (x .0 .0) (x .0 .1) (x .1) in
+    let y = part-ends s (x .0 .1) (x .0 .0) at p next (x .2) in
+    (omega (arith, m .0, y .0), y .1, y .2)
 
 pub integer-moves : Moves integerItem
 integer-moves = record { moves = read-moves }
@@ -126,30 +129,29 @@ strings-missing (suc m) (suc n) s at h e =
     let x = after-is-ok (longPart s at) (λ x. strings m s (x .1)) (length s) e in
     rw (x .1) (strings-missing m n s (x .0 .1) (omega arith) (x .2))
 
-pub group-moves : Moves groupItem
+-- the strings of a group lead from its first to what follows it
+pub group-strings : (s : List ℕ) (at count first next : ℕ) → groupItem s at ≡ ok ((count, first), next)
+    → (readPacked s at ≡ ok (count, first)) × (strings count s first ≡ ok next)
 unfolding groupItem
-group-moves = record {
-  moves = λ s at a next e.
-      let x = after-is-ok (readPacked s at) (λ n. after (strings (n .0) s (n .1)) (λ b. ok ((n .0, n .1), b))) (a, next) e in
-      let y = after-is-ok (strings (x .0 .0) s (x .0 .1)) (λ b. ok ((x .0 .0, x .0 .1), b)) (a, next) (x .2) in
-      let m = read-moves s at (x .0 .0) (x .0 .1) (x .1) in
-      let n = strings-move (x .0 .0) s (x .0 .1) (y .0) (m .1) (y .1) in
-      let z : y .0 ≡ next = ap (λ (w : (ℕ × ℕ) × ℕ). w .1) (same-ok (y .2)) in
-      (omega (arith, m .0, n .0), omega (arith, n .1));
-}
+group-strings s at count first next e =
+    let x = after-is-ok (readPacked s at) (λ n. after (strings (n .0) s (n .1)) (λ b. ok ((n .0, n .1), b))) ((count, first), next) e in
+    let y = after-is-ok (strings (x .0 .0) s (x .0 .1)) (λ b. ok ((x .0 .0, x .0 .1), b)) ((count, first), next) (x .2) in
+    subst (λ (w : (ℕ × ℕ) × ℕ). (readPacked s at ≡ ok (w .0)) × (strings (w .0 .0) s (w .0 .1) ≡ ok (w .1))) (same-ok (y .2)) (x .1, y .1)
 
 -- how many strings a group has at most
 pub group-count : (s : List ℕ) (at count first next : ℕ) → groupItem s at ≡ ok ((count, first), next) → (at < first) × (first + count ≤ next)
-unfolding groupItem
 group-count s at count first next e =
-    let x = after-is-ok (readPacked s at) (λ n. after (strings (n .0) s (n .1)) (λ b. ok ((n .0, n .1), b))) ((count, first), next) e in
-    let y = after-is-ok (strings (x .0 .0) s (x .0 .1)) (λ b. ok ((x .0 .0, x .0 .1), b)) ((count, first), next) (x .2) in
-    let m = read-moves s at (x .0 .0) (x .0 .1) (x .1) in
-    let z = same-ok (y .2) in
-    let c : x .0 .0 ≡ count = ap (λ (w : (ℕ × ℕ) × ℕ). w .0 .0) z in
-    let f : x .0 .1 ≡ first = ap (λ (w : (ℕ × ℕ) × ℕ). w .0 .1) z in
-    let n : y .0 ≡ next = ap (λ (w : (ℕ × ℕ) × ℕ). w .1) z in
-    (omega (arith, m .0), omega (arith, strings-take (x .0 .0) s (x .0 .1) (y .0) (y .1)))
+    let x = group-strings s at count first next e in
+    (read-moves s at count first (x .0) .0, strings-take count s first next (x .1))
+
+pub group-moves : Moves groupItem
+group-moves = record {
+  moves = λ s at a next e.
+      let x = group-strings s at (a .0) (a .1) next e in
+      let m = read-moves s at (a .0) (a .1) (x .0) in
+      let n = strings-move (a .0) s (a .1) next (m .1) (x .1) in
+      (omega (arith, m .0, n .0), n .1);
+}
 
 -- ---- items are refused
 -- with a number of these, at a place within the bytes
@@ -183,7 +185,9 @@ long-told s at w b h e =
     ⊎-elim (λ l. read-told s at w b h l)
     (λ r.
     ⊎-elim
-    (λ l. subst (Told OneOrTwo s) (test-refuses (leb (r .0 .1 + r .0 .0) (length s)) (r .0 .1 + r .0 .0) (why 1 at) w l .1) (record { number = one; place = h }))
+    (λ l.
+    let x = test-refuses (leb (r .0 .1 + r .0 .0) (length s)) (r .0 .1 + r .0 .0) (why 1 at) w l in
+    subst (Told OneOrTwo s) (x .1) (record { number = one; place = h }))
     (λ x. absurd (ok-not-refused (x .2)))
     (after-refuses (within s (r .0 .1) (r .0 .0) at) (λ b. ok (part (r .0 .1) (r .0 .0), b)) w (r .2)))
     (after-refuses (readPacked s at) (λ n. after (within s (n .1) (n .0) at) (λ b. ok (part (n .1) (n .0), b))) w e)

@@ -2,22 +2,24 @@
 -- signedness bit. Assumes nothing.
 use Prim.Native.Nat.{ℕ, suc, _+_, _≤_, _<_}
 use mathlib.Core.Path.{_≡_, refl, sym, subst}
-use mathlib.Core.Logic.{⊎-elim}
+use mathlib.Core.Logic.{_⊎_, ⊎-elim}
 use mathlib.Core.Bool.{Bool, true, false, cond}
 use mathlib.Core.List.{List, [], _∷_}
 use native.Mathlib.Omega.{arith}
+use borrow.Author.Tests.{eqb-true}
 use lib.ListN.{length, getD, drop}
 use lib.Seq.{drop-cons}
 use Rattle.wire.specs.declared.refusal.Refusal.{Refusal}
 use Rattle.wire.specs.Outcome.{Outcome, ok, refused, refuse, after}
+use Rattle.wire.specs.Packed.{readPacked}
 use Rattle.wire.proofs.Outcomes.{by-test, after-is-ok, after-refuses, ok-not-refused, same-ok, same-refused}
 use Rattle.value.specs.declared.column.Dialect.{Dialect}
 use Rattle.value.specs.Columns.{hasSignBit}
 use Rattle.table_map.specs.declared.event.Part.{Part}
 use Rattle.table_map.specs.declared.field.Fields.{Fields}
-use Rattle.table_map.specs.Parts.{partOf, longPart}
-use Rattle.table_map.specs.Lists.{Stepped, end, item, step}
-use Rattle.table_map.specs.Fields.{signBits, countSigned, isField, contentsHold, fieldItem, withCursor, fieldStep}
+use Rattle.table_map.specs.Parts.{partOf, bytesFor, longPart}
+use Rattle.table_map.specs.Lists.{Stepped, end, item, step, defaultCharset}
+use Rattle.table_map.specs.Fields.{signBits, countSigned, isField, isRead, contentsHold, fieldItem, withCursor, fieldStep}
 use Rattle.table_map.proofs.Steps.{step-before}
 use Rattle.table_map.proofs.Items.{Moves, Told, Tells, OneOrTwo, one, two, long-moves, long-told}
 
@@ -140,6 +142,25 @@ field-read numeric columns s at a next e =
     (record { kind = refl; known = t; value = x .1; holds = u }))
     (λ u g. absurd (ok-not-refused (sym g))))
     (λ t f. absurd (ok-not-refused (sym f)))
+
+-- what its contents are, where the walk judges them: bits for each column that has one, or a default charset
+pub signs-there : (numeric columns : ℕ) (value : List ℕ) → contentsHold numeric columns 1 value ≡ true → length value ≡ bytesFor numeric
+unfolding contentsHold
+signs-there numeric columns value h = eqb-true (length value) (bytesFor numeric) h
+
+pub visible-there : (numeric columns : ℕ) (value : List ℕ) → contentsHold numeric columns 12 value ≡ true → length value ≡ bytesFor columns
+unfolding contentsHold
+visible-there numeric columns value h = eqb-true (length value) (bytesFor columns) h
+
+is-read : {A : Type 0} (o : Outcome A) → isRead o ≡ true → (a : A) × (o ≡ ok a)
+is-read (ok a) h = (a, refl)
+is-read (refused w) h = let z : _≡_ {A = ℕ} 0 1 = cc in absurd (omega arith)
+
+pub charset-there : (numeric columns kind : ℕ) (value : List ℕ) → (kind ≡ 2) ⊎ (kind ≡ 10) → contentsHold numeric columns kind value ≡ true
+    → (x : ℕ × ℕ) × (defaultCharset value ≡ ok x)
+unfolding contentsHold
+charset-there numeric columns kind value k h =
+    ⊎-elim (λ (e : kind ≡ 2). is-read (readPacked value 0) (rw e at h)) (λ (e : kind ≡ 10). is-read (readPacked value 0) (rw e at h)) k
 
 -- ---- fields move
 pub field-moves : (numeric columns : ℕ) → Moves (fieldItem numeric columns)

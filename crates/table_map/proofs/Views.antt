@@ -1,10 +1,8 @@
 -- No two answers look the same on paper, so any two results that a contract allows are equal. Assumes nothing.
-use Prim.Native.Nat.{ℕ}
 use mathlib.Core.Path.{_≡_, refl}
+use Rattle.wire.specs.declared.refusal.Refusal.{Refusal}
 use Rattle.wire.specs.Outcome.{Outcome, ok, refused}
 use Rattle.wire.proofs.Outcomes.{same-by-back}
-use Rattle.table_map.specs.declared.event.Part.{Part}
-use Rattle.table_map.specs.declared.field.Fields.{Fields}
 use Rattle.table_map.specs.declared.field.FieldStep.{FieldStep}
 use Rattle.table_map.specs.declared.field.FieldStep.the-variants.{Field, End as End₅, Refused as Refused₅}
 use Rattle.table_map.specs.declared.list.IntegerStep.{IntegerStep}
@@ -25,108 +23,81 @@ use Rattle.table_map.specs.Parts.{longPartOf}
 use Rattle.table_map.specs.Lists.{Stepped, end, item, integerOf, pairOf, stringOf, groupOf, reachedOf, charsetOf}
 use Rattle.table_map.specs.Fields.{fieldOf}
 
-abbrev integer-back : Outcome (Stepped ℕ ℕ) → IntegerStep
-integer-back (ok (item value next)) = Item value (record { at = next })
-integer-back (ok end) = End
-integer-back (refused r) = Refused r
+-- the way back from what a step says, and from what a reader says
+abbrev back-step : {A C S : Type 0} → (A → C → S) → S → (Refusal → S) → Outcome (Stepped A C) → S
+back-step it ended refuse (ok end) = ended
+back-step it ended refuse (ok (item a next)) = it a next
+back-step it ended refuse (refused r) = refuse r
 
-integer-way : (a : IntegerStep) → integer-back (integerOf a) ≡ a
+abbrev back-read : {A S : Type 0} → (A → S) → (Refusal → S) → Outcome A → S
+back-read it refuse (ok a) = it a
+back-read it refuse (refused r) = refuse r
+
+integer-way : (a : IntegerStep) → back-step (λ value next. Item value (record { at = next })) End Refused (integerOf a) ≡ a
 integer-way (Item value next) = refl
 integer-way End = refl
 integer-way (Refused r) = refl
 
 -- of integers
 pub same-integer : (a b : IntegerStep) → integerOf a ≡ integerOf b → a ≡ b
-same-integer = same-by-back integerOf integer-back integer-way
+same-integer = same-by-back integerOf (back-step (λ value next. Item value (record { at = next })) End Refused) integer-way
 
-abbrev pair-back : Outcome (Stepped (ℕ × ℕ) ℕ) → PairStep
-pair-back (ok (item x next)) = Item₂ (x .0) (x .1) (record { at = next })
-pair-back (ok end) = End₂
-pair-back (refused r) = Refused₂ r
-
-pair-way : (a : PairStep) → pair-back (pairOf a) ≡ a
+pair-way : (a : PairStep) → back-step (λ x next. Item₂ (x .0) (x .1) (record { at = next })) End₂ Refused₂ (pairOf a) ≡ a
 pair-way (Item₂ first second next) = refl
 pair-way End₂ = refl
 pair-way (Refused₂ r) = refl
 
 -- of pairs
 pub same-pair : (a b : PairStep) → pairOf a ≡ pairOf b → a ≡ b
-same-pair = same-by-back pairOf pair-back pair-way
+same-pair = same-by-back pairOf (back-step (λ x next. Item₂ (x .0) (x .1) (record { at = next })) End₂ Refused₂) pair-way
 
-abbrev string-back : Outcome (Stepped Part ℕ) → StringStep
-string-back (ok (item value next)) = Item₃ value (record { at = next })
-string-back (ok end) = End₃
-string-back (refused r) = Refused₃ r
-
-string-way : (a : StringStep) → string-back (stringOf a) ≡ a
+string-way : (a : StringStep) → back-step (λ value next. Item₃ value (record { at = next })) End₃ Refused₃ (stringOf a) ≡ a
 string-way (Item₃ value next) = refl
 string-way End₃ = refl
 string-way (Refused₃ r) = refl
 
 -- of strings
 pub same-string : (a b : StringStep) → stringOf a ≡ stringOf b → a ≡ b
-same-string = same-by-back stringOf string-back string-way
+same-string = same-by-back stringOf (back-step (λ value next. Item₃ value (record { at = next })) End₃ Refused₃) string-way
 
-abbrev group-back : Outcome (Stepped (ℕ × ℕ) ℕ) → GroupStep
-group-back (ok (item x next)) = Item₄ (x .0) (x .1) (record { at = next })
-group-back (ok end) = End₄
-group-back (refused r) = Refused₄ r
-
-group-way : (a : GroupStep) → group-back (groupOf a) ≡ a
+group-way : (a : GroupStep) → back-step (λ x next. Item₄ (x .0) (x .1) (record { at = next })) End₄ Refused₄ (groupOf a) ≡ a
 group-way (Item₄ count first next) = refl
 group-way End₄ = refl
 group-way (Refused₄ r) = refl
 
 -- of groups
 pub same-group : (a b : GroupStep) → groupOf a ≡ groupOf b → a ≡ b
-same-group = same-by-back groupOf group-back group-way
+same-group = same-by-back groupOf (back-step (λ x next. Item₄ (x .0) (x .1) (record { at = next })) End₄ Refused₄) group-way
 
-abbrev field-back : Outcome (Stepped (ℕ × Part) Fields) → FieldStep
-field-back (ok (item x next)) = Field (x .0) (x .1) next
-field-back (ok end) = End₅
-field-back (refused r) = Refused₅ r
-
-field-way : (a : FieldStep) → field-back (fieldOf a) ≡ a
+field-way : (a : FieldStep) → back-step (λ x next. Field (x .0) (x .1) next) End₅ Refused₅ (fieldOf a) ≡ a
 field-way (Field kind value next) = refl
 field-way End₅ = refl
 field-way (Refused₅ r) = refl
 
 -- of fields
 pub same-field : (a b : FieldStep) → fieldOf a ≡ fieldOf b → a ≡ b
-same-field = same-by-back fieldOf field-back field-way
+same-field = same-by-back fieldOf (back-step (λ x next. Field (x .0) (x .1) next) End₅ Refused₅) field-way
 
-abbrev reached-back : Outcome ℕ → Reached
-reached-back (ok place) = To place
-reached-back (refused r) = Refused₆ r
-
-reached-way : (a : Reached) → reached-back (reachedOf a) ≡ a
+reached-way : (a : Reached) → back-read To Refused₆ (reachedOf a) ≡ a
 reached-way (To place) = refl
 reached-way (Refused₆ r) = refl
 
 -- of places after strings
 pub same-reached : (a b : Reached) → reachedOf a ≡ reachedOf b → a ≡ b
-same-reached = same-by-back reachedOf reached-back reached-way
+same-reached = same-by-back reachedOf (back-read To Refused₆) reached-way
 
-abbrev charset-back : Outcome (ℕ × ℕ) → DefaultCharset
-charset-back (ok x) = Read₇ (x .0) (record { at = x .1 })
-charset-back (refused r) = Refused₇ r
-
-charset-way : (a : DefaultCharset) → charset-back (charsetOf a) ≡ a
+charset-way : (a : DefaultCharset) → back-read (λ x. Read₇ (x .0) (record { at = x .1 })) Refused₇ (charsetOf a) ≡ a
 charset-way (Read₇ charset pairs) = refl
 charset-way (Refused₇ r) = refl
 
 -- of default charsets
 pub same-charset : (a b : DefaultCharset) → charsetOf a ≡ charsetOf b → a ≡ b
-same-charset = same-by-back charsetOf charset-back charset-way
+same-charset = same-by-back charsetOf (back-read (λ x. Read₇ (x .0) (record { at = x .1 })) Refused₇) charset-way
 
-abbrev long-part-back : Outcome (Part × ℕ) → LongPart
-long-part-back (ok x) = Read (x .0) (x .1)
-long-part-back (refused r) = Refused₈ r
-
-long-part-way : (a : LongPart) → long-part-back (longPartOf a) ≡ a
+long-part-way : (a : LongPart) → back-read (λ x. Read (x .0) (x .1)) Refused₈ (longPartOf a) ≡ a
 long-part-way (Read part next) = refl
 long-part-way (Refused₈ r) = refl
 
 -- of parts behind a length
 pub same-long-part : (a b : LongPart) → longPartOf a ≡ longPartOf b → a ≡ b
-same-long-part = same-by-back longPartOf long-part-back long-part-way
+same-long-part = same-by-back longPartOf (back-read (λ x. Read (x .0) (x .1)) Refused₈) long-part-way

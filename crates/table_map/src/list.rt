@@ -1,4 +1,5 @@
 // The lists in optional fields: integers, pairs, strings and groups of strings (table_map_event.rs: IterCharsets, IterNonDefault, IterNames, IterSetStrValues and their like).
+// A cursor is an offset: at the length the list has ended; past it there is no first byte, and the reader of that refuses.
 use crate::event::Part;
 use crate::part::LongPart;
 use crate::part::long_part;
