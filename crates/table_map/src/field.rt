@@ -10,8 +10,8 @@ use wire::refusal::BAD_FIELD;
 use wire::refusal::SHORT;
 use wire::refusal::UNKNOWN_FIELD;
 ghost use mathlib.Core.Path.{_≡_};
-ghost use Prim.Native.Nat.{_+_, _-_, _≤_};
-ghost use lib.ListN.{length, drop};
+ghost use Prim.Native.Nat.{_≤_};
+ghost use lib.ListN.{length};
 ghost use Rattle.wire.specs.Packed.{readPacked};
 ghost use Rattle.table_map.specs.Fields.{signBits, countSigned, isField, isRead, contentsHold, fieldStep, fieldOf};
 
@@ -42,6 +42,7 @@ impl Fields {
         }
     }
 
+    // The field at the cursor: its value is cut out first, then its type judged, then its contents.
     pub fn next(self, optional: &[u8]) -> FieldStep
         ensures { λ r. ⌜ fieldOf r ≡ fieldStep self (now (optional .entry)) ⌝ }
     {

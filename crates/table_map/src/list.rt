@@ -6,7 +6,6 @@ use crate::part::long_part;
 use wire::Packed;
 use wire::Refusal;
 ghost use mathlib.Core.Path.{_≡_};
-ghost use Prim.Native.Nat.{_-_, _≤_};
 ghost use Rattle.wire.specs.Bits.{bitMsb0};
 ghost use Rattle.table_map.specs.Lists.{step, integerItem, pairItem, stringItem, groupItem, strings, integerOf, pairOf, stringOf, groupOf, reachedOf, defaultCharset, charsetOf};
 
