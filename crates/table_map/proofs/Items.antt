@@ -1,15 +1,15 @@
 -- The items of lists: what the readers' loops turn on, and that every item takes bytes, ends within them, and is refused only with 1 or 2 at a place within
 -- them. Assumes nothing.
 use Prim.Native.Nat.{ℕ, zero, suc, _+_, _-_, _≤_, _<_}
-use mathlib.Core.Path.{_≡_, ap, subst}
+use mathlib.Core.Path.{_≡_, refl, ap, subst}
 use mathlib.Core.Logic.{⊎-elim}
 use mathlib.Core.List.{List}
 use native.Mathlib.Omega.{arith}
-use borrow.Author.Tests.{leb-true}
+use borrow.Author.Tests.{le-leb, leb-true}
 use lib.ListN.{length}
 use lib.Dec.{leb}
 use Rattle.wire.specs.declared.refusal.Refusal.{Refusal}
-use Rattle.wire.specs.Outcome.{ok, refused, why, after}
+use Rattle.wire.specs.Outcome.{ok, refused, refuse, why, after}
 use Rattle.wire.specs.Number.{Bytes}
 use Rattle.wire.specs.Packed.{readPacked}
 use Rattle.wire.proofs.Outcomes.{after-is-ok, after-refuses, test-is-ok, test-refuses, ok-not-refused, same-ok}
@@ -17,6 +17,7 @@ use Rattle.wire.proofs.Forms.{Refuses, short, cut, none, read-moves, read-refus
 use Rattle.table_map.specs.declared.event.Part.{Part}
 use Rattle.table_map.specs.Parts.{part, within, longPart}
 use Rattle.table_map.specs.Lists.{Rule, integerItem, pairItem, stringItem, strings, groupItem}
+use Rattle.table_map.proofs.Steps.{Early}
 
 -- ---- the loop over the strings of a group, i of n read
 pub strings-none : (s : List ℕ) (n i at : ℕ) → n ≤ i → strings (n - i) s at ≡ ok at
@@ -31,27 +32,47 @@ strings-turn s n i at h =
     let k : n - i ≡ suc (n - (i + 1)) = omega arith in
     ap (λ (j : ℕ). strings j s at) k
 
+-- ---- past the bytes nothing is read
+pub integer-early : Early integerItem
+unfolding readPacked
+integer-early = record { early = λ s at h. rw (le-leb (length s) at h) }
+
+pub pair-early : Early pairItem
+unfolding pairItem
+pair-early = record { early = λ s at h. rw (integer-early .early s at h) }
+
+pub string-early : Early stringItem
+unfolding longPart
+string-early = record { early = λ s at h. rw (integer-early .early s at h) }
+
+pub group-early : Early groupItem
+unfolding groupItem
+group-early = record { early = λ s at h. rw (integer-early .early s at h) }
+
 -- ---- items move
 -- every item that the rule reads takes a byte at least, and ends within the bytes
 pub record Moves {A : Type 0} (rule : Rule A) : Type 0 where
   pub moves : (s : List ℕ) (at : ℕ) (a : A) (next : ℕ) → rule s at ≡ ok (a, next) → (at < next) × (next ≤ length s)
 
--- a part behind its length: it starts behind it, and what follows starts where it ends
+-- a part that is there ends where what follows starts, within the bytes
+part-ends : (s : List ℕ) (start len place : ℕ) (p : Part) (next : ℕ)
+    → after {B = Part × ℕ} (within s start len place) (λ b. ok (part start len, b)) ≡ ok (p, next)
+    → (start ≡ p .start) × (p .start + p .len ≡ next) × (next ≤ length s)
+unfolding within
+part-ends s start len place p next e =
+    let x = after-is-ok (within s start len place) (λ b. ok (part start len, b)) (p, next) e in
+    let t = test-is-ok (leb (start + len) (length s)) (start + len) (why 1 place) (x .0) (x .1) in
+    let l = leb-true (start + len) (length s) (t .0) in
+    subst (λ (w : Part × ℕ). (start ≡ w .0 .start) × (w .0 .start + w .0 .len ≡ w .1) × (w .1 ≤ length s)) (same-ok (x .2)) (refl, t .1, omega (arith, t .1, l))
+
+-- a part behind its length: it starts behind it
 pub long-moves : (s : List ℕ) (at : ℕ) (p : Part) (next : ℕ) → longPart s at ≡ ok (p, next) → (at < p .start) × (p .start + p .len ≡ next) × (next ≤ length s)
-unfolding longPart within
+unfolding longPart
 long-moves s at p next e =
     let x = after-is-ok (readPacked s at) (λ n. after (within s (n .1) (n .0) at) (λ b. ok (part (n .1) (n .0), b))) (p, next) e in
-    let n = x .0 in
-    let m = read-moves s at (n .0) (n .1) (x .1) in
-    let y = after-is-ok (within s (n .1) (n .0) at) (λ b. ok (part (n .1) (n .0), b)) (p, next) (x .2) in
-    let t = test-is-ok (leb (n .1 + n .0) (length s)) (n .1 + n .0) (why 1 at) (y .0) (y .1) in
-    let l = leb-true (n .1 + n .0) (length s) (t .0) in
-    let z : _≡_ {A = Part × ℕ} (part (n .1) (n .0), y .0) (p, next) = same-ok (y .2) in
-    let q : part (n .1) (n .0) ≡ p = ap (λ (w : Part × ℕ). w .0) z in
-    let r : y .0 ≡ next = ap (λ (w : Part × ℕ). w .1) z in
-    let a : n .1 ≡ p .start = ap (λ (w : Part). w .start) q in
-    let b : n .0 ≡ p .len = ap (λ (w : Part). w .len) q in
-    (omega (arith, m .0), omega (arith, t .1), omega (arith, t .1, l))
+    let m = read-moves s at (x .0 .0) (x .0 .1) (x .1) in
+    let y = part-ends s (x .0 .1) (x .0 .0) at p next (x .2) in
+    (omega (arith, m .0, y .0), y .1, y .2)
 
 pub integer-moves : Moves integerItem
 integer-moves = record { moves = read-moves }
@@ -86,16 +107,50 @@ strings-move (suc n) s at next h e =
     let r = strings-move n s (x .0 .1) next (m .2) (x .2) in
     (omega (arith, m .0, m .1, r .0), r .1)
 
-pub group-moves : Moves groupItem
+-- a count is believed only as far as the bytes go: n strings take n bytes at least
+strings-take : (n : ℕ) (s : List ℕ) (at next : ℕ) → strings n s at ≡ ok next → at + n ≤ next
+unfolding strings
+strings-take zero s at next e =
+    let x : at ≡ next = same-ok e in
+    omega arith
+strings-take (suc n) s at next e =
+    let x = after-is-ok (longPart s at) (λ x. strings n s (x .1)) next e in
+    let m = long-moves s at (x .0 .0) (x .0 .1) (x .1) in
+    omega (arith, m .0, m .1, strings-take n s (x .0 .1) next (x .2))
+
+-- and where the bytes end before the count, it is refused at their end
+pub strings-missing : (m n : ℕ) (s : List ℕ) (at : ℕ) → m < n → strings m s at ≡ ok (length s) → strings n s at ≡ refuse 1 (length s)
+unfolding strings
+strings-missing m zero s at h e = absurd (omega arith)
+strings-missing zero (suc n) s at h e =
+    let x : at ≡ length s = same-ok e in
+    rw (x, string-early .early s (length s) (omega arith))
+strings-missing (suc m) (suc n) s at h e =
+    let x = after-is-ok (longPart s at) (λ x. strings m s (x .1)) (length s) e in
+    rw (x .1) (strings-missing m n s (x .0 .1) (omega arith) (x .2))
+
+-- the strings of a group lead from its first to what follows it
+pub group-strings : (s : List ℕ) (at count first next : ℕ) → groupItem s at ≡ ok ((count, first), next)
+    → (readPacked s at ≡ ok (count, first)) × (strings count s first ≡ ok next)
 unfolding groupItem
+group-strings s at count first next e =
+    let x = after-is-ok (readPacked s at) (λ n. after (strings (n .0) s (n .1)) (λ b. ok ((n .0, n .1), b))) ((count, first), next) e in
+    let y = after-is-ok (strings (x .0 .0) s (x .0 .1)) (λ b. ok ((x .0 .0, x .0 .1), b)) ((count, first), next) (x .2) in
+    subst (λ (w : (ℕ × ℕ) × ℕ). (readPacked s at ≡ ok (w .0)) × (strings (w .0 .0) s (w .0 .1) ≡ ok (w .1))) (same-ok (y .2)) (x .1, y .1)
+
+-- how many strings a group has at most
+pub group-count : (s : List ℕ) (at count first next : ℕ) → groupItem s at ≡ ok ((count, first), next) → (at < first) × (first + count ≤ next)
+group-count s at count first next e =
+    let x = group-strings s at count first next e in
+    (read-moves s at count first (x .0) .0, strings-take count s first next (x .1))
+
+pub group-moves : Moves groupItem
 group-moves = record {
   moves = λ s at a next e.
-      let x = after-is-ok (readPacked s at) (λ n. after (strings (n .0) s (n .1)) (λ b. ok ((n .0, n .1), b))) (a, next) e in
-      let y = after-is-ok (strings (x .0 .0) s (x .0 .1)) (λ b. ok ((x .0 .0, x .0 .1), b)) (a, next) (x .2) in
-      let m = read-moves s at (x .0 .0) (x .0 .1) (x .1) in
-      let n = strings-move (x .0 .0) s (x .0 .1) (y .0) (m .1) (y .1) in
-      let z : y .0 ≡ next = ap (λ (w : (ℕ × ℕ) × ℕ). w .1) (same-ok (y .2)) in
-      (omega (arith, m .0, n .0), omega (arith, n .1));
+      let x = group-strings s at (a .0) (a .1) next e in
+      let m = read-moves s at (a .0) (a .1) (x .0) in
+      let n = strings-move (a .0) s (a .1) next (m .1) (x .1) in
+      (omega (arith, m .0, n .0), n .1);
 }
 
 -- ---- items are refused
@@ -130,7 +185,9 @@ long-told s at w b h e =
     ⊎-elim (λ l. read-told s at w b h l)
     (λ r.
     ⊎-elim
-    (λ l. subst (Told OneOrTwo s) (test-refuses (leb (r .0 .1 + r .0 .0) (length s)) (r .0 .1 + r .0 .0) (why 1 at) w l .1) (record { number = one; place = h }))
+    (λ l.
+    let x = test-refuses (leb (r .0 .1 + r .0 .0) (length s)) (r .0 .1 + r .0 .0) (why 1 at) w l in
+    subst (Told OneOrTwo s) (x .1) (record { number = one; place = h }))
     (λ x. absurd (ok-not-refused (x .2)))
     (after-refuses (within s (r .0 .1) (r .0 .0) at) (λ b. ok (part (r .0 .1) (r .0 .0), b)) w (r .2)))
     (after-refuses (readPacked s at) (λ n. after (within s (n .1) (n .0) at) (λ b. ok (part (n .1) (n .0), b))) w e)

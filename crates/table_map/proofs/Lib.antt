@@ -1,7 +1,8 @@
 -- The laws of the crate. `Chains`: the parts of an event that was read stand in order, end to end, within it. `Puts`: parts written one behind the other.
 -- `Trips`: what is written is read back. `Canon`: what is read and written again is the same exactly if it was as a writer writes it. `Answers`: which
 -- refusals reading gives, and that no two answers look the same on paper. `Steps`: a step of a walk, whatever the rule. `Items`: the items of lists move,
--- and which refusals they give. `Walks`: a walk and its steps. `Optional`: the optional fields.
+-- and which refusals they give. `Walks`: a walk and its steps. `Optional`: the optional fields. `Views`: no two steps look the same on paper. `Examples`:
+-- walks computed.
 pub mod Chains
 pub mod Puts
 pub mod Trips
@@ -11,3 +12,5 @@ pub mod Steps
 pub mod Items
 pub mod Walks
 pub mod Optional
+pub mod Views
+pub mod Examples

@@ -1,8 +1,9 @@
 -- A step of a walk, whatever the rule of its items: what it answers, and what its answer says of the rule. Assumes nothing.
 use Prim.Native.Nat.{ℕ, _≤_, _<_}
 use mathlib.Core.Path.{_≡_, sym, ap}
-use mathlib.Core.Logic.{_⊎_, inl, inr}
+use mathlib.Core.Logic.{dite, _⊎_, inl, inr}
 use mathlib.Core.List.{List}
+use native.Mathlib.Decide.{decLe}
 use native.Mathlib.Omega.{arith}
 use borrow.Author.Tests.{lt-ltb, le-ltb, eq-eqb, ne-eqb, ltb-true, ltb-false, eqb-false}
 use lib.ListN.{length}
@@ -31,6 +32,19 @@ step-before rule s at h =
     let n : at ≡ length s → ⊥ = λ (e : at ≡ length s). omega arith in
     let l : at ≤ length s = omega arith in
     simp (ne-eqb at (length s) n, le-ltb (length s) at l)
+
+-- a rule that itself refuses so past the bytes need not be told that it stands there
+pub record Early {A : Type 0} (rule : Rule A) : Type 0 where
+  pub early : (s : List ℕ) (at : ℕ) → length s ≤ at → rule s at ≡ refuse 1 at
+
+pub step-else : {A : Type 0} (rule : Rule A) → Early rule → (s : List ℕ) (at : ℕ) → (at ≡ length s → ⊥)
+    → step rule s at ≡ after (rule s at) (λ x. ok (item (x .0) (x .1)))
+step-else rule r s at n =
+    dite (decLe (length s) at)
+    (λ h.
+    let l : length s < at = omega arith in
+    rw (step-past rule s at l, r .early s at h))
+    (λ h. step-before rule s at (omega arith))
 
 -- ---- the other way
 same-item : {A : Type 0} {a b : A} {m n : ℕ} → _≡_ {A = Stepped A ℕ} (item a m) (item b n) → (a ≡ b) × (m ≡ n)

@@ -103,8 +103,8 @@ pub walk-breaks : {A : Type 0} (rule : Rule A) → Moves rule → (s : List ℕ)
 walk-breaks rule v s at w e = breaks rule v (suc (length s - at)) s at w e
 
 -- ---- which refusals a step and a walk give: those of the rule, or 1 at an offset past the bytes
-pub step-told : {A : Type 0} {numbers : ℕ → Type 0} (rule : Rule A) → Tells numbers rule → (s : List ℕ) (at : ℕ) (w : Refusal) → Bytes s → step rule s at ≡ refused w
-    → ((length s < at) × (w ≡ why 1 at)) ⊎ Told numbers s w
+pub step-told : {A : Type 0} {numbers : ℕ → Type 0} (rule : Rule A) → Tells numbers rule → (s : List ℕ) (at : ℕ) (w : Refusal) → Bytes s
+    → step rule s at ≡ refused w → ((length s < at) × (w ≡ why 1 at)) ⊎ Told numbers s w
 step-told rule t s at w b e = ⊎-elim (λ l. inl l) (λ r. inr (t .tells s at w b (r .0) (r .1))) (refusal-told rule s at w e)
 
 pub walk-told : {A : Type 0} {numbers : ℕ → Type 0} (rule : Rule A) → Moves rule → Tells numbers rule → (s : List ℕ) (at : ℕ) (w : Refusal) → Bytes s

@@ -1,6 +1,6 @@
 -- Optional fields: "Type byte, packed length, value. The value is cut out first, then type, then contents judged." "The walk judges contents only so: 1 holds
 -- ceil(numeric/8) bytes and 12 ceil(n/8), no more; 2 and 10 start with a packed integer." Assumes nothing.
-use Prim.Native.Nat.{ℕ, zero, suc, _+_}
+use Prim.Native.Nat.{ℕ, _+_}
 use mathlib.Core.Bool.{Bool, true, false, cond, _&&_, _||_}
 use mathlib.Core.List.{List, [], _∷_}
 use lib.ListN.{length, getD}

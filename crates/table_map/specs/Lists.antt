@@ -1,6 +1,6 @@
 -- Lists: one rule for every kind of item, and the items. "Lists: 3, 7, 8, 11, 13 are packed integers; 9 is pairs (column, prefix length); 2 and 10 go on
 -- with pairs (rank, charset); 4 is packed-length strings; 5 and 6 are groups of a packed count and that many strings." Assumes nothing.
-use Prim.Native.Nat.{ℕ, zero, suc, _+_, _-_}
+use Prim.Native.Nat.{ℕ, zero, suc, _-_}
 use mathlib.Core.Bool.{cond}
 use mathlib.Core.List.{List, [], _∷_}
 use lib.ListN.{length}

@@ -10,10 +10,10 @@ use wire::refusal::BAD_FIELD;
 use wire::refusal::SHORT;
 use wire::refusal::UNKNOWN_FIELD;
 ghost use mathlib.Core.Path.{_≡_};
-ghost use Prim.Native.Nat.{_+_, _-_, _≤_};
-ghost use lib.ListN.{length, drop};
+ghost use Prim.Native.Nat.{_≤_};
+ghost use lib.ListN.{length};
 ghost use Rattle.wire.specs.Packed.{readPacked};
-ghost use Rattle.table_map.specs.Fields.{signBits, countSigned, isRead, contentsHold, fieldStep, fieldOf};
+ghost use Rattle.table_map.specs.Fields.{signBits, countSigned, isField, isRead, contentsHold, fieldStep, fieldOf};
 
 // Where a walk over the optional bytes stands, with what it needs of the map: how many columns have a signedness bit, and how many columns there are. The two are counted once.
 pub struct Fields {
@@ -42,6 +42,7 @@ impl Fields {
         }
     }
 
+    // The field at the cursor: its value is cut out first, then its type judged, then its contents.
     pub fn next(self, optional: &[u8]) -> FieldStep
         ensures { λ r. ⌜ fieldOf r ≡ fieldStep self (now (optional .entry)) ⌝ }
     {
@@ -57,27 +58,23 @@ impl Fields {
         match long_part(optional, at + 1) {
             LongPart::Read { part, next: behind } => {
                 let kind = optional[at];
-                if kind < 1 {
-                    return FieldStep::Refused(wire::refuse(UNKNOWN_FIELD, at));
+                if is_field(kind) {
+                    let start = part.start;
+                    let end = start + part.len;
+                    if contents_hold(numeric, columns, kind, &optional[start..end]) {
+                        return FieldStep::Field {
+                            kind,
+                            value: part,
+                            next: Fields {
+                                at: behind,
+                                numeric,
+                                columns,
+                            },
+                        };
+                    }
+                    return FieldStep::Refused(wire::refuse(BAD_FIELD, at));
                 }
-                if 13 < kind {
-                    return FieldStep::Refused(wire::refuse(UNKNOWN_FIELD, at));
-                }
-                let start = part.start;
-                let end = start + part.len;
-                if contents_hold(numeric, columns, kind, &optional[start..end]) {
-                    let next = Fields {
-                        at: behind,
-                        numeric,
-                        columns,
-                    };
-                    return FieldStep::Field {
-                        kind,
-                        value: part,
-                        next,
-                    };
-                }
-                FieldStep::Refused(wire::refuse(BAD_FIELD, at))
+                FieldStep::Refused(wire::refuse(UNKNOWN_FIELD, at))
             }
             LongPart::Refused(r) => FieldStep::Refused(r),
         }
@@ -104,6 +101,16 @@ fn sign_bits(dialect: Dialect, kind: u8) -> usize
         return 1;
     }
     0
+}
+
+// Whether there is such a type of field.
+fn is_field(kind: u8) -> bool
+    ensures { λ r. ⌜ r ≡ isField kind ⌝ }
+{
+    if kind < 1 {
+        return false;
+    }
+    kind <= 13
 }
 
 // Whether the contents of a field are as the walk asks.

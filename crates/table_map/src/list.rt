@@ -1,12 +1,11 @@
 // The lists in optional fields: integers, pairs, strings and groups of strings (table_map_event.rs: IterCharsets, IterNonDefault, IterNames, IterSetStrValues and their like).
+// A cursor is an offset: at the length the list has ended; past it there is no first byte, and the reader of that refuses.
 use crate::event::Part;
 use crate::part::LongPart;
 use crate::part::long_part;
 use wire::Packed;
 use wire::Refusal;
-use wire::refusal::SHORT;
 ghost use mathlib.Core.Path.{_≡_};
-ghost use Prim.Native.Nat.{_-_, _≤_};
 ghost use Rattle.wire.specs.Bits.{bitMsb0};
 ghost use Rattle.table_map.specs.Lists.{step, integerItem, pairItem, stringItem, groupItem, strings, integerOf, pairOf, stringOf, groupOf, reachedOf, defaultCharset, charsetOf};
 
@@ -27,9 +26,6 @@ impl Integers {
         let at = self.at;
         if at == s.len() {
             return IntegerStep::End;
-        }
-        if s.len() < at {
-            return IntegerStep::Refused(wire::refuse(SHORT, at));
         }
         match wire::read_packed(s, at) {
             Packed::Value { value, next } => IntegerStep::Item {
@@ -62,9 +58,6 @@ impl Pairs {
         let at = self.at;
         if at == s.len() {
             return PairStep::End;
-        }
-        if s.len() < at {
-            return PairStep::Refused(wire::refuse(SHORT, at));
         }
         match wire::read_packed(s, at) {
             Packed::Value {
@@ -104,9 +97,6 @@ impl Strings {
         if at == s.len() {
             return StringStep::End;
         }
-        if s.len() < at {
-            return StringStep::Refused(wire::refuse(SHORT, at));
-        }
         match long_part(s, at) {
             LongPart::Read { part, next } => StringStep::Item {
                 value: part,
@@ -139,9 +129,6 @@ impl Groups {
         let at = self.at;
         if at == s.len() {
             return GroupStep::End;
-        }
-        if s.len() < at {
-            return GroupStep::Refused(wire::refuse(SHORT, at));
         }
         match wire::read_packed(s, at) {
             Packed::Value {

@@ -1,4 +1,4 @@
-// Parts of the lent bytes behind a packed length, and how many bytes bits take (io.rs: eat_lenenc_str; misc/raw/bytes.rs: LenEnc).
+// Parts of the lent bytes behind a packed length, and how many bytes bits take (io.rs: checked_eat_lenenc_str).
 use crate::event::Part;
 use wire::Packed;
 use wire::Refusal;

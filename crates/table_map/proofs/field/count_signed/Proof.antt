@@ -39,8 +39,10 @@ loop-less c = omega arith
 
 loop-again : tie.Need-loop-again Inv-loop μ-loop
 loop-again c =
-    let t = signed-turn (c .before .before .before .before .before .args .dialect) (c .before .before .before .before .before .args .types .now) (c .before .before .before .loop .i) (c .before .before .loop-test .taken) in
-    (omega arith, omega (arith, c .sign-bits .ensures .1), omega (arith, t, c .sign-bits .ensures .0, c .before .before .before .loop .inv .2))
+    let a = c .before .before .before .before .before .args in
+    let l = c .before .before .before .loop in
+    let t = signed-turn (a .dialect) (a .types .now) (l .i) (c .before .before .loop-test .taken) in
+    (omega arith, omega (arith, c .sign-bits .ensures .1), omega (arith, t, c .sign-bits .ensures .0, l .inv .2))
 
 returns : tie.Need-returns Inv-loop μ-loop
 returns c =

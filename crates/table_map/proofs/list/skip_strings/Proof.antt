@@ -1,4 +1,5 @@
--- `table_map::list::skip_strings` meets its contract. The loop's invariant: the strings that are left lead from here to where all lead from the start. Assumes nothing.
+-- `table_map::list::skip_strings` meets its contract. The loop's invariant: what is left leads from here to where all
+-- lead from the start. Assumes nothing.
 use mathlib.Core.Path.{sym, ap, _∙_}
 use Prim.Native.Nat.{_-_, _≤_}
 use mathlib.Core.Path.{_≡_}
@@ -33,7 +34,11 @@ enum-known-r : tie.Need-enum-known-r Inv-loop μ-loop
 enum-known-r c = search needs
 
 returns : tie.Need-returns Inv-loop μ-loop
-returns c = rw (← (c .before .before .before .before .before .loop .inv .1), strings-turn _ _ _ _ (c .before .before .before .before .loop-test .taken), sym (c .before .before .before .long-part .ensures) ∙ ap longPartOf (c .before .r .given .1))
+returns c = rw (
+  ← (c .before .before .before .before .before .loop .inv .1),
+  strings-turn _ _ _ _ (c .before .before .before .before .loop-test .taken),
+  sym (c .before .before .before .long-part .ensures) ∙ ap longPartOf (c .before .r .given .1),
+)
 
 add-i : tie.Need-add-i Inv-loop μ-loop
 add-i c = search needs
@@ -42,7 +47,14 @@ loop-less : tie.Need-loop-less Inv-loop μ-loop
 loop-less c = search needs
 
 loop-again : tie.Need-loop-again Inv-loop μ-loop
-loop-again c = (omega arith, rw (← (c .before .before .before .before .before .loop .inv .1), strings-turn _ _ _ _ (c .before .before .before .before .loop-test .taken), sym (c .before .before .before .long-part .ensures) ∙ ap longPartOf (c .before .next .given .1)))
+loop-again c = (
+  omega arith,
+  rw (
+    ← (c .before .before .before .before .before .loop .inv .1),
+    strings-turn _ _ _ _ (c .before .before .before .before .loop-test .taken),
+    sym (c .before .before .before .long-part .ensures) ∙ ap longPartOf (c .before .next .given .1),
+  ),
+)
 
 returns-2 : tie.Need-returns-2 Inv-loop μ-loop
 returns-2 c = sym (strings-none _ _ _ _ (c .loop-test .left)) ∙ c .before .loop .inv .1

@@ -1,11 +1,9 @@
 -- `table_map::list::Groups::next` meets its contract. Assumes nothing.
 use mathlib.Core.Path.{sym, ap, _∙_}
-use Prim.Native.Nat.{_<_}
-use native.Mathlib.Omega.{arith}
-use lib.ListN.{length}
 use Rattle.wire.specs.Packed.{packedOf}
 use Rattle.table_map.specs.Lists.{groupItem, reachedOf}
-use Rattle.table_map.proofs.Steps.{step-end, step-past, step-before}
+use Rattle.table_map.proofs.Steps.{step-end, step-else}
+use Rattle.table_map.proofs.Items.{group-early}
 use borrow.Author.Needs.{needs}
 use Rattle.table_map.proofs.list.Groups.next.Statement.{statement}
 use Rattle.table_map.proofs.list.Groups.next.Tie as tie
@@ -13,16 +11,9 @@ use Rattle.table_map.proofs.list.Groups.next.Reads as reads
 use Rattle.table_map.proofs.list.Groups.next.Lts as lts
 use Rattle.table_map.proofs.list.skip_strings.Reads as skip-strings-reads
 use Rattle.wire.proofs.read_packed.Reads as read-packed-reads
-use Rattle.wire.proofs.refuse.Reads as refuse-reads
 
 returns : tie.Need-returns
 returns c = sym (step-end groupItem _ _ (c .if1 .taken))
-
-refuse-requires : tie.Need-refuse-requires
-refuse-requires c κs = search needs
-
-returns-2 : tie.Need-returns-2
-returns-2 c = rw (c .refuse .ensures) (sym (step-past groupItem _ _ (c .before .if2 .taken)))
 
 read-packed-requires : tie.Need-read-packed-requires
 read-packed-requires c κs = search needs
@@ -42,40 +33,40 @@ enum-known-r c = search needs
 enum-known-r-2 : tie.Need-enum-known-r-2
 enum-known-r-2 c = search needs
 
+returns-2 : tie.Need-returns-2
+unfolding groupItem
+returns-2 c = rw (
+  step-else groupItem group-early _ _ (c .before .before .before .before .before .before .before .before .if1 .left),
+  sym (c .before .before .before .before .before .before .before .read-packed .ensures) ∙ ap packedOf (c .before .before .before .before .before .count .given .1),
+  sym (c .before .before .before .skip-strings .ensures) ∙ ap reachedOf (c .before .next .given .1),
+)
+
 returns-3 : tie.Need-returns-3
 unfolding groupItem
-returns-3 c =
-    let a = c .before .before .before .before .before .before .before .before .before .before .before .args in
-    let h : a .self .at < length (a .s .now) = omega arith in
-    rw (step-before groupItem _ _ h, sym (c .before .before .before .before .before .before .before .read-packed .ensures) ∙ ap packedOf (c .before .before .before .before .before .count .given .1), sym (c .before .before .before .skip-strings .ensures) ∙ ap reachedOf (c .before .next .given .1))
+returns-3 c = rw (
+  step-else groupItem group-early _ _ (c .before .before .before .before .before .before .before .before .if1 .left),
+  sym (c .before .before .before .before .before .before .before .read-packed .ensures) ∙ ap packedOf (c .before .before .before .before .before .count .given .1),
+  sym (c .before .before .before .skip-strings .ensures) ∙ ap reachedOf (c .before .r .given .1),
+)
 
 returns-4 : tie.Need-returns-4
 unfolding groupItem
-returns-4 c =
-    let a = c .before .before .before .before .before .before .before .before .before .before .before .args in
-    let h : a .self .at < length (a .s .now) = omega arith in
-    rw (step-before groupItem _ _ h, sym (c .before .before .before .before .before .before .before .read-packed .ensures) ∙ ap packedOf (c .before .before .before .before .before .count .given .1), sym (c .before .before .before .skip-strings .ensures) ∙ ap reachedOf (c .before .r .given .1))
-
-returns-5 : tie.Need-returns-5
-unfolding groupItem
-returns-5 c =
-    let a = c .before .before .before .before .before .before .before .args in
-    let h : a .self .at < length (a .s .now) = omega arith in
-    rw (step-before groupItem _ _ h, sym (c .before .before .before .read-packed .ensures) ∙ ap packedOf (c .before .r2 .given .1))
+returns-4 c = rw (
+  step-else groupItem group-early _ _ (c .before .before .before .before .if1 .left),
+  sym (c .before .before .before .read-packed .ensures) ∙ ap packedOf (c .before .r2 .given .1),
+)
 
 pub next-spec : {M : Type 1} → statement M
 next-spec =
     tie.close
     (tie.spec
     returns
-    refuse-requires
-    returns-2
     read-packed-requires
     enum-known-count
     skip-strings-requires
     enum-known-next
     enum-known-r
     enum-known-r-2
+    returns-2
     returns-3
-    returns-4
-    returns-5)
+    returns-4)

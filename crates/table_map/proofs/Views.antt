@@ -1,0 +1,103 @@
+-- No two answers look the same on paper, so any two results that a contract allows are equal. Assumes nothing.
+use mathlib.Core.Path.{_≡_, refl}
+use Rattle.wire.specs.declared.refusal.Refusal.{Refusal}
+use Rattle.wire.specs.Outcome.{Outcome, ok, refused}
+use Rattle.wire.proofs.Outcomes.{same-by-back}
+use Rattle.table_map.specs.declared.field.FieldStep.{FieldStep}
+use Rattle.table_map.specs.declared.field.FieldStep.the-variants.{Field, End as End₅, Refused as Refused₅}
+use Rattle.table_map.specs.declared.list.IntegerStep.{IntegerStep}
+use Rattle.table_map.specs.declared.list.IntegerStep.the-variants.{Item, End, Refused}
+use Rattle.table_map.specs.declared.list.PairStep.{PairStep}
+use Rattle.table_map.specs.declared.list.PairStep.the-variants.{Item as Item₂, End as End₂, Refused as Refused₂}
+use Rattle.table_map.specs.declared.list.StringStep.{StringStep}
+use Rattle.table_map.specs.declared.list.StringStep.the-variants.{Item as Item₃, End as End₃, Refused as Refused₃}
+use Rattle.table_map.specs.declared.list.GroupStep.{GroupStep}
+use Rattle.table_map.specs.declared.list.GroupStep.the-variants.{Item as Item₄, End as End₄, Refused as Refused₄}
+use Rattle.table_map.specs.declared.list.Reached.{Reached}
+use Rattle.table_map.specs.declared.list.Reached.the-variants.{To, Refused as Refused₆}
+use Rattle.table_map.specs.declared.list.DefaultCharset.{DefaultCharset}
+use Rattle.table_map.specs.declared.list.DefaultCharset.the-variants.{Read as Read₇, Refused as Refused₇}
+use Rattle.table_map.specs.declared.part.LongPart.{LongPart}
+use Rattle.table_map.specs.declared.part.LongPart.the-variants.{Read, Refused as Refused₈}
+use Rattle.table_map.specs.Parts.{longPartOf}
+use Rattle.table_map.specs.Lists.{Stepped, end, item, integerOf, pairOf, stringOf, groupOf, reachedOf, charsetOf}
+use Rattle.table_map.specs.Fields.{fieldOf}
+
+-- the way back from what a step says, and from what a reader says
+abbrev back-step : {A C S : Type 0} → (A → C → S) → S → (Refusal → S) → Outcome (Stepped A C) → S
+back-step it ended refuse (ok end) = ended
+back-step it ended refuse (ok (item a next)) = it a next
+back-step it ended refuse (refused r) = refuse r
+
+abbrev back-read : {A S : Type 0} → (A → S) → (Refusal → S) → Outcome A → S
+back-read it refuse (ok a) = it a
+back-read it refuse (refused r) = refuse r
+
+integer-way : (a : IntegerStep) → back-step (λ value next. Item value (record { at = next })) End Refused (integerOf a) ≡ a
+integer-way (Item value next) = refl
+integer-way End = refl
+integer-way (Refused r) = refl
+
+-- of integers
+pub same-integer : (a b : IntegerStep) → integerOf a ≡ integerOf b → a ≡ b
+same-integer = same-by-back integerOf (back-step (λ value next. Item value (record { at = next })) End Refused) integer-way
+
+pair-way : (a : PairStep) → back-step (λ x next. Item₂ (x .0) (x .1) (record { at = next })) End₂ Refused₂ (pairOf a) ≡ a
+pair-way (Item₂ first second next) = refl
+pair-way End₂ = refl
+pair-way (Refused₂ r) = refl
+
+-- of pairs
+pub same-pair : (a b : PairStep) → pairOf a ≡ pairOf b → a ≡ b
+same-pair = same-by-back pairOf (back-step (λ x next. Item₂ (x .0) (x .1) (record { at = next })) End₂ Refused₂) pair-way
+
+string-way : (a : StringStep) → back-step (λ value next. Item₃ value (record { at = next })) End₃ Refused₃ (stringOf a) ≡ a
+string-way (Item₃ value next) = refl
+string-way End₃ = refl
+string-way (Refused₃ r) = refl
+
+-- of strings
+pub same-string : (a b : StringStep) → stringOf a ≡ stringOf b → a ≡ b
+same-string = same-by-back stringOf (back-step (λ value next. Item₃ value (record { at = next })) End₃ Refused₃) string-way
+
+group-way : (a : GroupStep) → back-step (λ x next. Item₄ (x .0) (x .1) (record { at = next })) End₄ Refused₄ (groupOf a) ≡ a
+group-way (Item₄ count first next) = refl
+group-way End₄ = refl
+group-way (Refused₄ r) = refl
+
+-- of groups
+pub same-group : (a b : GroupStep) → groupOf a ≡ groupOf b → a ≡ b
+same-group = same-by-back groupOf (back-step (λ x next. Item₄ (x .0) (x .1) (record { at = next })) End₄ Refused₄) group-way
+
+field-way : (a : FieldStep) → back-step (λ x next. Field (x .0) (x .1) next) End₅ Refused₅ (fieldOf a) ≡ a
+field-way (Field kind value next) = refl
+field-way End₅ = refl
+field-way (Refused₅ r) = refl
+
+-- of fields
+pub same-field : (a b : FieldStep) → fieldOf a ≡ fieldOf b → a ≡ b
+same-field = same-by-back fieldOf (back-step (λ x next. Field (x .0) (x .1) next) End₅ Refused₅) field-way
+
+reached-way : (a : Reached) → back-read To Refused₆ (reachedOf a) ≡ a
+reached-way (To place) = refl
+reached-way (Refused₆ r) = refl
+
+-- of places after strings
+pub same-reached : (a b : Reached) → reachedOf a ≡ reachedOf b → a ≡ b
+same-reached = same-by-back reachedOf (back-read To Refused₆) reached-way
+
+charset-way : (a : DefaultCharset) → back-read (λ x. Read₇ (x .0) (record { at = x .1 })) Refused₇ (charsetOf a) ≡ a
+charset-way (Read₇ charset pairs) = refl
+charset-way (Refused₇ r) = refl
+
+-- of default charsets
+pub same-charset : (a b : DefaultCharset) → charsetOf a ≡ charsetOf b → a ≡ b
+same-charset = same-by-back charsetOf (back-read (λ x. Read₇ (x .0) (record { at = x .1 })) Refused₇) charset-way
+
+long-part-way : (a : LongPart) → back-read (λ x. Read (x .0) (x .1)) Refused₈ (longPartOf a) ≡ a
+long-part-way (Read part next) = refl
+long-part-way (Refused₈ r) = refl
+
+-- of parts behind a length
+pub same-long-part : (a b : LongPart) → longPartOf a ≡ longPartOf b → a ≡ b
+same-long-part = same-by-back longPartOf (back-read (λ x. Read (x .0) (x .1)) Refused₈) long-part-way
