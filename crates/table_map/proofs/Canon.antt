@@ -85,29 +85,29 @@ canonical-same s postHeader e h r c =
     let ly : length (partOf s (e .types)) ≡ e .types .len = part-length s (e .types) (w .types) in
     let lm : length (partOf s (e .metadata)) ≡ e .metadata .len = part-length s (e .metadata) (w .metadata) in
     let x₉ : partOf s (e .optional) ≡ drop bn s =
-        take-all (e .optional .len) (drop (e .optional .start) s) (rw length-drop (omega arith)) ∙ ap (λ (k : ℕ). drop k s) p₀ in
+    take-all (e .optional .len) (drop (e .optional .start) s) (rw length-drop (omega arith)) ∙ ap (λ (k : ℕ). drop k s) p₀ in
     let x₈ : partOf s (e .bits) ++ partOf s (e .optional) ≡ drop mn s =
-        ap (λ (z : List ℕ). partOf s (e .bits) ++ z) x₉ ∙ sym (rest-split s (e .bits .start) (e .bits .len)) ∙ ap (λ (k : ℕ). drop k s) b₀ in
+    ap (λ (z : List ℕ). partOf s (e .bits) ++ z) x₉ ∙ sym (rest-split s (e .bits .start) (e .bits .len)) ∙ ap (λ (k : ℕ). drop k s) b₀ in
     let x₇ : partOf s (e .metadata) ++ (partOf s (e .bits) ++ partOf s (e .optional)) ≡ drop (e .metadata .start) s =
-        ap (λ (z : List ℕ). partOf s (e .metadata) ++ z) x₈ ∙ sym (rest-split s (e .metadata .start) (e .metadata .len)) in
+    ap (λ (z : List ℕ). partOf s (e .metadata) ++ z) x₈ ∙ sym (rest-split s (e .metadata .start) (e .metadata .len)) in
     let x₆ : packedBytes (length (partOf s (e .metadata))) ++ (partOf s (e .metadata) ++ (partOf s (e .bits) ++ partOf s (e .optional))) ≡ drop yn s =
-        ap (λ (z : List ℕ). packedBytes (length (partOf s (e .metadata))) ++ z) x₇
-        ∙ ap (λ (k : ℕ). packedBytes k ++ drop (e .metadata .start) s) lm
-        ∙ sym (packed-split s yn (e .metadata .len) (e .metadata .start) h (l .columns .announced) (c .metadata)) in
+    ap (λ (z : List ℕ). packedBytes (length (partOf s (e .metadata))) ++ z) x₇
+    ∙ ap (λ (k : ℕ). packedBytes k ++ drop (e .metadata .start) s) lm
+    ∙ sym (packed-split s yn (e .metadata .len) (e .metadata .start) h (l .columns .announced) (c .metadata)) in
     let x₅ : partOf s (e .types) ++ (packedBytes (length (partOf s (e .metadata))) ++ (partOf s (e .metadata) ++ (partOf s (e .bits) ++ partOf s (e .optional)))) ≡ drop (e .types .start) s =
-        ap (λ (z : List ℕ). partOf s (e .types) ++ z) x₆ ∙ sym (rest-split s (e .types .start) (e .types .len)) in
+    ap (λ (z : List ℕ). partOf s (e .types) ++ z) x₆ ∙ sym (rest-split s (e .types .start) (e .types .len)) in
     let x₄ : columnBytes (partOf s (e .types)) (partOf s (e .metadata)) (partOf s (e .bits)) (partOf s (e .optional)) ≡ drop (tn + 1) s =
-        ap (λ (z : List ℕ). packedBytes (length (partOf s (e .types))) ++ z) x₅
-        ∙ ap (λ (k : ℕ). packedBytes k ++ drop (e .types .start) s) ly
-        ∙ sym (packed-split s (tn + 1) (e .types .len) (e .types .start) h (l .columns .count) (c .count)) in
+    ap (λ (z : List ℕ). packedBytes (length (partOf s (e .types))) ++ z) x₅
+    ∙ ap (λ (k : ℕ). packedBytes k ++ drop (e .types .start) s) ly
+    ∙ sym (packed-split s (tn + 1) (e .types .len) (e .types .start) h (l .columns .count) (c .count)) in
     let x₃ : nameBytes (partOf s (e .table)) ++ columnBytes (partOf s (e .types)) (partOf s (e .metadata)) (partOf s (e .bits)) (partOf s (e .optional)) ≡ drop (dn + 1) s =
-        ap (λ (z : List ℕ). nameBytes (partOf s (e .table)) ++ z) x₄ ∙ sym (name-split s (dn + 1) (e .table) (l .names .two) (omega (arith, w .types)) (c .table)) in
+    ap (λ (z : List ℕ). nameBytes (partOf s (e .table)) ++ z) x₄ ∙ sym (name-split s (dn + 1) (e .table) (l .names .two) (omega (arith, w .types)) (c .table)) in
     let x₂ : behindFlags (partsOf s e) ≡ drop 8 s =
-        ap (λ (z : List ℕ). nameBytes (partOf s (e .database)) ++ z) x₃ ∙ sym (name-split s 8 (e .database) (l .names .one) (omega (arith, w .table)) (c .database)) in
+    ap (λ (z : List ℕ). nameBytes (partOf s (e .database)) ++ z) x₃ ∙ sym (name-split s 8 (e .database) (l .names .one) (omega (arith, w .table)) (c .database)) in
     let x₁ : leBytes 2 (e .flags) ++ behindFlags (partsOf s e) ≡ drop 6 s =
-        ap (λ (z : List ℕ). leBytes 2 (e .flags) ++ z) x₂
-        ∙ ap (λ (k : ℕ). leBytes 2 k ++ drop 8 s) (l .flags)
-        ∙ sym (number-split s 6 2 h (omega (arith, w .database))) in
+    ap (λ (z : List ℕ). leBytes 2 (e .flags) ++ z) x₂
+    ∙ ap (λ (k : ℕ). leBytes 2 k ++ drop 8 s) (l .flags)
+    ∙ sym (number-split s 6 2 h (omega (arith, w .database))) in
     ap (λ (z : List ℕ). leBytes 6 (e .id) ++ z) x₁
     ∙ ap (λ (k : ℕ). leBytes 6 k ++ drop 6 s) (l .id)
     ∙ sym (number-split s 0 6 h (omega (arith, w .database)))
@@ -137,8 +137,8 @@ same-six s postHeader e h r i q =
     let p₀ = o .optional in
     let n₀ = o .ends in
     let a : length s ≡ 12 + e .database .len + e .table .len
-        + (length (packedBytes (e .types .len)) + (e .types .len + (length (packedBytes (e .metadata .len)) + (e .metadata .len + (e .bits .len + e .optional .len))))) =
-        ap length (sym q) ∙ again-length s e w in
+    + (length (packedBytes (e .types .len)) + (e .types .len + (length (packedBytes (e .metadata .len)) + (e .metadata .len + (e .bits .len + e .optional .len))))) =
+    ap length (sym q) ∙ again-length s e w in
     let y = read-shortest s (e .table .start + e .table .len + 1) (e .types .len) (e .types .start) h (l .columns .count) in
     let m = read-shortest s (e .types .start + e .types .len) (e .metadata .len) (e .metadata .start) h (l .columns .announced) in
     let ld : length (p .database) ≡ e .database .len = part-length s (e .database) (w .database) in
@@ -179,7 +179,7 @@ no-flags s e h l i f t =
     let b₆ : e .id < 256 ^ 6 = wider 4 6 (e .id) (omega arith) (subst (λ (k : ℕ). k < 256 ^ 4) (sym i) b) in
     let v : leValue (take 6 s) ≡ e .id = ap leValue t ∙ le-back 6 (e .id) b₆ in
     let j : leValue (take 6 s) ≡ leValue (take 4 s) + 4294967296 * leValue (take 2 (drop 4 s)) =
-        ap leValue (take-add 4 2 s) ∙ le-join (take 4 s) (take 2 (drop 4 s)) ∙ ap (λ (k : ℕ). leValue (take 4 s) + 256 ^ k * leValue (take 2 (drop 4 s))) n in
+    ap leValue (take-add 4 2 s) ∙ le-join (take 4 s) (take 2 (drop 4 s)) ∙ ap (λ (k : ℕ). leValue (take 4 s) + 256 ^ k * leValue (take 2 (drop 4 s))) n in
     omega arith
 
 -- what was read with an id of 4 bytes is never written again as it was: all of it would be zero up to the optional bytes, which would stand 2 further on
@@ -188,7 +188,7 @@ never-four s e h l o w q =
     let p = partsOf s e in
     let b = columnBytes (p .types) (p .metadata) (p .bits) (p .optional) in
     let f₀ : From s 0 (leBytes 6 (e .id) ++ (leBytes 2 (e .flags) ++ behindFlags p)) =
-        subst (λ (z : List ℕ). From z 0 (leBytes 6 (e .id) ++ (leBytes 2 (e .flags) ++ behindFlags p))) q (from-id p) in
+    subst (λ (z : List ℕ). From z 0 (leBytes 6 (e .id) ++ (leBytes 2 (e .flags) ++ behindFlags p))) q (from-id p) in
     let f₁ : From s 6 (leBytes 2 (e .flags) ++ behindFlags p) = subst (λ (z : List ℕ). From z 6 (leBytes 2 (e .flags) ++ behindFlags p)) q (from-flags p) in
     let d₀ : e .database .start ≡ 7 = o .database in
     let t₀ = o .table in
@@ -212,22 +212,22 @@ never-four s e h l o w q =
     let g₁₀ : getD s (e .table .start + e .table .len + 1) 0 ≡ 0 = ap (λ (k : ℕ). getD s k 0) a₁₀ ∙ y .0 ∙ lt ∙ t in
     let m₁ = read-moves s (e .table .start + e .table .len + 1) (e .types .len) (e .types .start) (l .columns .count) in
     let c : _≡_ {A = ℕ × ℕ} (e .types .len, e .types .start) (0, e .table .start + e .table .len + 1 + 1) =
-        same-ok (sym (l .columns .count) ∙ packed-zero s (e .table .start + e .table .len + 1) (omega arith) g₁₀) in
+    same-ok (sym (l .columns .count) ∙ packed-zero s (e .table .start + e .table .len + 1) (omega arith) g₁₀) in
     let cl : e .types .len ≡ 0 = ap (λ (v : ℕ × ℕ). v .0) c in
     let cs : e .types .start ≡ e .table .start + e .table .len + 1 + 1 = ap (λ (v : ℕ × ℕ). v .1) c in
     let a₁₁ : e .types .start + e .types .len ≡ 8 + 1 + length (p .database) + 1 + 1 + length (p .table) = omega arith in
     let g₁₁ : getD s (e .types .start + e .types .len) 0 ≡ 0 = ap (λ (k : ℕ). getD s k 0) a₁₁ ∙ from-first 0 b (n .4) in
     let m₂ = read-moves s (e .types .start + e .types .len) (e .metadata .len) (e .metadata .start) (l .columns .announced) in
     let u : _≡_ {A = ℕ × ℕ} (e .metadata .len, e .metadata .start) (0, e .types .start + e .types .len + 1) =
-        same-ok (sym (l .columns .announced) ∙ packed-zero s (e .types .start + e .types .len) (omega arith) g₁₁) in
+    same-ok (sym (l .columns .announced) ∙ packed-zero s (e .types .start + e .types .len) (omega arith) g₁₁) in
     let ul : e .metadata .len ≡ 0 = ap (λ (v : ℕ × ℕ). v .0) u in
     let us : e .metadata .start ≡ e .types .start + e .types .len + 1 = ap (λ (v : ℕ × ℕ). v .1) u in
     let k₁ : length (packedBytes (e .types .len)) ≡ 1 = ap (λ (v : ℕ). length (packedBytes v)) cl ∙ one-byte in
     let k₂ : length (packedBytes (e .metadata .len)) ≡ 1 = ap (λ (v : ℕ). length (packedBytes v)) ul ∙ one-byte in
     let bl : e .bits .len ≡ 0 = l .columns .bits-len ∙ ap bytesFor cl in
     let a : length s ≡ 12 + e .database .len + e .table .len
-        + (length (packedBytes (e .types .len)) + (e .types .len + (length (packedBytes (e .metadata .len)) + (e .metadata .len + (e .bits .len + e .optional .len))))) =
-        ap length (sym q) ∙ again-length s e w in
+    + (length (packedBytes (e .types .len)) + (e .types .len + (length (packedBytes (e .metadata .len)) + (e .metadata .len + (e .bits .len + e .optional .len))))) =
+    ap length (sym q) ∙ again-length s e w in
     omega arith
 
 -- what is written again as it was is as a writer writes it

@@ -1,8 +1,8 @@
 -- The laws of the crate. `Chains`: the parts of an event that was read stand in order, end to end, within it. `Puts`: parts written one behind the other.
 -- `Trips`: what is written is read back. `Canon`: what is read and written again is the same exactly if it was as a writer writes it. `Answers`: which
 -- refusals reading gives, and that no two answers look the same on paper. `Steps`: a step of a walk, whatever the rule. `Items`: the items of lists move,
--- and which refusals they give. `Walks`: a walk and its steps. `Optional`: the optional fields. `Views`: no two steps look the same on paper. `Examples`:
--- walks computed.
+-- and which refusals they give. `Walks`: a walk and its steps. `Optional`: the optional fields. `Views`: no two steps look the same on paper. `Worked` and
+-- `Examples`: events and walks, computed.
 pub mod Chains
 pub mod Puts
 pub mod Trips
@@ -13,4 +13,5 @@ pub mod Items
 pub mod Walks
 pub mod Optional
 pub mod Views
-pub mod Examples
+mod Worked
+mod Examples

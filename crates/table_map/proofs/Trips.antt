@@ -1,25 +1,29 @@
--- The event both ways: what is written is read back, part by part. Assumes nothing.
+-- The event both ways: what is written is read back, part by part, also from the buffer that it was written into. Assumes nothing.
 use Prim.Native.Nat.{ℕ, _+_, _-_, _^_, _≤_, _<_}
 use mathlib.Core.Path.{_≡_, refl, sym, ap, subst, _∙_}
 use mathlib.Core.List.{List, [], _∷_, _++_, append-assoc}
 use mathlib.Core.Bool.{true}
 use native.Mathlib.Nat.{add-zero}
 use native.Mathlib.Omega.{arith}
-use borrow.Author.Tests.{le-leb}
+use borrow.Author.Tests.{le-leb, leb-true}
 use lib.ListN.{length, getD, take, drop, length-append, take-append-drop}
 use lib.Seq.{length-take-le, take-length, getD-drop, drop-drop, take-at, drop-at}
-use Rattle.wire.specs.Outcome.{ok}
+use lib.Dec.{leb}
+use Rattle.wire.specs.Outcome.{ok, why}
 use Rattle.wire.specs.Number.{leValue, leBytes}
 use Rattle.wire.specs.Packed.{readPacked, packedBytes}
+use Rattle.wire.specs.Stored.{store, stored}
+use Rattle.wire.proofs.Outcomes.{by-test, test-is-ok, ok-not-refused}
+use Rattle.wire.proofs.Stores.{stored-part}
 use Rattle.wire.proofs.Bytes.{leBytes-length}
 use Rattle.wire.proofs.Inverse.{le-back}
 use Rattle.wire.proofs.Forms.{read-back}
 use Rattle.table_map.specs.declared.event.Event.{Event}
 use Rattle.table_map.specs.Parts.{part, partOf, bytesFor, within, shortPart, longPart}
 use Rattle.table_map.specs.Events.{readNames, readColumns, readEvent}
-use Rattle.table_map.specs.Writes.{Parts, nameBytes, eventBytes, isEvent, columnBytes}
+use Rattle.table_map.specs.Writes.{Parts, nameBytes, eventBytes, isEvent, writeEvent, eventSize, columnBytes}
 use Rattle.table_map.specs.Canonical.{partsOf}
-use Rattle.table_map.proofs.Puts.{taken}
+use Rattle.table_map.proofs.Puts.{taken, size-is}
 
 -- from `at` on, s is rest
 pub record From (s : List ℕ) (at : ℕ) (rest : List ℕ) : Type 0 where
@@ -81,12 +85,13 @@ names-back database table b {s} {at} f =
     let f₁ : From s (m + 1) (nameBytes table ++ b) = from-more (0 ∷ []) (nameBytes table ++ b) 1 refl (x .3) in
     let y = short-back table b f₁ in
     let n = m + 1 + 1 + length table in
-    let w₂ : within s n 1 n ≡ ok (n + 1) = from-within (0 ∷ []) b 1 n refl (y .3) in
-    (rw (x .1, w₁, y .1, w₂),
-    from-part database (0 ∷ (nameBytes table ++ b)) (length database) refl (x .2),
-    from-part table (0 ∷ b) (length table) refl (y .2),
-    f₁,
-    y .3)
+    let w₂ : within s n 1 n ≡ ok (n + 1) = from-within (0 ∷ []) b 1 n refl (y .3) in (
+      rw (x .1, w₁, y .1, w₂),
+      from-part database (0 ∷ (nameBytes table ++ b)) (length database) refl (x .2),
+      from-part table (0 ∷ b) (length table) refl (y .2),
+      f₁,
+      y .3,
+    )
 
 -- ---- columns
 long-back : (bytes b : List ℕ) {s : List ℕ} {at : ℕ} → length bytes < 2 ^ 64 → From s at (packedBytes (length bytes) ++ (bytes ++ b))
@@ -133,12 +138,13 @@ columns-back p {s} {at} h k l f =
     let m = long-back (p .metadata) r₂ k f₂ in
     let b = bitsAt at p in
     let f₃ : From s b r₂ = from-more (p .metadata) r₂ (length (p .metadata)) refl (m .1) in
-    let w₂ : within s b (bytesFor (length (p .types))) b ≡ ok (b + bytesFor (length (p .types))) = from-within (p .bits) (p .optional) (bytesFor (length (p .types))) b l f₃ in
-    (rw (n, w₁, m .0, w₂),
-    from-part (p .types) r₁ (length (p .types)) refl f₁,
-    from-part (p .metadata) r₂ (length (p .metadata)) refl (m .1),
-    from-part (p .bits) (p .optional) (bytesFor (length (p .types))) l f₃,
-    from-more (p .bits) (p .optional) (bytesFor (length (p .types))) l f₃)
+    let w₂ : within s b (bytesFor (length (p .types))) b ≡ ok (b + bytesFor (length (p .types))) = from-within (p .bits) (p .optional) (bytesFor (length (p .types))) b l f₃ in (
+      rw (n, w₁, m .0, w₂),
+      from-part (p .types) r₁ (length (p .types)) refl f₁,
+      from-part (p .metadata) r₂ (length (p .metadata)) refl (m .1),
+      from-part (p .bits) (p .optional) (bytesFor (length (p .types))) l f₃,
+      from-more (p .bits) (p .optional) (bytesFor (length (p .types))) l f₃,
+    )
 
 -- ---- the event
 abbrev pub behindFlags : Parts → List ℕ
@@ -166,26 +172,57 @@ write-read p t g h k =
     let w₁ : within s 0 6 0 ≡ ok 6 = from-within (leBytes 6 (p .id)) (leBytes 2 (p .flags) ++ behindFlags p) 6 0 (leBytes-length 6 (p .id)) f₀ in
     let w₂ : within s 6 2 6 ≡ ok 8 = from-within (leBytes 2 (p .flags)) (behindFlags p) 2 6 (leBytes-length 2 (p .flags)) f₁ in
     let i : leValue (take 6 s) ≡ p .id =
-        ap leValue (from-part (leBytes 6 (p .id)) (leBytes 2 (p .flags) ++ behindFlags p) 6 (leBytes-length 6 (p .id)) f₀) ∙ le-back 6 (p .id) (q .id) in
+    ap leValue (from-part (leBytes 6 (p .id)) (leBytes 2 (p .flags) ++ behindFlags p) 6 (leBytes-length 6 (p .id)) f₀) ∙ le-back 6 (p .id) (q .id) in
     let j : leValue (take 2 (drop 6 s)) ≡ p .flags =
-        ap leValue (from-part (leBytes 2 (p .flags)) (behindFlags p) 2 (leBytes-length 2 (p .flags)) f₁) ∙ le-back 2 (p .flags) g in
+    ap leValue (from-part (leBytes 2 (p .flags)) (behindFlags p) 2 (leBytes-length 2 (p .flags)) f₁) ∙ le-back 2 (p .flags) g in
     let n = names-back (p .database) (p .table) (columnBytes (p .types) (p .metadata) (p .bits) (p .optional)) (from-names p) in
     let at = 8 + 1 + length (p .database) + 1 + 1 + length (p .table) + 1 in
     let f₂ : From s at (columnBytes (p .types) (p .metadata) (p .bits) (p .optional)) =
-        from-more (0 ∷ []) (columnBytes (p .types) (p .metadata) (p .bits) (p .optional)) 1 refl (n .4) in
+    from-more (0 ∷ []) (columnBytes (p .types) (p .metadata) (p .bits) (p .optional)) 1 refl (n .4) in
     let m = columns-back p h k (q .bits) f₂ in
     let z : length s - restAt at p ≡ length (p .optional) = omega (arith, m .4 .ends) in
     let y : take (length s - restAt at p) (drop (restAt at p) s) ≡ p .optional =
-        ap (λ (b : ℕ). take b (drop (restAt at p) s)) z ∙ ap (take (length (p .optional))) (m .4 .is) ∙ take-length (p .optional) in
-    (record {
-      id = leValue (take 6 s);
-      flags = leValue (take 2 (drop 6 s));
-      database = part (8 + 1) (length (p .database));
-      table = part (8 + 1 + length (p .database) + 1 + 1) (length (p .table));
-      types = part (typesAt at p) (length (p .types));
-      metadata = part (metadataAt at p) (length (p .metadata));
-      bits = part (bitsAt at p) (bytesFor (length (p .types)));
-      optional = part (restAt at p) (length s - restAt at p);
-    },
-    rw (w₁, w₂, n .0, m .0),
-    rw (i, j, n .1, n .2, m .1, m .2, m .3, y))
+    ap (λ (b : ℕ). take b (drop (restAt at p) s)) z ∙ ap (take (length (p .optional))) (m .4 .is) ∙ take-length (p .optional) in (
+      record {
+        id = leValue (take 6 s);
+        flags = leValue (take 2 (drop 6 s));
+        database = part (8 + 1) (length (p .database));
+        table = part (8 + 1 + length (p .database) + 1 + 1) (length (p .table));
+        types = part (typesAt at p) (length (p .types));
+        metadata = part (metadataAt at p) (length (p .metadata));
+        bits = part (bitsAt at p) (bytesFor (length (p .types)));
+        optional = part (restAt at p) (length s - restAt at p);
+      },
+      rw (w₁, w₂, n .0, m .0),
+      rw (i, j, n .1, n .2, m .1, m .2, m .3, y),
+    )
+
+-- ---- from a buffer
+-- what a write that was done says: the parts are taken, the size is that of the event's bytes, and they stand at the buffer's start
+pub wrote-event : (p : Parts) (d x : List ℕ) (n : ℕ) → writeEvent p d ≡ ok (n, x)
+    → (isEvent p ≡ true) × (length (eventBytes p) ≡ n) × (n ≤ length d) × (take n x ≡ eventBytes p)
+unfolding writeEvent store
+wrote-event p d x n e =
+    by-test (isEvent p) _ _ _ e
+    (λ t e₁.
+    let s = eventBytes p in
+    let y = test-is-ok (leb (0 + length s) (length d)) (0 + length s, stored d 0 s) (why 8 0) (n, x) e₁ in
+    let i : 0 + length s ≡ n = ap (λ (v : ℕ × List ℕ). v .0) (y .1) in
+    let j : stored d 0 s ≡ x = ap (λ (v : ℕ × List ℕ). v .1) (y .1) in
+    let r : 0 + length s ≤ length d = leb-true (0 + length s) (length d) (y .0) in
+    let l : length s ≡ n = omega arith in
+    (t, l, omega arith, ap (take n) (sym j) ∙ ap (λ (k : ℕ). take k (stored d 0 s)) (sym l) ∙ stored-part d 0 s (omega arith)))
+    (λ t e₁. absurd (ok-not-refused (sym e₁)))
+
+-- the size is exactly what is written, in any buffer that holds it
+pub size-written : (p : Parts) (d x : List ℕ) (n : ℕ) → length d < 2 ^ 64 → writeEvent p d ≡ ok (n, x) → eventSize p ≡ ok n
+size-written p d x n h e =
+    let w = wrote-event p d x n e in
+    size-is p n (w .0) (w .1) (omega (arith, w .2))
+
+-- what was written into a buffer is read back from it
+pub buffer-read : (p : Parts) (d x : List ℕ) (n : ℕ) → writeEvent p d ≡ ok (n, x) → p .flags < 2 ^ 16 → length (p .types) < 2 ^ 64 → length (p .metadata) < 2 ^ 64
+    → (e : Event) × (readEvent (take n x) 8 ≡ ok e) × (partsOf (take n x) e ≡ p)
+buffer-read p d x n w g h k =
+    let y = wrote-event p d x n w in
+    subst (λ (s : List ℕ). (e : Event) × (readEvent s 8 ≡ ok e) × (partsOf s e ≡ p)) (sym (y .3)) (write-read p (y .0) g h k)

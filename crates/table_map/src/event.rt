@@ -10,7 +10,7 @@ ghost use Rattle.table_map.specs.Events.{idBytes, readNames, readColumns
 ghost use Rattle.table_map.specs.Reads.{placeOf, announcedOf, partRead, namesOf, columnsOf};
 
 // The post-header length of events whose table id has 4 bytes.
-pub const SHORT_POST_HEADER: u8 = 6;
+const SHORT_POST_HEADER: u8 = 6;
 
 // A part of the lent bytes.
 pub struct Part {

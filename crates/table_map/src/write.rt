@@ -57,11 +57,11 @@ pub fn event_size(
     }
     let lengths = wire::packed_size(types.len() as u64) + wire::packed_size(metadata.len() as u64);
     let head = 12 + database.len() + table.len() + lengths;
-    let most = head + types.len() + bits.len();
-    if !wire::has_room(SIZE_MOST, most, metadata.len()) {
+    let front = head + types.len() + bits.len();
+    if !wire::has_room(SIZE_MOST, front, metadata.len()) {
         return Size::Refused(wire::refuse(NO_ROOM, 0));
     }
-    let body = most + metadata.len();
+    let body = front + metadata.len();
     if !wire::has_room(SIZE_MOST, body, optional.len()) {
         return Size::Refused(wire::refuse(NO_ROOM, 0));
     }

@@ -62,8 +62,8 @@ add-head-3 c = let a = c .before .before .before .before .before .before .before
     let kb : length (a .bits .now) ≡ bytesFor (length (a .types .now)) = k .bits in
     omega (arith, c .before .packed-size .ensures, packed-narrow (length (a .types .now)), c .packed-size2 .ensures, packed-narrow (length (a .metadata .now)))
 
-add-most : tie.Need-add-most
-add-most c = let a = c .before .before .before .before .before .before .before .before .before .before .args in
+add-front : tie.Need-add-front
+add-front c = let a = c .before .before .before .before .before .before .before .before .before .before .args in
     let p = parts (a .id) (a .flags) (a .database .now) (a .table .now) (a .types .now) (a .metadata .now) (a .bits .now) (a .optional .now) in
     let t : isEvent p ≡ true = sym (any-rest (a .id) (a .flags) (a .database .now) (a .table .now) (a .types .now) (a .metadata .now) (a .bits .now) (a .optional .now)) ∙ sym (c .before .before .before .is-event .ensures) ∙ not-false _ (c .before .before .if1 .left) in
     let k = taken p t in
@@ -72,8 +72,8 @@ add-most c = let a = c .before .before .before .before .before .before .before .
     let kb : length (a .bits .now) ≡ bytesFor (length (a .types .now)) = k .bits in
     omega (arith, c .before .packed-size .ensures, packed-narrow (length (a .types .now)), c .packed-size2 .ensures, packed-narrow (length (a .metadata .now)))
 
-add-most-2 : tie.Need-add-most-2
-add-most-2 c = let a = c .before .before .before .before .before .before .before .before .before .before .args in
+add-front-2 : tie.Need-add-front-2
+add-front-2 c = let a = c .before .before .before .before .before .before .before .before .before .before .args in
     let p = parts (a .id) (a .flags) (a .database .now) (a .table .now) (a .types .now) (a .metadata .now) (a .bits .now) (a .optional .now) in
     let t : isEvent p ≡ true = sym (any-rest (a .id) (a .flags) (a .database .now) (a .table .now) (a .types .now) (a .metadata .now) (a .bits .now) (a .optional .now)) ∙ sym (c .before .before .before .is-event .ensures) ∙ not-false _ (c .before .before .if1 .left) in
     let k = taken p t in
@@ -153,8 +153,8 @@ event-size-spec =
     add-head
     add-head-2
     add-head-3
-    add-most
-    add-most-2
+    add-front
+    add-front-2
     has-room-requires
     refuse-requires-2
     returns-2
