@@ -1,11 +1,14 @@
 // The event's parts, as places in the lent bytes (table_map_event.rs: TableMapEvent).
+use crate::part::LongPart;
+use crate::part::bytes_for;
+use crate::part::long_part;
 use wire::Packed;
 use wire::Refusal;
 use wire::refusal::SHORT;
 ghost use mathlib.Core.Path.{_≡_};
 ghost use Prim.Native.Nat.{_+_, _<_, _^_};
 ghost use Rattle.wire.specs.Packed.{readPacked};
-ghost use Rattle.table_map.specs.Parts.{lentPart, bytesFor, within, shortPart, longPart};
+ghost use Rattle.table_map.specs.Parts.{lentPart, within, shortPart};
 ghost use Rattle.table_map.specs.Events.{idBytes, readNames, readColumns, readEvent, eventOf, partIn};
 ghost use Rattle.table_map.specs.Reads.{placeOf, announcedOf, partRead, namesOf, columnsOf};
 
@@ -94,14 +97,6 @@ fn within(s: &[u8], at: usize, n: usize, place: usize) -> Place
     Place::Refused(wire::refuse(SHORT, place))
 }
 
-// How many bytes n bits take.
-pub(crate) fn bytes_for(n: usize) -> usize
-    requires { ⌜ n < 2 ^ 63 ⌝ }
-    ensures { λ r. ⌜ r ≡ bytesFor n ⌝ }
-{
-    (n + 7) / 8
-}
-
 // The packed length at `at`, and the bytes behind it that it announces.
 fn read_length(s: &[u8], at: usize) -> Announced
     ensures { λ r. ⌜ announcedOf r ≡ readPacked (now (s .entry)) at ⌝ }
@@ -132,21 +127,6 @@ fn short_part(s: &[u8], at: usize) -> PartRead
         part: Part { start, len },
         next,
     })
-}
-
-// A part behind a packed length.
-fn long_part(s: &[u8], at: usize) -> PartRead
-    ensures { λ r. ⌜ partRead r ≡ longPart (now (s .entry)) at ⌝ }
-{
-    let part = match read_length(s, at) {
-        Announced::Read(part) => part,
-        Announced::Refused(r) => return PartRead::Refused(r),
-    };
-    let next = match within(s, part.start, part.len, at) {
-        Place::At(next) => next,
-        Place::Refused(r) => return PartRead::Refused(r),
-    };
-    PartRead::Read(Cut { part, next })
 }
 
 fn read_names(s: &[u8], at: usize) -> NamesRead
@@ -189,8 +169,8 @@ fn read_columns(s: &[u8], at: usize) -> ColumnsRead
         Place::Refused(r) => return ColumnsRead::Refused(r),
     };
     let cut = match long_part(s, behind) {
-        PartRead::Read(cut) => cut,
-        PartRead::Refused(r) => return ColumnsRead::Refused(r),
+        LongPart::Read { part, next } => Cut { part, next },
+        LongPart::Refused(r) => return ColumnsRead::Refused(r),
     };
     let start = cut.next;
     let len = bytes_for(types.len);

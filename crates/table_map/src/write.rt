@@ -1,5 +1,5 @@
 // The event written, all or nothing, and its size (table_map_event.rs: MySerialize and BinlogStruct for TableMapEvent).
-use crate::event::bytes_for;
+use crate::part::bytes_for;
 use value::Size;
 use wire::Written;
 use wire::refusal::NO_ROOM;

@@ -1,16 +1,15 @@
 -- `table_map::event::read_columns` meets its contract. Assumes nothing.
 use mathlib.Core.Path.{sym, ap, _∙_}
-use Rattle.table_map.specs.Reads.{announcedOf, partRead, placeOf}
+use Rattle.table_map.specs.Reads.{announcedOf, placeOf}
+use Rattle.table_map.specs.Parts.{longPartOf}
 use Rattle.table_map.specs.Events.{readColumns}
-use Rattle.table_map.proofs.Chains.{within-ok}
-use native.Mathlib.Omega.{arith}
 use borrow.Author.Needs.{needs}
 use Rattle.table_map.proofs.event.read_columns.Statement.{statement}
 use Rattle.table_map.proofs.event.read_columns.Tie as tie
 use Rattle.table_map.proofs.event.read_columns.Reads as reads
 use Rattle.table_map.proofs.event.read_columns.Lts as lts
-use Rattle.table_map.proofs.event.bytes_for.Reads as bytes-for-reads
-use Rattle.table_map.proofs.event.long_part.Reads as long-part-reads
+use Rattle.table_map.proofs.part.bytes_for.Reads as bytes-for-reads
+use Rattle.table_map.proofs.part.long_part.Reads as long-part-reads
 use Rattle.table_map.proofs.event.read_length.Reads as read-length-reads
 use Rattle.table_map.proofs.event.within.Reads as within-reads
 
@@ -43,18 +42,18 @@ returns-2 c = rw (sym (c .before .before .before .before .before .before .before
 long-part-requires : tie.Need-long-part-requires
 long-part-requires c κs = search needs
 
-enum-known-cut : tie.Need-enum-known-cut
-enum-known-cut c = search needs
+enum-known-part-2 : tie.Need-enum-known-part-2
+enum-known-part-2 c = search needs
 
 enum-known-r-3 : tie.Need-enum-known-r-3
 enum-known-r-3 c = search needs
 
 returns-3 : tie.Need-returns-3
 unfolding readColumns
-returns-3 c = rw (sym (c .before .before .before .before .before .before .before .before .before .before .before .read-length .ensures) ∙ ap announcedOf (c .before .before .before .before .before .before .before .before .before .part .given .1), sym (c .before .before .before .before .before .before .before .within .ensures) ∙ ap placeOf (c .before .before .before .before .before .next .given .1), sym (c .before .before .before .long-part .ensures) ∙ ap partRead (c .before .r3 .given .1))
+returns-3 c = rw (sym (c .before .before .before .before .before .before .before .before .before .before .before .read-length .ensures) ∙ ap announcedOf (c .before .before .before .before .before .before .before .before .before .part .given .1), sym (c .before .before .before .before .before .before .before .within .ensures) ∙ ap placeOf (c .before .before .before .before .before .next .given .1), sym (c .before .before .before .long-part .ensures) ∙ ap longPartOf (c .before .r3 .given .1))
 
 bytes-for-requires : tie.Need-bytes-for-requires
-bytes-for-requires c κs = omega (arith, within-ok _ _ _ _ _ (sym (c .before .before .before .before .before .before .before .within .ensures) ∙ ap placeOf (c .before .before .before .before .before .next .given .1)))
+bytes-for-requires c κs = search needs
 
 within-requires-2 : tie.Need-within-requires-2
 within-requires-2 c κs = search needs
@@ -67,11 +66,11 @@ enum-known-r-4 c = search needs
 
 returns-4 : tie.Need-returns-4
 unfolding readColumns
-returns-4 c = rw (sym (c .before .before .before .before .before .before .before .before .before .before .before .before .before .before .before .before .read-length .ensures) ∙ ap announcedOf (c .before .before .before .before .before .before .before .before .before .before .before .before .before .before .part .given .1), sym (c .before .before .before .before .before .before .before .before .before .before .before .before .within .ensures) ∙ ap placeOf (c .before .before .before .before .before .before .before .before .before .before .next .given .1), sym (c .before .before .before .before .before .before .before .before .long-part .ensures) ∙ ap partRead (c .before .before .before .before .before .before .cut .given .1), ← c .before .before .before .before .bytes-for .ensures, sym (c .before .before .before .within2 .ensures) ∙ ap placeOf (c .before .r4 .given .1))
+returns-4 c = rw (sym (c .before .before .before .before .before .before .before .before .before .before .before .before .before .before .before .before .read-length .ensures) ∙ ap announcedOf (c .before .before .before .before .before .before .before .before .before .before .before .before .before .before .part .given .1), sym (c .before .before .before .before .before .before .before .before .before .before .before .before .within .ensures) ∙ ap placeOf (c .before .before .before .before .before .before .before .before .before .before .next .given .1), sym (c .before .before .before .before .before .before .before .before .long-part .ensures) ∙ ap longPartOf (c .before .before .before .before .before .before .part2 .given .1), ← c .before .before .before .before .bytes-for .ensures, sym (c .before .before .before .within2 .ensures) ∙ ap placeOf (c .before .r4 .given .1))
 
 returns-5 : tie.Need-returns-5
 unfolding readColumns
-returns-5 c = rw (sym (c .before .before .before .before .before .before .before .before .before .before .before .before .before .before .before .before .before .read-length .ensures) ∙ ap announcedOf (c .before .before .before .before .before .before .before .before .before .before .before .before .before .before .before .part .given .1), sym (c .before .before .before .before .before .before .before .before .before .before .before .before .before .within .ensures) ∙ ap placeOf (c .before .before .before .before .before .before .before .before .before .before .before .next .given .1), sym (c .before .before .before .before .before .before .before .before .before .long-part .ensures) ∙ ap partRead (c .before .before .before .before .before .before .before .cut .given .1), ← c .before .before .before .before .before .bytes-for .ensures, sym (c .before .before .before .before .within2 .ensures) ∙ ap placeOf (c .before .before .next2 .given .1))
+returns-5 c = rw (sym (c .before .before .before .before .before .before .before .before .before .before .before .before .before .before .before .before .before .read-length .ensures) ∙ ap announcedOf (c .before .before .before .before .before .before .before .before .before .before .before .before .before .before .before .part .given .1), sym (c .before .before .before .before .before .before .before .before .before .before .before .before .before .within .ensures) ∙ ap placeOf (c .before .before .before .before .before .before .before .before .before .before .before .next .given .1), sym (c .before .before .before .before .before .before .before .before .before .long-part .ensures) ∙ ap longPartOf (c .before .before .before .before .before .before .before .part2 .given .1), ← c .before .before .before .before .before .bytes-for .ensures, sym (c .before .before .before .before .within2 .ensures) ∙ ap placeOf (c .before .before .next2 .given .1))
 
 pub read-columns-spec : {M : Type 1} → statement M
 read-columns-spec =
@@ -86,7 +85,7 @@ read-columns-spec =
     enum-known-r-2
     returns-2
     long-part-requires
-    enum-known-cut
+    enum-known-part-2
     enum-known-r-3
     returns-3
     bytes-for-requires
