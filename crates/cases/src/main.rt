@@ -10,6 +10,7 @@ mod room;
 mod slices;
 mod values;
 mod words;
+mod writing;
 
 use input::Next;
 use input::Source;
@@ -118,7 +119,7 @@ fn answer(line: &[u8], arena: &mut [u8], room: &mut [u8], out: &mut [u8], used: 
     if same(word, b"store") {
         return store_case(line, next, arena, room, out, used);
     }
-    answer_map(word, line, next, arena, out, used)
+    answer_map(word, line, next, arena, room, out, used)
 }
 
 // Reads one line, and answers it.

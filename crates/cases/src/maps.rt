@@ -18,6 +18,7 @@ use crate::words::Number;
 use crate::words::is_last;
 use crate::words::read_bytes;
 use crate::words::read_number;
+use crate::writing::write_event_case;
 use table_map::Event;
 use table_map::EventRead;
 use table_map::Part;
@@ -80,11 +81,15 @@ pub(crate) fn answer_map(
     line: &[u8],
     next: usize,
     arena: &mut [u8],
+    room: &mut [u8],
     out: &mut [u8],
     used: usize,
 ) -> usize {
     if same(word, b"event") {
         return event_case(line, next, arena, out, used);
+    }
+    if same(word, b"write-event") {
+        return write_event_case(line, next, arena, room, out, used);
     }
     if same(word, b"fields") {
         return fields_case(Dialect::Document, line, next, arena, out, used);

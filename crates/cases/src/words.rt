@@ -29,6 +29,12 @@ pub(crate) enum Number8 {
     Bad,
 }
 
+// And for one of 16 bits.
+pub(crate) enum Number16 {
+    Found(u16, usize),
+    Bad,
+}
+
 // The place in the arena after the bytes, and that of the next word.
 pub(crate) enum Bytes {
     Found(usize, usize),
@@ -131,6 +137,17 @@ pub(crate) fn read_number8(line: &[u8], at: usize) -> Number8 {
         return Number8::Bad;
     }
     Number8::Found(value as u8, next)
+}
+
+// A number of 16 bits.
+pub(crate) fn read_number16(line: &[u8], at: usize) -> Number16 {
+    let Number::Found(value, next) = read_number(line, at) else {
+        return Number16::Bad;
+    };
+    if value > 65535 {
+        return Number16::Bad;
+    }
+    Number16::Found(value as u16, next)
 }
 
 // The value of a lower-case hex digit.
