@@ -142,10 +142,16 @@ taken p e =
     }
 
 -- flags, metadata and optional bytes are taken whatever they are
-pub any-rest : (id flags : ℕ) (database table types metadata bits optional : List ℕ)
-    → isEvent (parts id 0 database table types [] bits []) ≡ isEvent (parts id flags database table types metadata bits optional)
+pub any-rest : (id flags : ℕ) (database table types metadata bits optional : List ℕ) (b : Bool)
+    → isEvent (parts id 0 database table types [] bits []) ≡ b
+    → isEvent (parts id flags database table types metadata bits optional) ≡ b
 unfolding isEvent
-any-rest id flags database table types metadata bits optional = refl
+any-rest id flags database table types metadata bits optional b e = e
+
+pub narrow : (id : ℕ) (database table types bits : List ℕ)
+    → isEvent (parts id 0 database table types [] bits []) ≡ true
+    → (length database ≤ 255) × (length table ≤ 255) × (length bits ≡ bytesFor (length types))
+narrow id database table types bits e = let k = taken (parts id 0 database table types [] bits []) e in (k .database, k .table, k .bits)
 
 pub size-not-taken : (p : Parts) → isEvent p ≡ false → eventSize p ≡ refuse 13 0
 unfolding eventSize
