@@ -17,9 +17,9 @@ use Rattle.table_map.specs.declared.list.Reached.{Reached}
 use Rattle.table_map.specs.declared.list.Reached.the-variants.{To, Refused as Refused₆}
 use Rattle.table_map.specs.declared.list.DefaultCharset.{DefaultCharset}
 use Rattle.table_map.specs.declared.list.DefaultCharset.the-variants.{Read as Read₇, Refused as Refused₇}
-use Rattle.table_map.specs.declared.part.LongPart.{LongPart}
-use Rattle.table_map.specs.declared.part.LongPart.the-variants.{Read, Refused as Refused₈}
-use Rattle.table_map.specs.Parts.{longPartOf}
+use Rattle.table_map.specs.declared.part.PartRead.{PartRead}
+use Rattle.table_map.specs.declared.part.PartRead.the-variants.{Read, Refused as Refused₈}
+use Rattle.table_map.specs.Parts.{partRead}
 use Rattle.table_map.specs.Lists.{Stepped, end, item, integerOf, pairOf, stringOf, groupOf, reachedOf, charsetOf}
 use Rattle.table_map.specs.Fields.{fieldOf}
 
@@ -94,10 +94,10 @@ charset-way (Refused₇ r) = refl
 pub same-charset : (a b : DefaultCharset) → charsetOf a ≡ charsetOf b → a ≡ b
 same-charset = same-by-back charsetOf (back-read (λ x. Read₇ (x .0) (record { at = x .1 })) Refused₇) charset-way
 
-long-part-way : (a : LongPart) → back-read (λ x. Read (x .0) (x .1)) Refused₈ (longPartOf a) ≡ a
-long-part-way (Read part next) = refl
-long-part-way (Refused₈ r) = refl
+part-read-way : (a : PartRead) → back-read (λ x. Read (x .0) (x .1)) Refused₈ (partRead a) ≡ a
+part-read-way (Read part next) = refl
+part-read-way (Refused₈ r) = refl
 
 -- of parts behind a length
-pub same-long-part : (a b : LongPart) → longPartOf a ≡ longPartOf b → a ≡ b
-same-long-part = same-by-back longPartOf (back-read (λ x. Read (x .0) (x .1)) Refused₈) long-part-way
+pub same-part-read : (a b : PartRead) → partRead a ≡ partRead b → a ≡ b
+same-part-read = same-by-back partRead (back-read (λ x. Read (x .0) (x .1)) Refused₈) part-read-way

@@ -7,8 +7,8 @@ use lib.Dec.{leb}
 use Rattle.wire.specs.Outcome.{Outcome, ok, refused, refuse, after}
 use Rattle.wire.specs.Packed.{readPacked}
 use Rattle.table_map.specs.declared.event.Part.{Part}
-use Rattle.table_map.specs.declared.part.LongPart.{LongPart}
-use Rattle.table_map.specs.declared.part.LongPart.the-variants.{Read, Refused}
+use Rattle.table_map.specs.declared.part.PartRead.{PartRead}
+use Rattle.table_map.specs.declared.part.PartRead.the-variants.{Read, Refused}
 
 abbrev pub part : ℕ → ℕ → Part
 part start len = record { start = start; len = len }
@@ -39,7 +39,7 @@ unfoldable pub longPart : List ℕ → ℕ → Outcome (Part × ℕ)
 unfolding within readPacked
 longPart s at = after (readPacked s at) (λ n. after (within s (n .1) (n .0) at) (λ b. ok (part (n .1) (n .0), b)))
 
--- what the answer of its reader says
-abbrev pub longPartOf : LongPart → Outcome (Part × ℕ)
-longPartOf (Read part next) = ok (part, next)
-longPartOf (Refused r) = refused r
+-- what the answer of a reader of parts says
+abbrev pub partRead : PartRead → Outcome (Part × ℕ)
+partRead (Read part next) = ok (part, next)
+partRead (Refused r) = refused r

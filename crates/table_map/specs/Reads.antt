@@ -6,12 +6,10 @@ use Rattle.table_map.specs.declared.event.Place.{Place}
 use Rattle.table_map.specs.declared.event.Place.the-variants.{At, Refused as Refused₁}
 use Rattle.table_map.specs.declared.event.Announced.{Announced}
 use Rattle.table_map.specs.declared.event.Announced.the-variants.{Read as Read₂, Refused as Refused₂}
-use Rattle.table_map.specs.declared.event.PartRead.{PartRead}
-use Rattle.table_map.specs.declared.event.PartRead.the-variants.{Read as Read₃, Refused as Refused₃}
 use Rattle.table_map.specs.declared.event.NamesRead.{NamesRead}
-use Rattle.table_map.specs.declared.event.NamesRead.the-variants.{Read as Read₄, Refused as Refused₄}
+use Rattle.table_map.specs.declared.event.NamesRead.the-variants.{Read as Read₃, Refused as Refused₃}
 use Rattle.table_map.specs.declared.event.ColumnsRead.{ColumnsRead}
-use Rattle.table_map.specs.declared.event.ColumnsRead.the-variants.{Read as Read₅, Refused as Refused₅}
+use Rattle.table_map.specs.declared.event.ColumnsRead.the-variants.{Read as Read₄, Refused as Refused₄}
 
 abbrev pub placeOf : Place → Outcome ℕ
 placeOf (At next) = ok next
@@ -21,14 +19,10 @@ abbrev pub announcedOf : Announced → Outcome (ℕ × ℕ)
 announcedOf (Read₂ p) = ok (p .len, p .start)
 announcedOf (Refused₂ r) = refused r
 
-abbrev pub partRead : PartRead → Outcome (Part × ℕ)
-partRead (Read₃ c) = ok (c .part, c .next)
-partRead (Refused₃ r) = refused r
-
 abbrev pub namesOf : NamesRead → Outcome (Part × Part × ℕ)
-namesOf (Read₄ n) = ok (n .database, n .table, n .next)
-namesOf (Refused₄ r) = refused r
+namesOf (Read₃ n) = ok (n .database, n .table, n .next)
+namesOf (Refused₃ r) = refused r
 
 abbrev pub columnsOf : ColumnsRead → Outcome (Part × Part × Part × ℕ)
-columnsOf (Read₅ c) = ok (c .types, c .metadata, c .bits, c .next)
-columnsOf (Refused₅ r) = refused r
+columnsOf (Read₄ c) = ok (c .types, c .metadata, c .bits, c .next)
+columnsOf (Refused₄ r) = refused r

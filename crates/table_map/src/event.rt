@@ -1,16 +1,15 @@
 // The event's parts, as places in the lent bytes (table_map_event.rs: TableMapEvent).
-use crate::part::LongPart;
+use crate::part::PartRead;
 use crate::part::bytes_for;
 use crate::part::long_part;
 use wire::Packed;
 use wire::Refusal;
 use wire::refusal::SHORT;
 ghost use mathlib.Core.Path.{_≡_};
-ghost use Prim.Native.Nat.{_+_, _<_, _^_};
 ghost use Rattle.wire.specs.Packed.{readPacked};
-ghost use Rattle.table_map.specs.Parts.{lentPart, within, shortPart};
+ghost use Rattle.table_map.specs.Parts.{lentPart, within, shortPart, partRead};
 ghost use Rattle.table_map.specs.Events.{idBytes, readNames, readColumns, readEvent, eventOf, partIn};
-ghost use Rattle.table_map.specs.Reads.{placeOf, announcedOf, partRead, namesOf, columnsOf};
+ghost use Rattle.table_map.specs.Reads.{placeOf, announcedOf, namesOf, columnsOf};
 
 // The post-header length of events whose table id has 4 bytes.
 const SHORT_POST_HEADER: u8 = 6;
@@ -54,11 +53,6 @@ enum Announced {
 struct Cut {
     part: Part,
     next: usize,
-}
-
-enum PartRead {
-    Read(Cut),
-    Refused(Refusal),
 }
 
 // The names, and the place after the byte behind the second.
@@ -123,17 +117,17 @@ fn short_part(s: &[u8], at: usize) -> PartRead
         Place::At(next) => next,
         Place::Refused(r) => return PartRead::Refused(r),
     };
-    PartRead::Read(Cut {
+    PartRead::Read {
         part: Part { start, len },
         next,
-    })
+    }
 }
 
 fn read_names(s: &[u8], at: usize) -> NamesRead
     ensures { λ r. ⌜ namesOf r ≡ readNames (now (s .entry)) at ⌝ }
 {
     let first = match short_part(s, at) {
-        PartRead::Read(cut) => cut,
+        PartRead::Read { part, next } => Cut { part, next },
         PartRead::Refused(r) => return NamesRead::Refused(r),
     };
     let behind = match within(s, first.next, 1, first.next) {
@@ -141,7 +135,7 @@ fn read_names(s: &[u8], at: usize) -> NamesRead
         Place::Refused(r) => return NamesRead::Refused(r),
     };
     let second = match short_part(s, behind) {
-        PartRead::Read(cut) => cut,
+        PartRead::Read { part, next } => Cut { part, next },
         PartRead::Refused(r) => return NamesRead::Refused(r),
     };
     let next = match within(s, second.next, 1, second.next) {
@@ -169,8 +163,8 @@ fn read_columns(s: &[u8], at: usize) -> ColumnsRead
         Place::Refused(r) => return ColumnsRead::Refused(r),
     };
     let cut = match long_part(s, behind) {
-        LongPart::Read { part, next } => Cut { part, next },
-        LongPart::Refused(r) => return ColumnsRead::Refused(r),
+        PartRead::Read { part, next } => Cut { part, next },
+        PartRead::Refused(r) => return ColumnsRead::Refused(r),
     };
     let start = cut.next;
     let len = bytes_for(types.len);

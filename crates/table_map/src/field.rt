@@ -1,6 +1,6 @@
 // The optional fields, one after the other (table_map_event.rs: OptionalMetadataIter).
 use crate::event::Part;
-use crate::part::LongPart;
+use crate::part::PartRead;
 use crate::part::bytes_for;
 use crate::part::long_part;
 use value::Dialect;
@@ -56,7 +56,7 @@ impl Fields {
             return FieldStep::Refused(wire::refuse(SHORT, at));
         }
         match long_part(optional, at + 1) {
-            LongPart::Read { part, next: behind } => {
+            PartRead::Read { part, next: behind } => {
                 let kind = optional[at];
                 if is_field(kind) {
                     let start = part.start;
@@ -76,7 +76,7 @@ impl Fields {
                 }
                 FieldStep::Refused(wire::refuse(UNKNOWN_FIELD, at))
             }
-            LongPart::Refused(r) => FieldStep::Refused(r),
+            PartRead::Refused(r) => FieldStep::Refused(r),
         }
     }
 }

@@ -1,7 +1,7 @@
 // The lists in optional fields: integers, pairs, strings and groups of strings (table_map_event.rs: IterCharsets, IterNonDefault, IterNames, IterSetStrValues and their like).
 // A cursor is an offset: at the length the list has ended; past it there is no first byte, and the reader of that refuses.
 use crate::event::Part;
-use crate::part::LongPart;
+use crate::part::PartRead;
 use crate::part::long_part;
 use wire::Packed;
 use wire::Refusal;
@@ -98,11 +98,11 @@ impl Strings {
             return StringStep::End;
         }
         match long_part(s, at) {
-            LongPart::Read { part, next } => StringStep::Item {
+            PartRead::Read { part, next } => StringStep::Item {
                 value: part,
                 next: Strings { at: next },
             },
-            LongPart::Refused(r) => StringStep::Refused(r),
+            PartRead::Refused(r) => StringStep::Refused(r),
         }
     }
 }
@@ -161,10 +161,10 @@ fn skip_strings(s: &[u8], at: usize, n: u64) -> Reached
     let mut i: u64 = 0;
     while i < n {
         match long_part(s, place) {
-            LongPart::Read { part: _, next } => {
+            PartRead::Read { part: _, next } => {
                 place = next;
             }
-            LongPart::Refused(r) => return Reached::Refused(r),
+            PartRead::Refused(r) => return Reached::Refused(r),
         }
         i += 1;
     }

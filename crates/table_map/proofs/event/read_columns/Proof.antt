@@ -1,7 +1,7 @@
 -- `table_map::event::read_columns` meets its contract. Assumes nothing.
 use mathlib.Core.Path.{sym, ap, _∙_}
 use Rattle.table_map.specs.Reads.{announcedOf, placeOf}
-use Rattle.table_map.specs.Parts.{longPartOf}
+use Rattle.table_map.specs.Parts.{partRead}
 use Rattle.table_map.specs.Events.{readColumns}
 use borrow.Author.Needs.{needs}
 use Rattle.table_map.proofs.event.read_columns.Statement.{statement}
@@ -50,7 +50,7 @@ enum-known-r-3 c = search needs
 
 returns-3 : tie.Need-returns-3
 unfolding readColumns
-returns-3 c = rw (sym (c .before .before .before .before .before .before .before .before .before .before .before .read-length .ensures) ∙ ap announcedOf (c .before .before .before .before .before .before .before .before .before .part .given .1), sym (c .before .before .before .before .before .before .before .within .ensures) ∙ ap placeOf (c .before .before .before .before .before .next .given .1), sym (c .before .before .before .long-part .ensures) ∙ ap longPartOf (c .before .r3 .given .1))
+returns-3 c = rw (sym (c .before .before .before .before .before .before .before .before .before .before .before .read-length .ensures) ∙ ap announcedOf (c .before .before .before .before .before .before .before .before .before .part .given .1), sym (c .before .before .before .before .before .before .before .within .ensures) ∙ ap placeOf (c .before .before .before .before .before .next .given .1), sym (c .before .before .before .long-part .ensures) ∙ ap partRead (c .before .r3 .given .1))
 
 bytes-for-requires : tie.Need-bytes-for-requires
 bytes-for-requires c κs = search needs
@@ -66,11 +66,11 @@ enum-known-r-4 c = search needs
 
 returns-4 : tie.Need-returns-4
 unfolding readColumns
-returns-4 c = rw (sym (c .before .before .before .before .before .before .before .before .before .before .before .before .before .before .before .before .read-length .ensures) ∙ ap announcedOf (c .before .before .before .before .before .before .before .before .before .before .before .before .before .before .part .given .1), sym (c .before .before .before .before .before .before .before .before .before .before .before .before .within .ensures) ∙ ap placeOf (c .before .before .before .before .before .before .before .before .before .before .next .given .1), sym (c .before .before .before .before .before .before .before .before .long-part .ensures) ∙ ap longPartOf (c .before .before .before .before .before .before .part2 .given .1), ← c .before .before .before .before .bytes-for .ensures, sym (c .before .before .before .within2 .ensures) ∙ ap placeOf (c .before .r4 .given .1))
+returns-4 c = rw (sym (c .before .before .before .before .before .before .before .before .before .before .before .before .before .before .before .before .read-length .ensures) ∙ ap announcedOf (c .before .before .before .before .before .before .before .before .before .before .before .before .before .before .part .given .1), sym (c .before .before .before .before .before .before .before .before .before .before .before .before .within .ensures) ∙ ap placeOf (c .before .before .before .before .before .before .before .before .before .before .next .given .1), sym (c .before .before .before .before .before .before .before .before .long-part .ensures) ∙ ap partRead (c .before .before .before .before .before .before .part2 .given .1), ← c .before .before .before .before .bytes-for .ensures, sym (c .before .before .before .within2 .ensures) ∙ ap placeOf (c .before .r4 .given .1))
 
 returns-5 : tie.Need-returns-5
 unfolding readColumns
-returns-5 c = rw (sym (c .before .before .before .before .before .before .before .before .before .before .before .before .before .before .before .before .before .read-length .ensures) ∙ ap announcedOf (c .before .before .before .before .before .before .before .before .before .before .before .before .before .before .before .part .given .1), sym (c .before .before .before .before .before .before .before .before .before .before .before .before .before .within .ensures) ∙ ap placeOf (c .before .before .before .before .before .before .before .before .before .before .before .next .given .1), sym (c .before .before .before .before .before .before .before .before .before .long-part .ensures) ∙ ap longPartOf (c .before .before .before .before .before .before .before .part2 .given .1), ← c .before .before .before .before .before .bytes-for .ensures, sym (c .before .before .before .before .within2 .ensures) ∙ ap placeOf (c .before .before .next2 .given .1))
+returns-5 c = rw (sym (c .before .before .before .before .before .before .before .before .before .before .before .before .before .before .before .before .before .read-length .ensures) ∙ ap announcedOf (c .before .before .before .before .before .before .before .before .before .before .before .before .before .before .before .part .given .1), sym (c .before .before .before .before .before .before .before .before .before .before .before .before .before .within .ensures) ∙ ap placeOf (c .before .before .before .before .before .before .before .before .before .before .before .next .given .1), sym (c .before .before .before .before .before .before .before .before .before .long-part .ensures) ∙ ap partRead (c .before .before .before .before .before .before .before .part2 .given .1), ← c .before .before .before .before .before .bytes-for .ensures, sym (c .before .before .before .before .within2 .ensures) ∙ ap placeOf (c .before .before .next2 .given .1))
 
 pub read-columns-spec : {M : Type 1} → statement M
 read-columns-spec =

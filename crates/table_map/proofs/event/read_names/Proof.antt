@@ -1,6 +1,7 @@
 -- `table_map::event::read_names` meets its contract. Assumes nothing.
 use mathlib.Core.Path.{sym, ap, _∙_}
-use Rattle.table_map.specs.Reads.{partRead, placeOf}
+use Rattle.table_map.specs.Reads.{placeOf}
+use Rattle.table_map.specs.Parts.{partRead}
 use Rattle.table_map.specs.Events.{readNames}
 use borrow.Author.Needs.{needs}
 use Rattle.table_map.proofs.event.read_names.Statement.{statement}
@@ -13,8 +14,8 @@ use Rattle.table_map.proofs.event.within.Reads as within-reads
 short-part-requires : tie.Need-short-part-requires
 short-part-requires c κs = search needs
 
-enum-known-cut : tie.Need-enum-known-cut
-enum-known-cut c = search needs
+enum-known-part : tie.Need-enum-known-part
+enum-known-part c = search needs
 
 enum-known-r : tie.Need-enum-known-r
 enum-known-r c = search needs
@@ -34,20 +35,20 @@ enum-known-r-2 c = search needs
 
 returns-2 : tie.Need-returns-2
 unfolding readNames
-returns-2 c = rw (sym (c .before .before .before .before .before .before .before .short-part .ensures) ∙ ap partRead (c .before .before .before .before .before .cut .given .1), sym (c .before .before .before .within .ensures) ∙ ap placeOf (c .before .r2 .given .1))
+returns-2 c = rw (sym (c .before .before .before .before .before .before .before .short-part .ensures) ∙ ap partRead (c .before .before .before .before .before .part .given .1), sym (c .before .before .before .within .ensures) ∙ ap placeOf (c .before .r2 .given .1))
 
 short-part-requires-2 : tie.Need-short-part-requires-2
 short-part-requires-2 c κs = search needs
 
-enum-known-cut-2 : tie.Need-enum-known-cut-2
-enum-known-cut-2 c = search needs
+enum-known-part-2 : tie.Need-enum-known-part-2
+enum-known-part-2 c = search needs
 
 enum-known-r-3 : tie.Need-enum-known-r-3
 enum-known-r-3 c = search needs
 
 returns-3 : tie.Need-returns-3
 unfolding readNames
-returns-3 c = rw (sym (c .before .before .before .before .before .before .before .before .before .before .before .short-part .ensures) ∙ ap partRead (c .before .before .before .before .before .before .before .before .before .cut .given .1), sym (c .before .before .before .before .before .before .before .within .ensures) ∙ ap placeOf (c .before .before .before .before .before .next .given .1), sym (c .before .before .before .short-part2 .ensures) ∙ ap partRead (c .before .r3 .given .1))
+returns-3 c = rw (sym (c .before .before .before .before .before .before .before .before .before .before .before .short-part .ensures) ∙ ap partRead (c .before .before .before .before .before .before .before .before .before .part .given .1), sym (c .before .before .before .before .before .before .before .within .ensures) ∙ ap placeOf (c .before .before .before .before .before .next .given .1), sym (c .before .before .before .short-part2 .ensures) ∙ ap partRead (c .before .r3 .given .1))
 
 within-requires-2 : tie.Need-within-requires-2
 within-requires-2 c κs = search needs
@@ -60,18 +61,18 @@ enum-known-r-4 c = search needs
 
 returns-4 : tie.Need-returns-4
 unfolding readNames
-returns-4 c = rw (sym (c .before .before .before .before .before .before .before .before .before .before .before .before .before .before .before .short-part .ensures) ∙ ap partRead (c .before .before .before .before .before .before .before .before .before .before .before .before .before .cut .given .1), sym (c .before .before .before .before .before .before .before .before .before .before .before .within .ensures) ∙ ap placeOf (c .before .before .before .before .before .before .before .before .before .next .given .1), sym (c .before .before .before .before .before .before .before .short-part2 .ensures) ∙ ap partRead (c .before .before .before .before .before .cut2 .given .1), sym (c .before .before .before .within2 .ensures) ∙ ap placeOf (c .before .r4 .given .1))
+returns-4 c = rw (sym (c .before .before .before .before .before .before .before .before .before .before .before .before .before .before .before .short-part .ensures) ∙ ap partRead (c .before .before .before .before .before .before .before .before .before .before .before .before .before .part .given .1), sym (c .before .before .before .before .before .before .before .before .before .before .before .within .ensures) ∙ ap placeOf (c .before .before .before .before .before .before .before .before .before .next .given .1), sym (c .before .before .before .before .before .before .before .short-part2 .ensures) ∙ ap partRead (c .before .before .before .before .before .part2 .given .1), sym (c .before .before .before .within2 .ensures) ∙ ap placeOf (c .before .r4 .given .1))
 
 returns-5 : tie.Need-returns-5
 unfolding readNames
-returns-5 c = rw (sym (c .before .before .before .before .before .before .before .before .before .before .before .before .before .before .before .before .before .short-part .ensures) ∙ ap partRead (c .before .before .before .before .before .before .before .before .before .before .before .before .before .before .before .cut .given .1), sym (c .before .before .before .before .before .before .before .before .before .before .before .before .before .within .ensures) ∙ ap placeOf (c .before .before .before .before .before .before .before .before .before .before .before .next .given .1), sym (c .before .before .before .before .before .before .before .before .before .short-part2 .ensures) ∙ ap partRead (c .before .before .before .before .before .before .before .cut2 .given .1), sym (c .before .before .before .before .before .within2 .ensures) ∙ ap placeOf (c .before .before .before .next2 .given .1))
+returns-5 c = rw (sym (c .before .before .before .before .before .before .before .before .before .before .before .before .before .before .before .before .before .short-part .ensures) ∙ ap partRead (c .before .before .before .before .before .before .before .before .before .before .before .before .before .before .before .part .given .1), sym (c .before .before .before .before .before .before .before .before .before .before .before .before .before .within .ensures) ∙ ap placeOf (c .before .before .before .before .before .before .before .before .before .before .before .next .given .1), sym (c .before .before .before .before .before .before .before .before .before .short-part2 .ensures) ∙ ap partRead (c .before .before .before .before .before .before .before .part2 .given .1), sym (c .before .before .before .before .before .within2 .ensures) ∙ ap placeOf (c .before .before .before .next2 .given .1))
 
 pub read-names-spec : {M : Type 1} → statement M
 read-names-spec =
     tie.close
     (tie.spec
     short-part-requires
-    enum-known-cut
+    enum-known-part
     enum-known-r
     returns
     within-requires
@@ -79,7 +80,7 @@ read-names-spec =
     enum-known-r-2
     returns-2
     short-part-requires-2
-    enum-known-cut-2
+    enum-known-part-2
     enum-known-r-3
     returns-3
     within-requires-2

@@ -5,7 +5,7 @@ use Prim.Native.Nat.{_-_, _≤_}
 use mathlib.Core.Path.{_≡_}
 use native.Mathlib.Nat.{sub-zero}
 use native.Mathlib.Omega.{arith}
-use Rattle.table_map.specs.Parts.{longPartOf}
+use Rattle.table_map.specs.Parts.{partRead}
 use Rattle.table_map.specs.Lists.{strings}
 use Rattle.table_map.proofs.Items.{strings-turn, strings-none}
 use borrow.Author.Needs.{needs}
@@ -37,7 +37,7 @@ returns : tie.Need-returns Inv-loop μ-loop
 returns c = rw (
   ← (c .before .before .before .before .before .loop .inv .1),
   strings-turn _ _ _ _ (c .before .before .before .before .loop-test .taken),
-  sym (c .before .before .before .long-part .ensures) ∙ ap longPartOf (c .before .r .given .1),
+  sym (c .before .before .before .long-part .ensures) ∙ ap partRead (c .before .r .given .1),
 )
 
 add-i : tie.Need-add-i Inv-loop μ-loop
@@ -52,7 +52,7 @@ loop-again c = (
   rw (
     ← (c .before .before .before .before .before .loop .inv .1),
     strings-turn _ _ _ _ (c .before .before .before .before .loop-test .taken),
-    sym (c .before .before .before .long-part .ensures) ∙ ap longPartOf (c .before .next .given .1),
+    sym (c .before .before .before .long-part .ensures) ∙ ap partRead (c .before .next .given .1),
   ),
 )
 

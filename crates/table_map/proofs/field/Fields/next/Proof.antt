@@ -4,7 +4,7 @@ use Prim.Native.Nat.{_+_, _-_, _<_}
 use native.Mathlib.Omega.{arith}
 use lib.ListN.{length}
 use Rattle.wire.specs.Outcome.{ok}
-use Rattle.table_map.specs.Parts.{longPart, longPartOf}
+use Rattle.table_map.specs.Parts.{longPart, partRead}
 use Rattle.table_map.specs.Fields.{fieldStep, fieldItem}
 use Rattle.table_map.proofs.Steps.{step-end, step-past}
 use Rattle.table_map.proofs.Items.{long-moves}
@@ -24,7 +24,7 @@ met : (c : tie.After-part)
     → (c .before .before .before .before .before .before .args .self .at < length (c .before .before .before .before .before .before .args .optional .now))
     × (longPart (c .before .before .before .before .before .before .args .optional .now) (c .before .before .before .before .before .before .args .self .at + 1)
     ≡ ok (c .part .given .0 .0, c .part .given .0 .1 .0))
-met c = (omega arith, sym (c .before .before .long-part .ensures) ∙ ap longPartOf (c .part .given .1))
+met c = (omega arith, sym (c .before .before .long-part .ensures) ∙ ap partRead (c .part .given .1))
 
 returns : tie.Need-returns
 unfolding fieldStep
@@ -115,7 +115,7 @@ returns-6 : tie.Need-returns-6
 returns-6 c =
     let a = c .before .before .before .before .before .before .before .args in
     let h : a .self .at < length (a .optional .now) = omega arith in
-    sym (no-value (a .self) _ _ h (sym (c .before .before .before .long-part .ensures) ∙ ap longPartOf (c .before .r .given .1)))
+    sym (no-value (a .self) _ _ h (sym (c .before .before .before .long-part .ensures) ∙ ap partRead (c .before .r .given .1)))
 
 pub next-spec : {M : Type 1} → statement M
 next-spec =
