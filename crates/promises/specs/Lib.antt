@@ -1,3 +1,5 @@
--- The statements that the port is to be judged by. `Readings`: the worked readings of document 01. `Values`: one stored value of a column.
+-- The statements that the port is to be judged by. `Readings`: the worked readings of document 01. `Values`: one stored value of a column. `Events`: the
+-- event's two round trips.
 pub mod Readings
 pub mod Values
+pub mod Events

@@ -5,7 +5,7 @@ use mathlib.Core.List.{List, [], _∷_, _++_, append-assoc}
 use native.Mathlib.Numerals.{add-one}
 use mathlib.Core.Bool.{Bool, true, false}
 use native.Mathlib.Omega.{arith}
-use borrow.Author.Tests.{lt-leb}
+use borrow.Author.Tests.{lt-leb, le-leb, lt-ltb, eq-eqb}
 use lib.ListN.{length, getD, take, drop, length-drop, take-append-drop}
 use lib.Seq.{length-take-le, take-all, drop-drop, drop-cons, take-add}
 use lib.Dec.{eqb}
@@ -20,7 +20,7 @@ use Rattle.table_map.specs.declared.event.Part.{Part}
 use Rattle.table_map.specs.declared.event.Event.{Event}
 use Rattle.table_map.specs.Parts.{partOf, bytesFor}
 use Rattle.table_map.specs.Events.{idBytes, readEvent}
-use Rattle.table_map.specs.Writes.{Parts, nameBytes, eventBytes, columnBytes}
+use Rattle.table_map.specs.Writes.{Parts, nameBytes, eventBytes, columnBytes, isEvent}
 use Rattle.table_map.specs.Canonical.{partsOf, Canonical}
 use Rattle.table_map.proofs.Chains.{Named, Laid, laid, Within, each-within, Ordered, parts-within}
 use Rattle.table_map.proofs.Puts.{event-length}
@@ -171,11 +171,17 @@ zero-bytes b {s} {at} {flags} z f =
     let g : From s at (0 ∷ (0 ∷ b)) = subst (λ (v : ℕ). From s at (leBytes 2 v ++ b)) z f in
     from-first 0 (0 ∷ b) g
 
+-- a number of so many bytes is below their power
+first-bound : (s : List ℕ) (k : ℕ) → Bytes s → k ≤ length s → leValue (take k s) < 256 ^ k
+first-bound s k h l =
+    let n : length (take k s) ≡ k = length-take-le k s l in
+    subst (λ (j : ℕ). leValue (take k s) < 256 ^ j) n (le-bound (take k s) (bytes-take k s h))
+
 -- an id of 4 bytes and the flags, read again as one of 6: so the flags are 0
 no-flags : (s : List ℕ) (e : Event) → Bytes s → 4 ≤ length s → e .id ≡ leValue (take 4 s) → e .flags ≡ leValue (take 2 (drop 4 s)) → take 6 s ≡ leBytes 6 (e .id) → e .flags ≡ 0
 no-flags s e h l i f t =
     let n : length (take 4 s) ≡ 4 = length-take-le 4 s l in
-    let b : leValue (take 4 s) < 256 ^ 4 = subst (λ (k : ℕ). leValue (take 4 s) < 256 ^ k) n (le-bound (take 4 s) (bytes-take 4 s h)) in
+    let b : leValue (take 4 s) < 256 ^ 4 = first-bound s 4 h l in
     let b₆ : e .id < 256 ^ 6 = wider 4 6 (e .id) (omega arith) (subst (λ (k : ℕ). k < 256 ^ 4) (sym i) b) in
     let v : leValue (take 6 s) ≡ e .id = ap leValue t ∙ le-back 6 (e .id) b₆ in
     let j : leValue (take 6 s) ≡ leValue (take 4 s) + 4294967296 * leValue (take 2 (drop 4 s)) =
@@ -243,6 +249,34 @@ same-canonical s postHeader e h r q = go (eqb postHeader 6) refl
     go false t =
         let i : idBytes postHeader ≡ 6 = rw t in
         same-six s postHeader e h r i q
+
+-- ---- whatever was read, the writer takes
+id-fits : (s : List ℕ) (postHeader : ℕ) → Bytes s → idBytes postHeader ≤ length s → leValue (take (idBytes postHeader) s) < 2 ^ 48
+id-fits s postHeader h l = go (eqb postHeader 6) refl
+  where
+    go : (t : Bool) → eqb postHeader 6 ≡ t → leValue (take (idBytes postHeader) s) < 2 ^ 48
+    go true t =
+        let i : idBytes postHeader ≡ 4 = rw t in
+        rw i (omega (arith, first-bound s 4 h (omega arith)))
+    go false t =
+        let i : idBytes postHeader ≡ 6 = rw t in
+        rw i (omega (arith, first-bound s 6 h (omega arith)))
+
+pub read-taken : (s : List ℕ) (postHeader : ℕ) (e : Event) → Bytes s → readEvent s postHeader ≡ ok e → isEvent (partsOf s e) ≡ true
+unfolding isEvent
+read-taken s postHeader e h r =
+    let l = laid s postHeader e r in
+    let o = parts-within s postHeader e r in
+    let w = each-within s postHeader e r in
+    let wd = w .database in
+    let od = o .database in
+    let i : e .id < 2 ^ 48 = subst (λ (v : ℕ). v < 2 ^ 48) (sym (l .id)) (id-fits s postHeader h (omega arith)) in
+    let d : length (partOf s (e .database)) ≤ 255 = omega (arith, part-length s (e .database) (w .database), l .names .one .len, h (idBytes postHeader + 2)) in
+    let t : length (partOf s (e .table)) ≤ 255 =
+    omega (arith, part-length s (e .table) (w .table), l .names .two .len, h (e .database .start + e .database .len + 1)) in
+    let b : length (partOf s (e .bits)) ≡ bytesFor (length (partOf s (e .types))) =
+    part-length s (e .bits) (w .bits) ∙ l .columns .bits-len ∙ ap bytesFor (sym (part-length s (e .types) (w .types))) in
+    rw (lt-ltb _ _ i, le-leb _ _ d, le-leb _ _ t, eq-eqb _ _ b)
 
 -- both ways
 pub read-write : (s : List ℕ) (postHeader : ℕ) (e : Event) → Bytes s → readEvent s postHeader ≡ ok e
