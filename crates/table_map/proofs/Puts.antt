@@ -1,8 +1,8 @@
 -- Writing parts one behind the other: a chain of writes is one write, and what the size says of it. Assumes nothing.
 use Prim.Native.Nat.{ℕ, _+_, _%_, _^_, _≤_, _<_, min}
-use mathlib.Core.Path.{_≡_, refl, sym, ap, subst, _∙_}
+use mathlib.Core.Path.{_≡_, sym, ap, subst, _∙_}
 use mathlib.Core.List.{List, [], _∷_, _++_, append-assoc}
-use mathlib.Core.Bool.{Bool, true, false, _&&_}
+use mathlib.Core.Bool.{Bool, true, false}
 use native.Mathlib.Omega.{arith}
 use borrow.Author.Tests.{lt-ltb, le-ltb, ltb-true, ltb-false, leb-true, eqb-true}
 use lib.ListN.{length, length-append}
@@ -16,6 +16,7 @@ use Rattle.wire.proofs.Outcomes.{by-test, test-is-ok, ok-not-refused, same-refu
 use Rattle.wire.proofs.Bytes.{leBytes-length}
 use Rattle.wire.proofs.Stores.{length-stored, stored-stored, store-fits, store-full}
 use Rattle.wire.proofs.Forms.{Tag, two, three, eight, Shortest, itself, behind, shortest}
+use Rattle.temporal.proofs.Ranges.{and-true}
 use Rattle.table_map.specs.Parts.{bytesFor}
 use Rattle.table_map.specs.Writes.{Parts, parts, nameBytes, eventBytes, isEvent, writeEvent, eventSize, headBytes, columnBytes, Put}
 
@@ -118,10 +119,6 @@ put-name name {d} {x} {at} {n} h p =
     subst (λ (b : ℕ). Put d at (b ∷ (name ++ (0 ∷ []))) x n) e p
 
 -- ---- what the writer takes, and the size
-and-true : (a b : Bool) → (a && b) ≡ true → (a ≡ true) × (b ≡ true)
-and-true true b e = (refl, e)
-and-true false b e = let z : _≡_ {A = ℕ} 0 1 = cc in absurd (omega arith)
-
 pub record Taken (p : Parts) : Type 0 where
   pub id : p .id < 2 ^ 48
   pub database : length (p .database) ≤ 255

@@ -1,0 +1,4 @@
+-- The laws of the crate. `Looks`: the entry of a column, by the bytes where it stands. `Turns`: entries one by one. `Valid`: what a valid record says.
+pub mod Looks
+pub mod Turns
+pub mod Valid

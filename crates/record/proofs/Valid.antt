@@ -1,0 +1,42 @@
+-- What a valid record says: as many columns as its length has room for, each accepted. Assumes nothing.
+use Prim.Native.Nat.{ℕ, zero, suc, _+_, _<_}
+use mathlib.Core.Path.{_≡_, sym, subst}
+use mathlib.Core.Bool.{true}
+use mathlib.Core.List.{List}
+use native.Mathlib.Omega.{arith}
+use Rattle.wire.specs.Outcome.{ok, why}
+use Rattle.wire.proofs.Outcomes.{test-is-ok}
+use Rattle.temporal.proofs.Ranges.{and-true}
+use Rattle.value.specs.Columns.{shapeOf, isTaken}
+use Rattle.record.specs.Entries.{columnOf, entryHolds}
+use Rattle.record.specs.Records.{countOf, entryIn, entriesHold, headHolds, recordValid, readRecord}
+
+-- each of the entries from j on may be there
+holds-at : (m : ℕ) (r : List ℕ) (j i : ℕ) → entriesHold m r j ≡ true → i < m → entryHolds (entryIn r (j + i)) ≡ true
+unfolding entriesHold
+holds-at zero r j i e h = absurd (omega arith)
+holds-at (suc m) r j zero e h =
+    let z : j ≡ j + 0 = omega arith in
+    subst (λ (k : ℕ). entryHolds (entryIn r k) ≡ true) z (and-true (entryHolds (entryIn r j)) _ e .0)
+holds-at (suc m) r j (suc i) e h =
+    let z : suc j + i ≡ j + suc i = omega arith in
+    subst (λ (k : ℕ). entryHolds (entryIn r k) ≡ true) z (holds-at m r (suc j) i (and-true (entryHolds (entryIn r j)) _ e .1) (omega arith))
+
+-- every entry of a valid record may be there
+pub valid-entry : (r : List ℕ) (j : ℕ) → recordValid r ≡ true → j < countOf r → entryHolds (entryIn r j) ≡ true
+unfolding recordValid
+valid-entry r j v h =
+    let z : 0 + j ≡ j = omega arith in
+    subst (λ (k : ℕ). entryHolds (entryIn r k) ≡ true) z (holds-at (countOf r) r 0 j (and-true (headHolds r) _ v .1) h)
+
+-- so its column is accepted, by the one table
+pub valid-column : (r : List ℕ) (j : ℕ) → recordValid r ≡ true → j < countOf r → isTaken (shapeOf (columnOf (entryIn r j))) ≡ true
+unfolding entryHolds
+valid-column r j v h = and-true (isTaken (shapeOf (columnOf (entryIn r j)))) _ (valid-entry r j v h) .0
+
+-- a record that is read is valid, and its columns are counted
+pub read-valid : (r : List ℕ) (n : ℕ) → readRecord r ≡ ok n → (recordValid r ≡ true) × (n ≡ countOf r)
+unfolding readRecord
+read-valid r n e =
+    let t = test-is-ok (recordValid r) (countOf r) (why 11 0) n e in
+    (t .0, sym (t .1))

@@ -1,0 +1,71 @@
+-- `record::profile::head_holds` meets its contract. Assumes nothing.
+use mathlib.Core.Path.{_∙_}
+use borrow.Author.Needs.{needs}
+use borrow.Author.Tests.{le-leb, eq-eqb, ne-eqb}
+use Rattle.wire.proofs.Rules.{tests}
+use Rattle.record.specs.Records.{headHolds}
+use Rattle.record.proofs.profile.head_holds.Statement.{statement}
+use Rattle.record.proofs.profile.head_holds.Tie as tie
+use Rattle.record.proofs.profile.head_holds.Reads as reads
+use Rattle.record.proofs.profile.head_holds.Lts as lts
+use Rattle.record.proofs.profile.byte_at.Reads as byte-at-reads
+use Rattle.record.proofs.profile.wide.Reads as wide-reads
+use Rattle.wire.proofs.read_le.Reads as read-le-reads
+
+returns : tie.Need-returns
+unfolding headHolds
+returns c = search tests
+
+read-le-requires : tie.Need-read-le-requires
+read-le-requires c κs = search needs
+
+returns-2 : tie.Need-returns-2
+unfolding headHolds
+returns-2 c = rw (le-leb 6 _ (c .before .before .if1 .left), ← c .before .read-le .ensures .0, ne-eqb _ _ (c .if2 .taken))
+
+read-le-requires-2 : tie.Need-read-le-requires-2
+read-le-requires-2 c κs = search needs
+
+returns-3 : tie.Need-returns-3
+unfolding headHolds
+returns-3 c = rw (le-leb 6 _ (c .before .before .before .before .if1 .left), ← c .before .before .before .read-le .ensures .0, eq-eqb _ _ (c .before .before .if2 .left), ← c .before .read-le2 .ensures .0, ne-eqb _ _ (c .if3 .taken))
+
+byte-at-requires : tie.Need-byte-at-requires
+byte-at-requires c κs = search needs
+
+returns-4 : tie.Need-returns-4
+unfolding headHolds
+returns-4 c = rw (le-leb 6 _ (c .before .before .before .before .before .before .if1 .left), ← c .before .before .before .before .before .read-le .ensures .0, eq-eqb _ _ (c .before .before .before .before .if2 .left), ← c .before .before .before .read-le2 .ensures .0, eq-eqb _ _ (c .before .before .if3 .left), ← c .before .byte-at .ensures, ne-eqb _ _ (c .if4 .taken))
+
+byte-at-requires-2 : tie.Need-byte-at-requires-2
+byte-at-requires-2 c κs = search needs
+
+wide-requires : tie.Need-wide-requires
+wide-requires c κs = search needs
+
+mul-result : tie.Need-mul-result
+mul-result c = search needs
+
+add-result : tie.Need-add-result
+add-result c = search needs
+
+returns-5 : tie.Need-returns-5
+unfolding headHolds
+returns-5 c = rw (le-leb 6 _ (c .before .before .before .before .before .before .before .before .if1 .left), ← c .before .before .before .before .before .before .before .read-le .ensures .0, eq-eqb _ _ (c .before .before .before .before .before .before .if2 .left), ← c .before .before .before .before .before .read-le2 .ensures .0, eq-eqb _ _ (c .before .before .before .before .if3 .left), ← c .before .before .before .byte-at .ensures, eq-eqb _ _ (c .before .before .if4 .left), c .wide .ensures ∙ c .before .byte-at2 .ensures)
+
+pub head-holds-spec : {M : Type 1} → statement M
+head-holds-spec =
+    tie.close
+    (tie.spec
+    returns
+    read-le-requires
+    returns-2
+    read-le-requires-2
+    returns-3
+    byte-at-requires
+    returns-4
+    byte-at-requires-2
+    wide-requires
+    mul-result
+    add-result
+    returns-5)

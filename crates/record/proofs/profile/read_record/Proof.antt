@@ -1,0 +1,59 @@
+-- `record::profile::read_record` meets its contract. Assumes nothing.
+use Prim.Native.Nat.{ℕ}
+use mathlib.Core.Path.{sym, ap, _∙_}
+use borrow.Author.Needs.{needs}
+use borrow.Author.Tests.{not-true, not-false}
+use Rattle.record.specs.Records.{entriesHold, recordValid, readRecord}
+use Rattle.record.proofs.profile.read_record.Statement.{statement}
+use Rattle.record.proofs.profile.read_record.Tie as tie
+use Rattle.record.proofs.profile.read_record.Reads as reads
+use Rattle.record.proofs.profile.read_record.Lts as lts
+use Rattle.record.proofs.profile.byte_at.Reads as byte-at-reads
+use Rattle.record.proofs.profile.entries_hold.Reads as entries-hold-reads
+use Rattle.record.proofs.profile.head_holds.Reads as head-holds-reads
+use Rattle.record.proofs.profile.wide.Reads as wide-reads
+use Rattle.wire.proofs.refuse.Reads as refuse-reads
+
+head-holds-requires : tie.Need-head-holds-requires
+head-holds-requires c κs = search needs
+
+refuse-requires : tie.Need-refuse-requires
+refuse-requires c κs = search needs
+
+returns : tie.Need-returns
+unfolding readRecord recordValid
+returns c = rw (sym (c .before .before .head-holds .ensures) ∙ not-true _ (c .before .if1 .taken), c .refuse .ensures)
+
+byte-at-requires : tie.Need-byte-at-requires
+byte-at-requires c κs = search needs
+
+wide-requires : tie.Need-wide-requires
+wide-requires c κs = search needs
+
+entries-hold-requires : tie.Need-entries-hold-requires
+entries-hold-requires c κs = search needs
+
+refuse-requires-2 : tie.Need-refuse-requires-2
+refuse-requires-2 c κs = search needs
+
+returns-2 : tie.Need-returns-2
+unfolding readRecord recordValid
+returns-2 c = rw (sym (c .before .before .before .before .before .before .head-holds .ensures) ∙ not-false _ (c .before .before .before .before .before .if1 .left), ap (λ (n : ℕ). entriesHold n (c .before .before .before .before .before .before .before .before .args .profile .now) 0) (sym (c .before .before .before .wide .ensures ∙ c .before .before .before .before .byte-at .ensures)) ∙ sym (c .before .before .entries-hold .ensures) ∙ not-true _ (c .before .if2 .taken), c .refuse2 .ensures)
+
+returns-3 : tie.Need-returns-3
+unfolding readRecord recordValid
+returns-3 c = rw (sym (c .before .before .before .before .before .head-holds .ensures) ∙ not-false _ (c .before .before .before .before .if1 .left), ap (λ (n : ℕ). entriesHold n (c .before .before .before .before .before .before .before .args .profile .now) 0) (sym (c .before .before .wide .ensures ∙ c .before .before .before .byte-at .ensures)) ∙ sym (c .before .entries-hold .ensures) ∙ not-false _ (c .if2 .left), c .before .before .wide .ensures ∙ c .before .before .before .byte-at .ensures)
+
+pub read-record-spec : {M : Type 1} → statement M
+read-record-spec =
+    tie.close
+    (tie.spec
+    head-holds-requires
+    refuse-requires
+    returns
+    byte-at-requires
+    wide-requires
+    entries-hold-requires
+    refuse-requires-2
+    returns-2
+    returns-3)

@@ -1,0 +1,3 @@
+-- The definitions of the crate: what people must believe. `Entries`: what a record says of one column. `Records`: the whole record.
+pub mod Entries
+pub mod Records

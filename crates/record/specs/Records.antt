@@ -1,0 +1,58 @@
+-- The record: "Length of the whole record (2 bytes), kind 1 (2), both little-endian, n (1), zero (1), then 6 bytes a column"; "a record with nothing after it is
+-- valid if it obeys this". Assumes nothing.
+use Prim.Native.Nat.{ℕ, zero, suc, _+_, _*_}
+use mathlib.Core.Bool.{Bool, true, cond, _&&_}
+use mathlib.Core.List.{List, [], _∷_, _++_}
+use lib.ListN.{length, getD, take, drop}
+use lib.Dec.{leb, eqb}
+use Rattle.wire.specs.Outcome.{Outcome, ok, refused, refuse}
+use Rattle.wire.specs.Number.{leValue, leBytes}
+use Rattle.record.specs.declared.entry.Entry.{Entry}
+use Rattle.record.specs.declared.profile.RecordRead.{RecordRead}
+use Rattle.record.specs.declared.profile.RecordRead.the-variants.{Valid, Refused}
+use Rattle.record.specs.Entries.{entryHolds, entryOf}
+
+-- how many columns it says it has, and where the entry of column j stands
+abbrev pub countOf : List ℕ → ℕ
+countOf r = getD r 4 0
+
+abbrev pub entryAt : ℕ → ℕ
+entryAt j = 6 + 6 * j
+
+-- what it says of column j
+unfoldable pub entryIn : List ℕ → ℕ → Entry
+unfolding entryOf
+entryIn r j = entryOf (drop (entryAt j) r)
+
+-- the m columns from j on
+unfoldable pub entriesHold : ℕ → List ℕ → ℕ → Bool
+unfolding entryHolds entryIn
+entriesHold zero r j = true
+entriesHold (suc m) r j = entryHolds (entryIn r j) && entriesHold m r (suc j)
+
+unfoldable pub headHolds : List ℕ → Bool
+unfolding leValue
+headHolds r =
+    leb 6 (length r)
+    && (eqb (leValue (take 2 r)) (length r)
+    && (eqb (leValue (take 2 (drop 2 r))) 1
+    && (eqb (getD r 5 0) 0 && eqb (length r) (entryAt (countOf r)))))
+
+unfoldable pub recordValid : List ℕ → Bool
+unfolding headHolds entriesHold
+recordValid r = headHolds r && entriesHold (countOf r) r 0
+
+-- the call: how many columns, or refusal 11
+unfoldable pub readRecord : List ℕ → Outcome ℕ
+unfolding recordValid
+readRecord r = cond (recordValid r) (ok (countOf r)) (refuse 11 0)
+
+-- the six bytes before the entries of n columns
+unfoldable pub headBytes : ℕ → List ℕ
+unfolding leBytes
+headBytes n = leBytes 2 (entryAt n) ++ (leBytes 2 1 ++ (n ∷ (0 ∷ [])))
+
+-- what the answer of the call says
+abbrev pub recordOf : RecordRead → Outcome ℕ
+recordOf (Valid columns) = ok columns
+recordOf (Refused r) = refused r

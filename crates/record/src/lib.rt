@@ -1,0 +1,12 @@
+// The profile record, kind 1: what a row reader needs of an accepted map. Added by document 01; the Rust has no such thing.
+mod entry;
+mod profile;
+
+pub use entry::Entry;
+pub use entry::column_of;
+pub use entry::entry_holds;
+pub use entry::write_entry;
+pub use profile::RecordRead;
+pub use profile::entry_in;
+pub use profile::read_record;
+pub use profile::write_head;

@@ -1,0 +1,115 @@
+// The whole record: whether it is valid, and its columns.
+use crate::entry::Entry;
+use crate::entry::entry_holds;
+use wire::Refusal;
+use wire::Written;
+use wire::refusal::BAD_RECORD;
+ghost use mathlib.Core.Path.{_≡_};
+ghost use lib.ListN.{getD};
+ghost use Rattle.wire.specs.Stored.{store, answerOf, leftOf, writtenOf};
+ghost use Rattle.record.specs.Records.{entryIn, entriesHold, headHolds, readRecord, recordOf, headBytes};
+
+// How many columns a valid record has.
+pub enum RecordRead {
+    Valid { columns: usize },
+    Refused(Refusal),
+}
+
+fn byte_at(s: &[u8], at: usize) -> u8
+    ensures { λ r. ⌜ r ≡ getD (now (s .entry)) at 0 ⌝ }
+{
+    if s.len() <= at {
+        return 0;
+    }
+    s[at]
+}
+
+fn wide(x: u8) -> usize
+    ensures { λ r. ⌜ r ≡ x ⌝ }
+{
+    x as usize
+}
+
+// What the record says of a column; what lies past its end counts as zeros.
+pub fn entry_in(profile: &[u8], column: usize) -> Entry
+    ensures { λ r. ⌜ r ≡ entryIn (now (profile .entry)) column ⌝ }
+{
+    if profile.len() / 6 < column {
+        return Entry {
+            kind: 0,
+            flags: 0,
+            m0: 0,
+            m1: 0,
+            charset: 0,
+        };
+    }
+    let at = 6 + 6 * column;
+    let charset = wire::read_le(profile, at + 4, 2) as u16;
+    Entry {
+        kind: byte_at(profile, at),
+        flags: byte_at(profile, at + 1),
+        m0: byte_at(profile, at + 2),
+        m1: byte_at(profile, at + 3),
+        charset,
+    }
+}
+
+// Whether the first n columns may be a record's.
+fn entries_hold(profile: &[u8], n: usize) -> bool
+    ensures { λ r. ⌜ r ≡ entriesHold n (now (profile .entry)) 0 ⌝ }
+{
+    let mut j: usize = 0;
+    while j < n {
+        if !entry_holds(entry_in(profile, j)) {
+            return false;
+        }
+        j += 1;
+    }
+    true
+}
+
+// Whether the six bytes before the columns fit the rest.
+fn head_holds(profile: &[u8]) -> bool
+    ensures { λ r. ⌜ r ≡ headHolds (now (profile .entry)) ⌝ }
+{
+    if profile.len() < 6 {
+        return false;
+    }
+    if wire::read_le(profile, 0, 2) != profile.len() as u64 {
+        return false;
+    }
+    if wire::read_le(profile, 2, 2) != 1 {
+        return false;
+    }
+    if byte_at(profile, 5) != 0 {
+        return false;
+    }
+    profile.len() == 6 + 6 * wide(byte_at(profile, 4))
+}
+
+// How many columns the record has, if it is valid and nothing stands after it; in one pass over it.
+pub fn read_record(profile: &[u8]) -> RecordRead
+    ensures { λ r. ⌜ recordOf r ≡ readRecord (now (profile .entry)) ⌝ }
+{
+    if !head_holds(profile) {
+        return RecordRead::Refused(wire::refuse(BAD_RECORD, 0));
+    }
+    let columns = wide(byte_at(profile, 4));
+    if !entries_hold(profile, columns) {
+        return RecordRead::Refused(wire::refuse(BAD_RECORD, 0));
+    }
+    RecordRead::Valid { columns }
+}
+
+// Writes the six bytes before the columns, at the buffer's start.
+pub fn write_head(buf: &mut [u8], n: u8) -> Written
+    ensures { λ r. ⌜ writtenOf r ≡ answerOf (store (now (buf .entry)) 0 (headBytes n)) ⌝ }
+    ensures { λ _. ⌜ now (buf .exit) ≡ leftOf (now (buf .entry)) (store (now (buf .entry)) 0 (headBytes n)) ⌝ }
+{
+    let columns = n as usize;
+    let size = 6 + 6 * columns;
+    let low = (size % 256) as u8;
+    let high = (size / 256 % 256) as u8;
+    let bytes = [low, high, 1, 0, n, 0];
+    wire::write_bytes(buf, 0, &bytes)
+}
