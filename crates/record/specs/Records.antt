@@ -10,7 +10,7 @@ use Rattle.wire.specs.Number.{leValue, leBytes}
 use Rattle.record.specs.declared.entry.Entry.{Entry}
 use Rattle.record.specs.declared.profile.RecordRead.{RecordRead}
 use Rattle.record.specs.declared.profile.RecordRead.the-variants.{Valid, Refused}
-use Rattle.record.specs.Entries.{entryHolds, entryOf}
+use Rattle.record.specs.Entries.{entryHolds, entryOf, entryBytes}
 
 -- how many columns it says it has, and where the entry of column j stands
 abbrev pub countOf : List ℕ → ℕ
@@ -51,6 +51,16 @@ readRecord r = cond (recordValid r) (ok (countOf r)) (refuse 11 0)
 unfoldable pub headBytes : ℕ → List ℕ
 unfolding leBytes
 headBytes n = leBytes 2 (entryAt n) ++ (leBytes 2 1 ++ (n ∷ (0 ∷ [])))
+
+-- the record of columns: the head, and their entries one behind the other
+unfoldable pub entriesBytes : List Entry → List ℕ
+unfolding entryBytes
+entriesBytes [] = []
+entriesBytes (e ∷ es) = entryBytes e ++ entriesBytes es
+
+unfoldable pub recordBytes : List Entry → List ℕ
+unfolding headBytes entriesBytes
+recordBytes es = headBytes (length es) ++ entriesBytes es
 
 -- what the answer of the call says
 abbrev pub recordOf : RecordRead → Outcome ℕ

@@ -236,7 +236,7 @@ pub fn read_event(event: &[u8], post_header: u8) -> EventRead
 }
 
 // The bytes of a part, none where it runs past those lent.
-fn part_of(s: &[u8], part: Part) -> &[u8]
+pub fn part_of(s: &[u8], part: Part) -> &[u8]
     ensures { λ r. ⌜ now r ≡ lentPart (now (s .entry)) part ⌝ }
 {
     let start = part.start;

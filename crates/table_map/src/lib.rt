@@ -14,6 +14,7 @@ pub use event::column_types;
 pub use event::database_name;
 pub use event::nullable_bits;
 pub use event::optional_metadata;
+pub use event::part_of;
 pub use event::read_event;
 pub use event::table_name;
 pub use field::FieldStep;

@@ -1,0 +1,49 @@
+-- The check of a map: "After event reading, in order: n at most 255; each column's type then metadata; no metadata left over; optional fields one by one,
+-- contents in full; a repeated key index; room." Assumes nothing.
+use Prim.Native.Nat.{ℕ}
+use mathlib.Core.Bool.{cond}
+use mathlib.Core.List.{List}
+use lib.ListN.{length}
+use lib.Dec.{leb}
+use Rattle.wire.specs.Outcome.{Outcome, ok, refuse, after}
+use Rattle.wire.specs.Stored.{store}
+use Rattle.value.specs.declared.column.Dialect.{Dialect}
+use Rattle.table_map.specs.declared.event.Event.{Event}
+use Rattle.table_map.specs.declared.event.Part.{Part}
+use Rattle.table_map.specs.Parts.{lentPart}
+use Rattle.table_map.specs.Events.{readEvent}
+use Rattle.record.specs.declared.entry.Entry.{Entry}
+use Rattle.record.specs.Records.{recordBytes}
+use Rattle.map_check.specs.declared.column.Declared.{Declared}
+use Rattle.map_check.specs.Columns.{takeColumns}
+use Rattle.map_check.specs.Ranks.{place, noRanks, ranksFrom, sizesOf}
+use Rattle.map_check.specs.Fields.{fieldsAt, keepSteps, keepFields}
+use Rattle.map_check.specs.Keys.{keysHold}
+use Rattle.map_check.specs.Profile.{factsOf, entriesFrom}
+
+-- "n at most 255": 3 at 0
+unfoldable pub fewEnough : List ℕ → Outcome (Unit {0})
+fewEnough types = cond (leb (length types) 255) (ok tt) (refuse 3 0)
+
+-- an event's columns, as its record says them
+abbrev pub entriesOf : Dialect → List ℕ → Event → List Declared → List (ℕ × Part) → List Entry
+entriesOf d s e cs fs = entriesFrom d s (factsOf (e .bits) fs) cs (place 0) noRanks
+
+-- the entries of a map that passes
+unfoldable pub checkEvent : Dialect → List ℕ → Event → Outcome (List Entry)
+unfolding fewEnough takeColumns keepSteps ranksFrom keysHold entriesFrom
+checkEvent d s e =
+    after (fewEnough (lentPart s (e .types))) (λ few.
+    after (takeColumns (lentPart s (e .types)) (lentPart s (e .metadata)) 0) (λ cs.
+    after (keepFields (sizesOf d cs) (fieldsAt d (lentPart s (e .types)) (e .optional .start)) s) (λ fs.
+    after (keysHold s fs) (λ once.
+    ok (entriesOf d s e cs fs)))))
+
+unfoldable pub checkMap : Dialect → List ℕ → ℕ → Outcome (List Entry)
+unfolding readEvent checkEvent
+checkMap d s postHeader = after (readEvent s postHeader) (λ e. checkEvent d s e)
+
+-- the call: the record's length and the buffer with the record at its start, or 8 at 0 for room
+unfoldable pub check : Dialect → List ℕ → ℕ → List ℕ → Outcome (ℕ × List ℕ)
+unfolding checkMap recordBytes store
+check d s postHeader buf = after (checkMap d s postHeader) (λ es. store buf 0 (recordBytes es))

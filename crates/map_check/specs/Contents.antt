@@ -1,0 +1,86 @@
+-- The contents of optional fields, in full: "3, 11: one charset per column of the class. 2, 10: ranks rise and lie below the class's size. Charsets
+-- 1..65,535. 4: n names. 5, 6, 7, 13: one item per SET, ENUM, real type 255, 242 column; geometry types 0..7. Keys below n." Every list ends exactly at the
+-- value's end. Assumes nothing.
+use Prim.Native.Nat.{ℕ, suc, _+_}
+use mathlib.Core.Bool.{Bool, true, false, cond, _&&_}
+use mathlib.Core.List.{List, [], _∷_}
+use lib.ListN.{length}
+use lib.Dec.{leb, ltb, eqb}
+use Rattle.wire.specs.Outcome.{Outcome, ok, refused, after}
+use Rattle.wire.specs.Packed.{readPacked}
+use Rattle.table_map.specs.Lists.{Rule, Ended, whole, broken, walk, walkSteps, integerItem, pairItem, stringItem, groupItem}
+use Rattle.map_check.specs.declared.rank.Ranks.{Ranks}
+use Rattle.map_check.specs.declared.contents.Meaning.{Meaning}
+use Rattle.map_check.specs.declared.contents.Meaning.the-variants.{Charset, GeometryType, Dimension}
+
+abbrev pub isWhole : Ended → Bool
+isWhole whole = true
+isWhole (broken r) = false
+
+unfoldable pub all : {A : Type 0} → (A → Bool) → List A → Bool
+all p [] = true
+all p (a ∷ l) = p a && all p l
+
+abbrev pub any : {A : Type 0} → A → Bool
+any a = true
+
+-- the items from a place on are all there, up to the end of the value, and each holds
+unfoldable pub listHolds : {A : Type 0} → Rule A → (A → Bool) → List ℕ → ℕ → Bool
+unfolding walkSteps all
+listHolds rule p value at = isWhole (walk rule value at .how) && all p (walk rule value at .items)
+
+-- and there are as many as make n together with `before`
+unfoldable pub exactly : {A : Type 0} → Rule A → (A → Bool) → ℕ → ℕ → List ℕ → ℕ → Bool
+unfolding walkSteps listHolds
+exactly rule p n before value at = listHolds rule p value at && eqb (before + length (walk rule value at .items)) n
+
+-- ---- the integers of a list, by what they mean
+unfoldable pub isCharset : ℕ → Bool
+isCharset c = leb 1 c && leb c 65535
+
+unfoldable pub integerHolds : Meaning → ℕ → Bool
+unfolding isCharset
+integerHolds Charset v = isCharset v
+integerHolds GeometryType v = leb v 7
+integerHolds Dimension v = true
+
+-- ---- a default charset and pairs (rank, charset): ranks rise strictly, from `low` on, and lie below the size of the class
+unfoldable pub pairsHold : ℕ → ℕ → List (ℕ × ℕ) → Bool
+unfolding isCharset
+pairsHold size low [] = true
+pairsHold size low (p ∷ ps) = leb low (p .0) && (ltb (p .0) size && (isCharset (p .1) && pairsHold size (suc (p .0)) ps))
+
+unfoldable pub pairsWhole : ℕ → ℕ → List ℕ → ℕ → Bool
+unfolding walkSteps pairsHold
+pairsWhole size low value at = isWhole (walk pairItem value at .how) && pairsHold size low (walk pairItem value at .items)
+
+abbrev pub fromDefault : ℕ → List ℕ → Outcome (ℕ × ℕ) → Bool
+fromDefault size value (ok c) = isCharset (c .0) && pairsWhole size 0 value (c .1)
+fromDefault size value (refused r) = false
+
+unfoldable pub defaultHolds : ℕ → List ℕ → Bool
+unfolding readPacked isCharset pairsWhole
+defaultHolds size value = fromDefault size value (readPacked value 0)
+
+-- ---- keys: the column's index, before its prefix length in field 9
+unfoldable pub keyItem : Bool → Rule ℕ
+unfolding readPacked
+keyItem paired value at =
+    after (readPacked value at) (λ k. cond paired (after (readPacked value (k .1)) (λ l. ok (k .0, l .1))) (ok k))
+
+-- ---- a field of the type `kind`, in a map of n columns
+unfoldable pub contentsFull : Ranks → ℕ → ℕ → List ℕ → Bool
+unfolding exactly listHolds defaultHolds keyItem integerHolds
+contentsFull sizes n kind value =
+    cond (eqb kind 2) (defaultHolds (sizes .character .0) value)
+    (cond (eqb kind 3) (exactly integerItem (integerHolds Charset) (sizes .character .0) 0 value 0)
+    (cond (eqb kind 4) (exactly stringItem any n 0 value 0)
+    (cond (eqb kind 5) (exactly groupItem any (sizes .set .0) 0 value 0)
+    (cond (eqb kind 6) (exactly groupItem any (sizes .enumeration .0) 0 value 0)
+    (cond (eqb kind 7) (exactly integerItem (integerHolds GeometryType) (sizes .geometry .0) 0 value 0)
+    (cond (eqb kind 8) (listHolds (keyItem false) (λ k. ltb k n) value 0)
+    (cond (eqb kind 9) (listHolds (keyItem true) (λ k. ltb k n) value 0)
+    (cond (eqb kind 10) (defaultHolds (sizes .choice .0) value)
+    (cond (eqb kind 11) (exactly integerItem (integerHolds Charset) (sizes .choice .0) 0 value 0)
+    (cond (eqb kind 13) (exactly integerItem (integerHolds Dimension) (sizes .vector .0) 0 value 0)
+    true))))))))))

@@ -1,0 +1,80 @@
+-- The optional fields "one by one, contents in full": "a type stands at most once; not both 2 and 3, 10 and 11, 8 and 9". Assumes nothing.
+use Prim.Native.Nat.{ℕ, zero, suc, _-_}
+use mathlib.Core.Bool.{Bool, false, cond, _&&_, _||_, not}
+use mathlib.Core.List.{List, [], _∷_}
+use lib.ListN.{length}
+use lib.Dec.{eqb}
+use Rattle.wire.specs.Outcome.{Outcome, ok, refused, refuse, after}
+use Rattle.value.specs.declared.column.Dialect.{Dialect}
+use Rattle.table_map.specs.declared.event.Part.{Part}
+use Rattle.table_map.specs.declared.field.Fields.{Fields as FieldCursor}
+use Rattle.table_map.specs.Parts.{lentPart}
+use Rattle.table_map.specs.Lists.{Stepped, end, item, step, walk}
+use Rattle.table_map.specs.Fields.{fieldItem, countSigned}
+use Rattle.map_check.specs.declared.rank.Ranks.{Ranks}
+use Rattle.map_check.specs.declared.field.Found.{Found}
+use Rattle.map_check.specs.declared.field.Found.the-variants.{Value, Nothing}
+use Rattle.map_check.specs.declared.field.Judged.{Judged}
+use Rattle.map_check.specs.declared.field.Judged.the-variants.{Kept, Refused}
+use Rattle.map_check.specs.Contents.{contentsFull}
+
+-- the types that stood before
+unfoldable pub stood : ℕ → List ℕ → Bool
+stood kind [] = false
+stood kind (k ∷ ks) = eqb k kind || stood kind ks
+
+-- the type that may not stand beside one; there is no type 0
+unfoldable pub rivalOf : ℕ → ℕ
+rivalOf kind =
+    cond (eqb kind 2) 3 (cond (eqb kind 3) 2 (cond (eqb kind 10) 11 (cond (eqb kind 11) 10 (cond (eqb kind 8) 9 (cond (eqb kind 9) 8 0)))))
+
+-- a field, given the types before it
+unfoldable pub isKept : Ranks → ℕ → List ℕ → List ℕ → ℕ × Part → Bool
+unfolding stood rivalOf contentsFull
+isKept sizes n s before f =
+    not (stood (f .0) before) && (not (stood (rivalOf (f .0)) before) && contentsFull sizes n (f .0) (lentPart s (f .1)))
+
+-- the field that a step met at `at`, and those behind it
+abbrev pub keep : (ℕ → ℕ → Outcome (List (ℕ × Part))) → (ℕ × Part → Bool) → ℕ → Outcome (Stepped (ℕ × Part) ℕ) → Outcome (List (ℕ × Part))
+keep rest p at (ok end) = ok []
+keep rest p at (ok (item f next)) = cond (p f) (after (rest (f .0) next) (λ fs. ok (f ∷ fs))) (refuse 7 at)
+keep rest p at (refused r) = refused r
+
+-- at most m fields, which are enough if m is more than the bytes left
+unfoldable pub keepSteps : ℕ → Ranks → FieldCursor → List ℕ → List ℕ → ℕ → Outcome (List (ℕ × Part))
+unfolding step fieldItem isKept
+keepSteps zero sizes c s before at = ok []
+keepSteps (suc m) sizes c s before at =
+    keep (λ kind next. keepSteps m sizes c s (kind ∷ before) next) (isKept sizes (c .columns) s before) at
+    (step (fieldItem (c .numeric) (c .columns)) s at)
+
+-- all of them, from where a walk stands; s is the event, so that places are places in it
+abbrev pub keepFields : Ranks → FieldCursor → List ℕ → Outcome (List (ℕ × Part))
+keepFields sizes c s = keepSteps (suc (length s - c .at)) sizes c s [] (c .at)
+
+-- ---- the value of the first field of a type
+unfoldable pub firstOf : ℕ → List (ℕ × Part) → Found
+firstOf kind [] = Nothing
+firstOf kind (f ∷ fs) = cond (eqb (f .0) kind) (Value (f .1)) (firstOf kind fs)
+
+abbrev pub valueIn : List ℕ → Found → List ℕ
+valueIn s (Value p) = lentPart s p
+valueIn s Nothing = []
+
+-- the cursor at the first optional field of a map with these types
+abbrev pub fieldsAt : Dialect → List ℕ → ℕ → FieldCursor
+fieldsAt d types at = record { at = at; numeric = countSigned d types; columns = length types }
+
+-- the fields of a walk, up to its end or to a refusal
+abbrev pub fieldsFrom : FieldCursor → List ℕ → List (ℕ × Part)
+fieldsFrom c s = walk (fieldItem (c .numeric) (c .columns)) s (c .at) .items
+
+-- ---- what the answers say
+-- whether something is there, without what it is
+abbrev pub done : {A : Type 0} → Outcome A → Outcome (Unit {0})
+done (ok a) = ok tt
+done (refused r) = refused r
+
+abbrev pub judgedOf : Judged → Outcome (Unit {0})
+judgedOf Kept = ok tt
+judgedOf (Refused r) = refused r
