@@ -5,6 +5,7 @@ use mathlib.Core.Logic.{_⊎_, inl, inr, ⊎-elim}
 use mathlib.Core.List.{List}
 use lib.ListN.{length, getD}
 use lib.Dec.{leb}
+use Rattle.wire.specs.Bits.{bytesFor}
 use Rattle.wire.specs.declared.refusal.Refusal.{Refusal}
 use Rattle.wire.specs.Outcome.{Outcome, ok, refused, after, why}
 use Rattle.wire.specs.Number.{Bytes}
@@ -14,7 +15,7 @@ use Rattle.wire.proofs.Forms.{Refuses, short, cut, none, read-refuses}
 use Rattle.table_map.specs.declared.event.Event.{Event}
 use Rattle.table_map.specs.declared.event.EventRead.{EventRead}
 use Rattle.table_map.specs.declared.event.EventRead.the-variants.{Read, Refused}
-use Rattle.table_map.specs.Parts.{bytesFor, within, shortPart, longPart}
+use Rattle.table_map.specs.Parts.{within, shortPart, longPart}
 use Rattle.table_map.specs.Events.{idBytes, readNames, readColumns, readEvent, eventOf}
 
 -- bytes end, or a packed integer begins with 251 or 255

@@ -9,6 +9,7 @@ use borrow.Author.Tests.{lt-leb, le-leb, lt-ltb, eq-eqb}
 use lib.ListN.{length, getD, take, drop, length-drop, take-append-drop}
 use lib.Seq.{length-take-le, take-all, drop-drop, drop-cons, take-add}
 use lib.Dec.{eqb}
+use Rattle.wire.specs.Bits.{bytesFor}
 use Rattle.wire.specs.Outcome.{ok}
 use Rattle.wire.specs.Number.{Bytes, leValue, leBytes}
 use Rattle.wire.specs.Packed.{readPacked, formOf, packedBytes}
@@ -18,7 +19,7 @@ use Rattle.wire.proofs.Inverse.{bytes-take, bytes-drop, le-sound, le-back, le-b
 use Rattle.wire.proofs.Forms.{read-moves, read-only, read-shortest}
 use Rattle.table_map.specs.declared.event.Part.{Part}
 use Rattle.table_map.specs.declared.event.Event.{Event}
-use Rattle.table_map.specs.Parts.{partOf, bytesFor}
+use Rattle.table_map.specs.Parts.{partOf}
 use Rattle.table_map.specs.Events.{idBytes, readEvent}
 use Rattle.table_map.specs.Writes.{Parts, nameBytes, eventBytes, columnBytes, isEvent}
 use Rattle.table_map.specs.Canonical.{partsOf, Canonical}

@@ -7,6 +7,7 @@ use native.Mathlib.Omega.{arith}
 use borrow.Author.Tests.{leb-true}
 use lib.ListN.{length, getD, take, drop}
 use lib.Dec.{leb, eqb}
+use Rattle.wire.specs.Bits.{bytesFor}
 use Rattle.wire.specs.Outcome.{ok, why}
 use Rattle.wire.specs.Number.{leValue}
 use Rattle.wire.specs.Packed.{readPacked}
@@ -14,7 +15,7 @@ use Rattle.wire.proofs.Outcomes.{test-is-ok, after-is-ok, same-ok}
 use Rattle.wire.proofs.Forms.{read-moves}
 use Rattle.table_map.specs.declared.event.Part.{Part}
 use Rattle.table_map.specs.declared.event.Event.{Event}
-use Rattle.table_map.specs.Parts.{bytesFor, within, shortPart, longPart}
+use Rattle.table_map.specs.Parts.{within, shortPart, longPart}
 use Rattle.table_map.specs.Events.{idBytes, readNames, readColumns, readEvent}
 
 -- bytes that are all there

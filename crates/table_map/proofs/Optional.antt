@@ -9,6 +9,7 @@ use native.Mathlib.Omega.{arith}
 use borrow.Author.Tests.{eqb-true}
 use lib.ListN.{length, getD, drop}
 use lib.Seq.{drop-cons}
+use Rattle.wire.specs.Bits.{bytesFor}
 use Rattle.wire.specs.declared.refusal.Refusal.{Refusal}
 use Rattle.wire.specs.Outcome.{Outcome, ok, refused, refuse, after}
 use Rattle.wire.specs.Packed.{readPacked}
@@ -17,7 +18,7 @@ use Rattle.value.specs.declared.column.Dialect.{Dialect}
 use Rattle.value.specs.Columns.{hasSignBit}
 use Rattle.table_map.specs.declared.event.Part.{Part}
 use Rattle.table_map.specs.declared.field.Fields.{Fields}
-use Rattle.table_map.specs.Parts.{partOf, bytesFor, longPart}
+use Rattle.table_map.specs.Parts.{partOf, longPart}
 use Rattle.table_map.specs.Lists.{Stepped, end, item, step, defaultCharset}
 use Rattle.table_map.specs.Fields.{signBits, countSigned, isField, isRead, contentsHold, fieldItem, withCursor, fieldStep}
 use Rattle.table_map.proofs.Steps.{step-before}

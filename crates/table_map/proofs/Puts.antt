@@ -7,6 +7,7 @@ use native.Mathlib.Omega.{arith}
 use borrow.Author.Tests.{lt-ltb, le-ltb, ltb-true, ltb-false, leb-true, eqb-true}
 use lib.ListN.{length, length-append}
 use lib.Dec.{ltb, leb}
+use Rattle.wire.specs.Bits.{bytesFor}
 use Rattle.wire.specs.declared.refusal.Refusal.{Refusal}
 use Rattle.wire.specs.Outcome.{ok, refused, refuse, why}
 use Rattle.wire.specs.Number.{leBytes}
@@ -17,7 +18,6 @@ use Rattle.wire.proofs.Bytes.{leBytes-length}
 use Rattle.wire.proofs.Stores.{length-stored, stored-stored, store-fits, store-full}
 use Rattle.wire.proofs.Forms.{Tag, two, three, eight, Shortest, itself, behind, shortest}
 use Rattle.temporal.proofs.Ranges.{and-true}
-use Rattle.table_map.specs.Parts.{bytesFor}
 use Rattle.table_map.specs.Writes.{Parts, parts, nameBytes, eventBytes, isEvent, writeEvent, eventSize, headBytes, columnBytes, Put}
 
 -- ---- lengths

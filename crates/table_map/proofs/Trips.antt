@@ -9,6 +9,7 @@ use borrow.Author.Tests.{le-leb, leb-true}
 use lib.ListN.{length, getD, take, drop, length-append, take-append-drop}
 use lib.Seq.{length-take-le, take-length, getD-drop, drop-drop, take-at, drop-at}
 use lib.Dec.{leb}
+use Rattle.wire.specs.Bits.{bytesFor}
 use Rattle.wire.specs.Outcome.{ok, why}
 use Rattle.wire.specs.Number.{leValue, leBytes}
 use Rattle.wire.specs.Packed.{readPacked, packedBytes}
@@ -19,7 +20,7 @@ use Rattle.wire.proofs.Bytes.{leBytes-length}
 use Rattle.wire.proofs.Inverse.{le-back}
 use Rattle.wire.proofs.Forms.{read-back}
 use Rattle.table_map.specs.declared.event.Event.{Event}
-use Rattle.table_map.specs.Parts.{part, partOf, bytesFor, within, shortPart, longPart}
+use Rattle.table_map.specs.Parts.{part, partOf, within, shortPart, longPart}
 use Rattle.table_map.specs.Events.{readNames, readColumns, readEvent}
 use Rattle.table_map.specs.Writes.{Parts, nameBytes, eventBytes, isEvent, writeEvent, eventSize, columnBytes}
 use Rattle.table_map.specs.Canonical.{partsOf}

@@ -6,6 +6,7 @@ use mathlib.Core.List.{List, []}
 use mathlib.Core.Bool.{cond}
 use lib.ListN.{length, take, drop}
 use lib.Dec.{eqb}
+use Rattle.wire.specs.Bits.{bytesFor}
 use Rattle.wire.specs.Outcome.{Outcome, ok, refused, after}
 use Rattle.wire.specs.Number.{leValue}
 use Rattle.wire.specs.Packed.{readPacked}
@@ -13,7 +14,7 @@ use Rattle.table_map.specs.declared.event.Part.{Part}
 use Rattle.table_map.specs.declared.event.Event.{Event}
 use Rattle.table_map.specs.declared.event.EventRead.{EventRead}
 use Rattle.table_map.specs.declared.event.EventRead.the-variants.{Read, Refused}
-use Rattle.table_map.specs.Parts.{part, partOf, bytesFor, within, shortPart, longPart}
+use Rattle.table_map.specs.Parts.{part, partOf, within, shortPart, longPart}
 
 abbrev pub idBytes : ℕ → ℕ
 idBytes postHeader = cond (eqb postHeader 6) 4 6

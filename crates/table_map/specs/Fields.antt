@@ -5,6 +5,7 @@ use mathlib.Core.Bool.{Bool, true, false, cond, _&&_, _||_}
 use mathlib.Core.List.{List, [], _∷_}
 use lib.ListN.{length, getD}
 use lib.Dec.{leb, eqb}
+use Rattle.wire.specs.Bits.{bytesFor}
 use Rattle.wire.specs.Outcome.{Outcome, ok, refused, refuse, after}
 use Rattle.wire.specs.Packed.{readPacked}
 use Rattle.value.specs.declared.column.Dialect.{Dialect}
@@ -13,7 +14,7 @@ use Rattle.table_map.specs.declared.event.Part.{Part}
 use Rattle.table_map.specs.declared.field.Fields.{Fields}
 use Rattle.table_map.specs.declared.field.FieldStep.{FieldStep}
 use Rattle.table_map.specs.declared.field.FieldStep.the-variants.{Field, End, Refused}
-use Rattle.table_map.specs.Parts.{partOf, bytesFor, longPart}
+use Rattle.table_map.specs.Parts.{partOf, longPart}
 use Rattle.table_map.specs.Lists.{Rule, Stepped, end, item, step}
 
 -- how many signedness bits a column of the type has

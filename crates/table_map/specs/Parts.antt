@@ -21,10 +21,6 @@ partOf s p = take (p .len) (drop (p .start) s)
 abbrev pub lentPart : List ℕ → Part → List ℕ
 lentPart s p = cond (leb (p .start + p .len) (length s)) (partOf s p) []
 
--- how many bytes n bits take
-abbrev pub bytesFor : ℕ → ℕ
-bytesFor n = (n + 7) / 8
-
 -- n bytes from `at` on: the place after them, or refusal 1 at `place` where they end early
 unfoldable pub within : List ℕ → ℕ → ℕ → ℕ → Outcome ℕ
 within s at n place = cond (leb (at + n) (length s)) (ok (at + n)) (refuse 1 place)

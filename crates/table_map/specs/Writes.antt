@@ -6,11 +6,11 @@ use mathlib.Core.List.{List, [], _∷_, _++_}
 use mathlib.Core.Bool.{Bool, cond, _&&_}
 use lib.ListN.{length}
 use lib.Dec.{leb, ltb, eqb}
+use Rattle.wire.specs.Bits.{bytesFor}
 use Rattle.wire.specs.Outcome.{Outcome, ok, refuse}
 use Rattle.wire.specs.Number.{leBytes}
 use Rattle.wire.specs.Packed.{packedBytes}
 use Rattle.wire.specs.Stored.{store, stored}
-use Rattle.table_map.specs.Parts.{bytesFor}
 
 -- the parts of an event, on paper
 pub record Parts : Type 0 where

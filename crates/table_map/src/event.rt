@@ -1,6 +1,5 @@
 // The event's parts, as places in the lent bytes (table_map_event.rs: TableMapEvent).
 use crate::part::PartRead;
-use crate::part::bytes_for;
 use crate::part::long_part;
 use wire::Packed;
 use wire::Refusal;
@@ -167,7 +166,7 @@ fn read_columns(s: &[u8], at: usize) -> ColumnsRead
         PartRead::Refused(r) => return ColumnsRead::Refused(r),
     };
     let start = cut.next;
-    let len = bytes_for(types.len);
+    let len = wire::bytes_for(types.len);
     let next = match within(s, start, len, start) {
         Place::At(next) => next,
         Place::Refused(r) => return ColumnsRead::Refused(r),

@@ -1,7 +1,6 @@
 // The optional fields, one after the other (table_map_event.rs: OptionalMetadataIter).
 use crate::event::Part;
 use crate::part::PartRead;
-use crate::part::bytes_for;
 use crate::part::long_part;
 use value::Dialect;
 use wire::Packed;
@@ -118,10 +117,10 @@ fn contents_hold(numeric: usize, columns: usize, kind: u8, value: &[u8]) -> bool
     ensures { λ r. ⌜ r ≡ contentsHold numeric columns kind (now (value .entry)) ⌝ }
 {
     if kind == 1 {
-        return value.len() == bytes_for(numeric);
+        return value.len() == wire::bytes_for(numeric);
     }
     if kind == 12 {
-        return value.len() == bytes_for(columns);
+        return value.len() == wire::bytes_for(columns);
     }
     if kind == 2 {
         return starts_packed(value);

@@ -1,10 +1,10 @@
-// Parts of the lent bytes behind a packed length, and how many bytes bits take (io.rs: checked_eat_lenenc_str).
+// Parts of the lent bytes behind a packed length (io.rs: checked_eat_lenenc_str).
 use crate::event::Part;
 use wire::Packed;
 use wire::Refusal;
 use wire::refusal::SHORT;
 ghost use mathlib.Core.Path.{_≡_};
-ghost use Rattle.table_map.specs.Parts.{bytesFor, longPart, partRead};
+ghost use Rattle.table_map.specs.Parts.{longPart, partRead};
 
 // A part and the place after it, or why there is none.
 pub(crate) enum PartRead {
@@ -30,11 +30,4 @@ pub(crate) fn long_part(s: &[u8], at: usize) -> PartRead
         }
         Packed::Refused(r) => PartRead::Refused(r),
     }
-}
-
-// How many bytes n bits take. The sum of n and 7 may be too large to be made.
-pub(crate) fn bytes_for(n: usize) -> usize
-    ensures { λ r. ⌜ r ≡ bytesFor n ⌝ }
-{
-    n / 8 + (n % 8 + 7) / 8
 }

@@ -1,5 +1,4 @@
 // The event written, all or nothing, and its size (table_map_event.rs: MySerialize and BinlogStruct for TableMapEvent).
-use crate::part::bytes_for;
 use value::Size;
 use wire::Written;
 use wire::refusal::NO_ROOM;
@@ -36,7 +35,7 @@ fn is_event(id: u64, database: &[u8], table: &[u8], types: &[u8], bits: &[u8]) -
     if NAME_MOST < table.len() {
         return false;
     }
-    bits.len() == bytes_for(types.len())
+    bits.len() == wire::bytes_for(types.len())
 }
 
 // How many bytes the event takes, or why it is not written.

@@ -7,6 +7,10 @@ use lib.Dec.{eqb}
 use Rattle.wire.specs.Outcome.{Outcome}
 use Rattle.wire.specs.Stored.{store}
 
+-- how many bytes n bits take
+abbrev pub bytesFor : ℕ → ℕ
+bytesFor n = (n + 7) / 8
+
 -- whether binary digit j of x is 1
 unfoldable pub digit : ℕ → ℕ → Bool
 digit x j = eqb (x / 2 ^ j % 2) 1

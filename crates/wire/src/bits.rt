@@ -5,8 +5,15 @@ use crate::store::Written;
 ghost use mathlib.Core.Path.{_≡_};
 ghost use Prim.Native.Nat.{_/_, _^_, _<_};
 ghost use lib.ListN.{getD};
-ghost use Rattle.wire.specs.Bits.{digit, withDigit, storeDigit, lsb0, msb0, bitLsb0, bitMsb0};
+ghost use Rattle.wire.specs.Bits.{bytesFor, digit, withDigit, storeDigit, lsb0, msb0, bitLsb0, bitMsb0};
 ghost use Rattle.wire.specs.Stored.{answerOf, leftOf, writtenOf};
+
+// How many bytes n bits take. The sum of n and 7 may be too large to be made.
+pub fn bytes_for(n: usize) -> usize
+    ensures { λ r. ⌜ r ≡ bytesFor n ⌝ }
+{
+    n / 8 + (n % 8 + 7) / 8
+}
 
 // Bit i, the lowest of each byte first; a bit past the bytes is not set.
 pub fn bit_lsb0(s: &[u8], i: usize) -> bool

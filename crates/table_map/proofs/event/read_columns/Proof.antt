@@ -8,7 +8,7 @@ use Rattle.table_map.proofs.event.read_columns.Statement.{statement}
 use Rattle.table_map.proofs.event.read_columns.Tie as tie
 use Rattle.table_map.proofs.event.read_columns.Reads as reads
 use Rattle.table_map.proofs.event.read_columns.Lts as lts
-use Rattle.table_map.proofs.part.bytes_for.Reads as bytes-for-reads
+use Rattle.wire.proofs.bytes_for.Reads as bytes-for-reads
 use Rattle.table_map.proofs.part.long_part.Reads as long-part-reads
 use Rattle.table_map.proofs.event.read_length.Reads as read-length-reads
 use Rattle.table_map.proofs.event.within.Reads as within-reads

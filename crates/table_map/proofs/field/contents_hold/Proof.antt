@@ -8,7 +8,7 @@ use Rattle.table_map.proofs.field.contents_hold.Tie as tie
 use Rattle.table_map.proofs.field.contents_hold.Reads as reads
 use Rattle.table_map.proofs.field.contents_hold.Lts as lts
 use Rattle.table_map.proofs.field.starts_packed.Reads as starts-packed-reads
-use Rattle.table_map.proofs.part.bytes_for.Reads as bytes-for-reads
+use Rattle.wire.proofs.bytes_for.Reads as bytes-for-reads
 
 bytes-for-requires : tie.Need-bytes-for-requires
 bytes-for-requires c κs = search needs

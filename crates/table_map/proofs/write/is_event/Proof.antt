@@ -10,7 +10,7 @@ use Rattle.table_map.proofs.write.is_event.Statement.{statement}
 use Rattle.table_map.proofs.write.is_event.Tie as tie
 use Rattle.table_map.proofs.write.is_event.Reads as reads
 use Rattle.table_map.proofs.write.is_event.Lts as lts
-use Rattle.table_map.proofs.part.bytes_for.Reads as bytes-for-reads
+use Rattle.wire.proofs.bytes_for.Reads as bytes-for-reads
 
 returns : tie.Need-returns
 unfolding isEvent

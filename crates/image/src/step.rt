@@ -1,0 +1,161 @@
+// One step over an image: the next present column from a cursor on.
+use crate::cursor::Cursor;
+use crate::cursor::HeadRead;
+use crate::cursor::read_head;
+use crate::presence::count_bits;
+use crate::presence::first_set;
+use value::Read;
+use value::Value;
+use wire::Refusal;
+use wire::refusal::IMAGE_SHORT;
+use wire::refusal::NO_COLUMN;
+ghost use mathlib.Core.Path.{_≡_};
+ghost use Rattle.image.specs.Split.{told, stepOver, slotsAt, stepFrom};
+ghost use Rattle.image.specs.Inner.{Placed, cursorOf, toldInner, Ranked};
+
+// What stands at a cursor: NULL or a value, with its column and the next cursor; or the end, with the bytes used.
+pub enum Step {
+    Null {
+        column: usize,
+        next: Cursor,
+    },
+    Value {
+        column: usize,
+        value: Value,
+        next: Cursor,
+    },
+    End {
+        used: usize,
+    },
+    Refused(Refusal),
+}
+
+// A cursor that knows the rank of its null bit: how many present columns stand before its own. With it a step over a row need not count them again.
+pub(crate) struct Standing {
+    pub column: usize,
+    pub rank: usize,
+    pub offset: usize,
+}
+
+// The same answers, with such a cursor for the next column.
+pub(crate) enum Inner {
+    Null {
+        column: usize,
+        next: Standing,
+    },
+    Value {
+        column: usize,
+        value: Value,
+        next: Standing,
+    },
+    End {
+        used: usize,
+    },
+    Refused(Refusal),
+}
+
+// A step on a record and presence bits that were tested.
+pub(crate) fn step_inner(
+    profile: &[u8],
+    presence: &[u8],
+    image: &[u8],
+    columns: usize,
+    at: Standing,
+) -> Inner
+    requires { ⌜ Placed (now profile) (now presence) columns at ⌝ }
+    ensures { λ r. ⌜ toldInner r ≡ stepOver (slotsAt (now (profile .entry)) (now (presence .entry)) (now (image .entry)) (at .column)) (now (image .entry)) (at .offset) ⌝ }
+    ensures { λ r. ⌜ Ranked (now (presence .entry)) r ⌝ }
+{
+    let column = first_set(presence, at.column, columns);
+    if column == columns {
+        return Inner::End { used: at.offset };
+    }
+    let behind = column + 1;
+    let rank = at.rank + 1;
+    if wire::bit_lsb0(image, at.rank) {
+        return Inner::Null {
+            column,
+            next: Standing {
+                column: behind,
+                rank,
+                offset: at.offset,
+            },
+        };
+    }
+    let stored = record::column_of(record::entry_in(profile, column));
+    match value::read_value(stored, image, at.offset, column) {
+        Read::Got { value, next } => Inner::Value {
+            column,
+            value,
+            next: Standing {
+                column: behind,
+                rank,
+                offset: next,
+            },
+        },
+        Read::Refused(r) => Inner::Refused(r),
+    }
+}
+
+fn cursor_of(at: Standing) -> Cursor
+    ensures { λ r. ⌜ r ≡ cursorOf at ⌝ }
+{
+    Cursor {
+        column: at.column,
+        offset: at.offset,
+    }
+}
+
+// The answer without ranks.
+fn without_rank(step: Inner) -> Step
+    ensures { λ r. ⌜ told r ≡ toldInner step ⌝ }
+{
+    match step {
+        Inner::Null { column, next } => Step::Null {
+            column,
+            next: cursor_of(next),
+        },
+        Inner::Value {
+            column,
+            value,
+            next,
+        } => Step::Value {
+            column,
+            value,
+            next: cursor_of(next),
+        },
+        Inner::End { used } => Step::End { used },
+        Inner::Refused(r) => Step::Refused(r),
+    }
+}
+
+impl Cursor {
+    // The next present column from this cursor on. A made-up cursor obeys the same rule.
+    pub fn step(self, profile: &[u8], presence: &[u8], image: &[u8]) -> Step
+        ensures { λ r. ⌜ told r ≡ stepFrom (now (profile .entry)) (now (presence .entry)) (now (image .entry)) self ⌝ }
+    {
+        let column = self.column;
+        let offset = self.offset;
+        let head = match read_head(profile, presence) {
+            HeadRead::Read(head) => head,
+            HeadRead::Refused(r) => return Step::Refused(r),
+        };
+        let columns = head.columns;
+        if columns < column {
+            return Step::Refused(wire::refuse(NO_COLUMN, column));
+        }
+        if image.len() < head.nulls {
+            return Step::Refused(wire::refuse(IMAGE_SHORT, 0));
+        }
+        if image.len() < offset {
+            return Step::Refused(wire::refuse(IMAGE_SHORT, column));
+        }
+        let rank = count_bits(presence, column);
+        let at = Standing {
+            column,
+            rank,
+            offset,
+        };
+        without_rank(step_inner(profile, presence, image, columns, at))
+    }
+}
