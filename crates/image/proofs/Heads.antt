@@ -1,0 +1,38 @@
+-- What the tests before a call tell when they went well. Assumes nothing.
+use Prim.Native.Nat.{ℕ}
+use mathlib.Core.Path.{_≡_, refl, ap, subst, _∙_}
+use mathlib.Core.List.{List}
+use borrow.Author.Tests.{eqb-true}
+use lib.ListN.{length}
+use lib.Dec.{eqb}
+use Rattle.wire.specs.Outcome.{ok, why}
+use Rattle.wire.specs.Bits.{bytesFor}
+use Rattle.wire.proofs.Outcomes.{after-is-ok, test-is-ok}
+use Rattle.record.specs.Records.{countOf, readRecord}
+use Rattle.record.proofs.Valid.{read-valid}
+use Rattle.image.specs.declared.cursor.Head.{Head}
+use Rattle.image.specs.Present.{countBits}
+use Rattle.image.specs.Split.{head, headOf}
+use Rattle.image.specs.Puts.{headNulls}
+
+-- the columns that the record counts, and the bytes of one null bit for each present one
+pub record Tested (r p : List ℕ) (h : Head) : Type 0 where
+  pub columns : h .columns ≡ countOf r
+  pub nulls : h .nulls ≡ bytesFor (countBits p (h .columns))
+
+pub head-tested : (r p : List ℕ) (h : Head) → headOf r p ≡ ok h → Tested r p h
+unfolding headOf
+head-tested r p h e =
+    let w = after-is-ok (readRecord r) _ h e in
+    let n = w .0 in
+    let t = test-is-ok (eqb (length p) (bytesFor n)) (head n (bytesFor (countBits p n))) (why 12 0) h (w .2) in
+    subst (Tested r p) (t .1) (record { columns = read-valid r n (w .1) .1; nulls = refl })
+
+-- with null bits: the same tests, and they are just so many bytes
+pub nulls-tested : (r p nulls : List ℕ) (h : Head) → headNulls r p nulls ≡ ok h → (headOf r p ≡ ok h) × (length nulls ≡ h .nulls)
+unfolding headNulls
+nulls-tested r p nulls h e =
+    let w = after-is-ok (headOf r p) _ h e in
+    let a = w .0 in
+    let t = test-is-ok (eqb (length nulls) (a .nulls)) a (why 12 0) h (w .2) in
+    (w .1 ∙ ap ok (t .1), eqb-true (length nulls) (a .nulls) (t .0) ∙ ap (λ (x : Head). x .nulls) (t .1))

@@ -1,0 +1,160 @@
+-- What the image writer answers and leaves, by what the code finds. Assumes nothing.
+use Prim.Native.Nat.{ℕ, _+_, _-_, _≤_, _<_}
+use mathlib.Core.Path.{_≡_, refl, sym, ap, _∙_}
+use mathlib.Core.Bool.{true, false}
+use mathlib.Core.List.{List, [], _∷_}
+use native.Mathlib.Nat.{add-zero}
+use native.Mathlib.Omega.{arith}
+use borrow.Author.Tests.{lt-ltb, le-ltb}
+use lib.ListN.{length}
+use Rattle.wire.specs.declared.refusal.Refusal.{Refusal}
+use Rattle.wire.specs.Outcome.{Outcome, ok, refused, refuse, after}
+use Rattle.wire.specs.Bits.{bytesFor, bitLsb0}
+use Rattle.wire.specs.Stored.{stored, store, answerOf, leftOf, writtenOf}
+use Rattle.wire.specs.declared.store.Written.{Written}
+use Rattle.wire.specs.declared.store.Written.the-variants.{Done, Refused}
+use Rattle.wire.proofs.Outcomes.{after-after}
+use Rattle.wire.proofs.Stores.{store-fits, store-full, stored-none}
+use Rattle.value.specs.declared.column.Column.{Column}
+use Rattle.value.specs.declared.datum.Value.{Value}
+use Rattle.value.specs.Columns.{shapeOf}
+use Rattle.value.specs.Reading.{datumOf}
+use Rattle.value.specs.Storing.{storedBytes, writeValue}
+use Rattle.record.specs.Entries.{columnOf}
+use Rattle.record.specs.Records.{entryIn}
+use Rattle.image.specs.declared.cursor.Cursor.{Cursor}
+use Rattle.image.specs.declared.cursor.Head.{Head}
+use Rattle.image.specs.declared.put.Put.{Put}
+use Rattle.image.specs.declared.put.Put.the-variants.{Next, Refused as Refused₂}
+use Rattle.image.specs.declared.step.Standing.{Standing}
+use Rattle.image.specs.Present.{countBits, firstFrom, shapeAt}
+use Rattle.image.specs.Split.{cursor, slotsAt}
+use Rattle.image.specs.Inner.{Placed, cursorOf}
+use Rattle.image.specs.Rows.{isNull}
+use Rattle.image.specs.Puts.{filled, headNulls, startImage, slotBytes, putOver, putFrom, putTold}
+use Rattle.image.proofs.Heads.{Tested, head-tested, nulls-tested}
+use Rattle.image.proofs.Steps.{slots-none, slots-some}
+use Rattle.image.proofs.Fills.{fill-length}
+
+-- the answer a of a call that writes, and the buffer x that it leaves, are those of w
+abbrev pub Puts : List ℕ → Outcome (Cursor × List ℕ) → Put → List ℕ → Type 0
+Puts buf w a x = (putTold a ≡ answerOf w) × (x ≡ leftOf buf w)
+
+-- a call whose answer is told and whose buffer is as it was
+pub put-refused : (buf : List ℕ) (w : Outcome (Cursor × List ℕ)) (z : Refusal) → w ≡ refused z → Puts buf w (Refused₂ z) buf
+put-refused buf w z e = rw e (refl, refl)
+
+pub put-next : (buf x : List ℕ) (w : Outcome (Cursor × List ℕ)) (c : Cursor) → w ≡ ok (c, x) → Puts buf w (Next c) x
+put-next buf x w c e = rw e (refl, refl)
+
+-- ---- the start
+module _ (r p nulls buf : List ℕ) (h : Head) (e : headNulls r p nulls ≡ ok h) where
+  tested : Tested r p h
+  tested = head-tested r p h (nulls-tested r p nulls h e .0)
+
+  -- the null bits are as many bytes as one for each present column take
+  pub nulls-size : (n : ℕ) → n ≡ countBits p (h .columns) → length nulls ≡ bytesFor n
+  nulls-size n k = nulls-tested r p nulls h e .1 ∙ tested .nulls ∙ ap bytesFor (sym k)
+
+  pub nulls-fit : h .nulls ≤ length buf → length nulls ≤ length buf
+  nulls-fit l = omega (arith, nulls-tested r p nulls h e .1)
+
+  size : length (filled (countBits p (h .columns)) nulls) ≡ h .nulls
+  size = fill-length (countBits p (h .columns)) nulls (nulls-size (countBits p (h .columns)) refl) ∙ nulls-tested r p nulls h e .1
+
+  pub start-full : length buf < h .nulls → startImage r p nulls buf ≡ refuse 8 0
+  unfolding startImage
+  start-full l = rw (e, store-full buf (filled (countBits p (h .columns)) nulls) 0 (omega (arith, size)))
+
+  start-goes : h .nulls ≤ length buf → startImage r p nulls buf ≡ ok (cursor 0 (h .nulls), stored buf 0 (filled (countBits p (h .columns)) nulls))
+  unfolding startImage
+  start-goes l = rw (e, store-fits buf (filled (countBits p (h .columns)) nulls) 0 (omega (arith, size)))
+
+  -- n being the count that the code made, and x the buffer
+  pub start-done : (n : ℕ) (x : List ℕ) → n ≡ countBits p (h .columns) → x ≡ stored buf 0 (filled n nulls) → h .nulls ≤ length buf
+      → Puts buf (startImage r p nulls buf) (Next (cursor 0 (h .nulls))) x
+  start-done n x k y l =
+      let z : x ≡ stored buf 0 (filled (countBits p (h .columns)) nulls) = y ∙ ap (λ (m : ℕ). stored buf 0 (filled m nulls)) k in
+      put-next buf x (startImage r p nulls buf) (cursor 0 (h .nulls)) (start-goes l ∙ ap (λ (b : List ℕ). ok (cursor 0 (h .nulls), b)) (sym z))
+
+-- ---- a step
+-- the cursor behind a value takes the place after it
+abbrev behind : ℕ → Outcome (ℕ × List ℕ) → Outcome (Cursor × List ℕ)
+behind j w = after w (λ x. ok (cursor j (x .0), x .1))
+
+behind-answer : (j : ℕ) (w : Outcome (ℕ × List ℕ)) → answerOf (behind j w) ≡ after (answerOf w) (λ n. ok (cursor j n))
+behind-answer j (ok x) = refl
+behind-answer j (refused z) = refl
+
+behind-left : (j : ℕ) (buf : List ℕ) (w : Outcome (ℕ × List ℕ)) → leftOf buf (behind j w) ≡ leftOf buf w
+behind-left j buf (ok x) = refl
+behind-left j buf (refused z) = refl
+
+-- f being the first present column from the cursor on
+module _
+    (r p nulls lent buf : List ℕ) (v : Value) (n : ℕ) (s : Standing) (h : Placed r p n s) (f : ℕ) (e : f ≡ firstFrom (n - s .column) p (s .column)) where
+  abbrev put : Outcome (Cursor × List ℕ)
+  put = putOver (slotsAt r p nulls (s .column)) (cursorOf s) lent v buf
+
+  pub put-end : f ≡ n → put ≡ refuse 14 (s .column)
+  unfolding putOver
+  put-end u = rw (slots-none r p n s h f e nulls u)
+
+  module _ (u : f ≡ n → ⊥) where
+    -- NULL for a column whose bit says a value
+    pub put-unmarked : isNull (datumOf lent v) ≡ true → bitLsb0 nulls (s .rank) ≡ false → put ≡ refuse 13 f
+    unfolding putOver slotBytes
+    put-unmarked i b = rw (slots-some r p n s h f e nulls u, i, b)
+
+    -- and a value for one whose bit says NULL
+    pub put-marked : isNull (datumOf lent v) ≡ false → bitLsb0 nulls (s .rank) ≡ true → put ≡ refuse 13 f
+    unfolding putOver slotBytes
+    put-marked i b = rw (slots-some r p n s h f e nulls u, i, b)
+
+    -- NULL takes no bytes, but the offset must be in the buffer
+    put-null : isNull (datumOf lent v) ≡ true → bitLsb0 nulls (s .rank) ≡ true → put ≡ behind (f + 1) (store buf (s .offset) [])
+    unfolding putOver slotBytes
+    put-null i b = rw (slots-some r p n s h f e nulls u, i, b)
+
+    pub put-null-full : isNull (datumOf lent v) ≡ true → bitLsb0 nulls (s .rank) ≡ true → length buf < s .offset → put ≡ refuse 8 0
+    put-null-full i b l = put-null i b ∙ ap (behind (f + 1)) (store-full buf [] (s .offset) (omega arith))
+
+    pub put-null-goes : isNull (datumOf lent v) ≡ true → bitLsb0 nulls (s .rank) ≡ true → s .offset ≤ length buf → put ≡ ok (cursor (f + 1) (s .offset), buf)
+    put-null-goes i b l =
+        let w : store buf (s .offset) [] ≡ ok (s .offset, buf) = store-fits buf [] (s .offset) (omega arith) ∙ rw (add-zero (s .offset), stored-none buf (s .offset)) in
+        put-null i b ∙ ap (behind (f + 1)) w
+
+    -- the value as the record's column stores it
+    module _ (i : isNull (datumOf lent v) ≡ false) (b : bitLsb0 nulls (s .rank) ≡ false) (k : Column) (g : k ≡ columnOf (entryIn r f)) where
+      put-value : put ≡ behind (f + 1) (writeValue (shapeOf k) f lent v buf (s .offset))
+      unfolding putOver slotBytes writeValue shapeAt
+      put-value =
+          rw (slots-some r p n s h f e nulls u, i, b)
+          (sym (after-after (storedBytes (shapeAt r f) f lent v) (store buf (s .offset)) (λ x. ok (cursor (f + 1) (x .0), x .1)))
+          ∙ ap (λ (c : Column). behind (f + 1) (after (storedBytes (shapeOf c) f lent v) (store buf (s .offset)))) (sym g))
+
+      module _ (a : Written) (x : List ℕ)
+          (q : writtenOf a ≡ answerOf (writeValue (shapeOf k) f lent v buf (s .offset))) (y : x ≡ leftOf buf (writeValue (shapeOf k) f lent v buf (s .offset))) where
+        answer-is : answerOf put ≡ after (writtenOf a) (λ m. ok (cursor (f + 1) m))
+        answer-is = ap answerOf put-value ∙ behind-answer (f + 1) (writeValue (shapeOf k) f lent v buf (s .offset)) ∙ ap (λ (w : Outcome ℕ). after w (λ m. ok (cursor (f + 1) m))) (sym q)
+
+        left-is : x ≡ leftOf buf put
+        left-is = y ∙ sym (ap (leftOf buf) put-value ∙ behind-left (f + 1) buf (writeValue (shapeOf k) f lent v buf (s .offset)))
+
+        pub put-done : (m : ℕ) → a ≡ Done m → Puts buf put (Next (cursor (f + 1) m)) x
+        put-done m z = (sym (rw z at answer-is), left-is)
+
+        pub put-bad : (w : Refusal) → a ≡ Refused w → Puts buf put (Refused₂ w) x
+        put-bad w z = (sym (rw z at answer-is), left-is)
+
+-- a step from a column above the record's
+pub put-above : (r p nulls : List ℕ) (c : Cursor) (lent : List ℕ) (v : Value) (buf : List ℕ) (h : Head) → headNulls r p nulls ≡ ok h → h .columns < c .column
+    → putFrom r p nulls c lent v buf ≡ refuse 14 (c .column)
+unfolding putFrom
+put-above r p nulls c lent v buf h e l = rw (e, lt-ltb (h .columns) (c .column) l)
+
+-- one that passes the tests goes over the slots from its column on
+pub put-goes : (r p nulls : List ℕ) (c : Cursor) (lent : List ℕ) (v : Value) (buf : List ℕ) (h : Head) → headNulls r p nulls ≡ ok h → c .column ≤ h .columns
+    → putFrom r p nulls c lent v buf ≡ putOver (slotsAt r p nulls (c .column)) c lent v buf
+unfolding putFrom
+put-goes r p nulls c lent v buf h e l = rw (e, le-ltb (h .columns) (c .column) l)

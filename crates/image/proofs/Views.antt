@@ -1,0 +1,51 @@
+-- No two answers look the same on paper, so any two results that a contract allows are equal. Assumes nothing.
+use mathlib.Core.Path.{_≡_, refl}
+use Rattle.wire.specs.declared.refusal.Refusal.{Refusal}
+use Rattle.wire.specs.Outcome.{Outcome, ok, refused}
+use Rattle.wire.proofs.Outcomes.{same-by-back}
+use Rattle.image.specs.declared.cursor.First.{First}
+use Rattle.image.specs.declared.cursor.First.the-variants.{At, Refused}
+use Rattle.image.specs.declared.step.Step.{Step}
+use Rattle.image.specs.declared.step.Step.the-variants.{Null, Value as Value₂, End, Refused as Refused₂}
+use Rattle.image.specs.declared.put.Put.{Put}
+use Rattle.image.specs.declared.put.Put.the-variants.{Next, Refused as Refused₃}
+use Rattle.image.specs.Split.{Told, null, value, end, told, firstTold}
+use Rattle.image.specs.Puts.{putTold}
+
+-- the way back from what a step says
+abbrev back-step : Outcome Told → Step
+back-step (ok (null column next)) = Null column next
+back-step (ok (value column v next)) = Value₂ column v next
+back-step (ok (end used)) = End used
+back-step (refused r) = Refused₂ r
+
+step-way : (a : Step) → back-step (told a) ≡ a
+step-way (Null column next) = refl
+step-way (Value₂ column v next) = refl
+step-way (End used) = refl
+step-way (Refused₂ r) = refl
+
+-- of steps
+pub same-step : (a b : Step) → told a ≡ told b → a ≡ b
+same-step = same-by-back told back-step step-way
+
+-- the way back from a cursor or a refusal
+abbrev back-read : {A S : Type 0} → (A → S) → (Refusal → S) → Outcome A → S
+back-read it refuse (ok a) = it a
+back-read it refuse (refused r) = refuse r
+
+first-way : (a : First) → back-read At Refused (firstTold a) ≡ a
+first-way (At c) = refl
+first-way (Refused r) = refl
+
+-- of first cursors
+pub same-first : (a b : First) → firstTold a ≡ firstTold b → a ≡ b
+same-first = same-by-back firstTold (back-read At Refused) first-way
+
+put-way : (a : Put) → back-read Next Refused₃ (putTold a) ≡ a
+put-way (Next c) = refl
+put-way (Refused₃ r) = refl
+
+-- of the writer
+pub same-put : (a b : Put) → putTold a ≡ putTold b → a ≡ b
+same-put = same-by-back putTold (back-read Next Refused₃) put-way
