@@ -40,10 +40,20 @@ pub data Split (cs : List Present) (k : ℕ) (nulls s : List ℕ) (o : ℕ) : Wa
       → inDomains before ds ≡ true → Marks nulls k ds → bitLsb0 nulls (k + length before) ≡ false → s ≡ rowBytes before ds ++ rest → Fails (c .shape) rest n
       → Split cs k nulls s o (record { answers = answersOf before ds; how = refuse n (c .column) })
 
--- columns of a valid record
-unfoldable pub Good : List Present → Type 0
-Good [] = Unit {0}
-Good (c ∷ cs) = Sized (c .shape) × (isTaken (c .shape) ≡ true) × Good cs
+-- what holds of each present column
+unfoldable pub Each : (Present → Type 0) → List Present → Type 0
+Each P [] = Unit {0}
+Each P (c ∷ cs) = P c × Each P cs
+
+pub each-at : (P : Present → Type 0) (before : List Present) (c : Present) (behind : List Present) → Each P (before ++ (c ∷ behind)) → P c
+unfolding Each
+each-at P [] c behind e = e .0
+each-at P (b ∷ before) c behind e = each-at P before c behind (e .1)
+
+-- as in a valid record: accepted, and of a width that there is
+pub record Good (c : Present) : Type 0 where
+  pub sized : Sized (c .shape)
+  pub taken : isTaken (c .shape) ≡ true
 
 -- ---- every list of bytes
 -- the bytes of one value and then a row's
@@ -70,10 +80,10 @@ split-stops : (c : Present) (cs : List Present) (k : ℕ) (nulls s : List ℕ) (
 unfolding inDomains rowBytes answersOf Marks
 split-stops c cs k nulls s o n e z = stops [] c cs [] s n refl refl tt (rw add-zero e) refl z
 
-pub split : (cs : List Present) (k : ℕ) (nulls s : List ℕ) (o : ℕ) → Good cs → Bytes s → Split cs k nulls s o (readSlots (slots cs k nulls) s o)
-unfolding readSlots slots Good inDomains rowBytes answersOf Marks
+pub split : (cs : List Present) (k : ℕ) (nulls s : List ℕ) (o : ℕ) → Each Good cs → Bytes s → Split cs k nulls s o (readSlots (slots cs k nulls) s o)
+unfolding readSlots slots Each inDomains rowBytes answersOf Marks
 split [] k nulls s o g h = subst (λ (x : ℕ). Split [] k nulls s o (stopped (ok x))) (add-zero o) (all [] s refl tt refl)
-split (c ∷ cs) k nulls s o g h = go (λ n. split cs (suc k) nulls (drop n s) (o + n) (g .2) (bytes-drop n s h)) (readSlot i s) refl
+split (c ∷ cs) k nulls s o g h = go (λ n. split cs (suc k) nulls (drop n s) (o + n) (g .1) (bytes-drop n s h)) (readSlot i s) refl
   where
     i : Slot
     i = record { present = c; null = bitLsb0 nulls k }
@@ -81,9 +91,9 @@ split (c ∷ cs) k nulls s o g h = go (λ n. split cs (suc k) nulls (drop n s) (
     go : ((n : ℕ) → Split cs (suc k) nulls (drop n s) (o + n) (readSlots (slots cs (suc k) nulls) (drop n s) (o + n)))
         → (x : Outcome (Datum × ℕ)) → readSlot i s ≡ x
         → Split (c ∷ cs) k nulls s o (answered (c .column) (λ n. readSlots (slots cs (suc k) nulls) (drop n s) (o + n)) x)
-    go f (ok x) e = split-more c cs k nulls s o (x .0) (x .1) _ (slot-sound i s (x .0) (x .1) (g .0) h e) (f (x .1))
+    go f (ok x) e = split-more c cs k nulls s o (x .0) (x .1) _ (slot-sound i s (x .0) (x .1) (g .0 .sized) h e) (f (x .1))
     go f (refused w) e =
-        let v = slot-fails i s w (g .1) e in
+        let v = slot-fails i s w (g .0 .taken) e in
         subst (λ (p : ℕ). Split (c ∷ cs) k nulls s o (stopped (refuse (w .number) p))) (sym (v .1)) (split-stops c cs k nulls s o (w .number) (v .0) (v .2))
 
 -- ---- and the other way
@@ -110,12 +120,7 @@ read-row (c ∷ cs) more (d ∷ ds) k nulls rest o h m =
     read-row cs more ds (suc k) nulls rest (o + length b) (w .1) (m .1),
     j, n)
 
-good-at : (before : List Present) (c : Present) (behind : List Present) → Good (before ++ (c ∷ behind)) → isTaken (c .shape) ≡ true
-unfolding Good
-good-at [] c behind g = g .1
-good-at (b ∷ before) c behind g = good-at before c behind (g .2)
-
-pub split-back : (cs : List Present) (k : ℕ) (nulls s : List ℕ) (o : ℕ) (w : Walked) → Good cs → Split cs k nulls s o w → readSlots (slots cs k nulls) s o ≡ w
+pub split-back : (cs : List Present) (k : ℕ) (nulls s : List ℕ) (o : ℕ) (w : Walked) → Each Good cs → Split cs k nulls s o w → readSlots (slots cs k nulls) s o ≡ w
 unfolding readSlots slots
 split-back cs k nulls s o _ g (all ds rest h m q) =
     ap (λ (l : List Present). readSlots (slots l k nulls) s o) (sym (append-nil cs))
@@ -123,7 +128,7 @@ split-back cs k nulls s o _ g (all ds rest h m q) =
     ∙ read-row cs [] ds k nulls rest o h m
     ∙ ap (λ (a : List (ℕ × Datum)). record { answers = a; how = ok (o + length (rowBytes cs ds)) }) (append-nil (answersOf cs ds))
 split-back cs k nulls s o _ g (stops before c behind ds rest n e h m v q z) =
-    let t = good-at before c behind (subst Good e g) in
+    let t = each-at Good before c behind (subst (Each Good) e g) .taken in
     ap (λ (l : List Present). readSlots (slots l k nulls) s o) e
     ∙ ap (λ (l : List ℕ). readSlots (slots (before ++ (c ∷ behind)) k nulls) l o) q
     ∙ read-row before (c ∷ behind) ds k nulls rest o h m
