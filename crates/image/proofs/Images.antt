@@ -14,20 +14,21 @@ use lib.Seq.{length-take-le, drop-append-seam}
 use Rattle.wire.specs.declared.refusal.Refusal.{Refusal}
 use Rattle.wire.specs.Outcome.{Outcome, ok, refused, refuse, why}
 use Rattle.wire.specs.Number.{Bytes}
-use Rattle.wire.specs.Bits.{bytesFor}
+use Rattle.wire.specs.Bits.{bytesFor, bitLsb0}
 use Rattle.wire.proofs.Inverse.{bytes-drop}
 use Rattle.wire.proofs.Outcomes.{same-refused, ok-not-refused}
 use Rattle.temporal.proofs.Ranges.{and-true}
 use Rattle.value.specs.declared.shape.Shape.{Shape}
 use Rattle.value.specs.Reading.{Fails, short as cut, range}
 use Rattle.record.specs.Records.{countOf, recordValid}
-use Rattle.image.specs.Present.{Present, countBits, present}
-use Rattle.image.specs.Split.{slots, cursor, firstCursor, stepFrom}
-use Rattle.image.specs.Walk.{Walked, onward, walkSteps, walk}
+use Rattle.image.specs.declared.cursor.Cursor.{Cursor}
+use Rattle.image.specs.Present.{Present, countBits, presentFrom, present}
+use Rattle.image.specs.Split.{Slot, slots, slotsAt, cursor, firstCursor, stepFrom}
+use Rattle.image.specs.Walk.{Walked, walkSteps, walkFrom, walk}
 use Rattle.image.specs.Rows.{Row, inDomains, rowBytes, answersOf, Marks, Says, read, short, broken}
 use Rattle.image.proofs.Slots.{inCell}
 use Rattle.image.proofs.Splits.{readSlots, Split, all, stops, Each, each-at, split, split-back}
-use Rattle.image.proofs.Presents.{present-length, good-present, Among, among-present, slots-front, slots-all}
+use Rattle.image.proofs.Presents.{present-length, good-from, good-present, Among, among-present, present-same, slots-same, slots-front, slots-all}
 use Rattle.image.proofs.Walks.{Over, nullBytes, head-is, steps-read}
 
 -- ---- the walk, without steps
@@ -72,6 +73,16 @@ every-image r p im v b y =
     (λ h.
     let s : length im < o = omega arith in
     rw (walk-short r p im u s) (short s))
+
+-- the same from a cursor, made up or not, that stands within the image
+pub every-cursor : (r p im : List ℕ) (c : Cursor) → Over r p → nullBytes r p ≤ length im → c .column ≤ countOf r → c .offset ≤ length im → Bytes im
+    → Split (presentFrom (countOf r - c .column) r p (c .column)) (countBits p (c .column)) im (drop (c .offset) im) (c .offset) (walkFrom r p im c)
+unfolding slotsAt
+every-cursor r p im c u w h b y =
+    let n = countOf r in
+    rw (steps-read (suc n) r p im c u w h b (omega arith))
+    (split (presentFrom (n - c .column) r p (c .column)) (countBits p (c .column)) im (drop (c .offset) im) (c .offset) (good-from (n - c .column) r p (c .column) (u .valid) (omega arith))
+    (bytes-drop (c .offset) im y))
 
 -- ---- and no other answers
 pub only-says : (r p im : List ℕ) (w : Walked) → recordValid r ≡ true → length p ≡ bytesFor (countOf r) → Says (present r p) im w → walk r p im ≡ w
@@ -120,3 +131,19 @@ no-other r p im v h b y e = go (every-image r p im h b y) e
     go (broken nulls rest before c behind ds n x l d m k q f) e =
         let a = each-at (λ c. Among r p (c .column)) before c behind (subst (Each (λ c. Among r p (c .column))) x (among-present r p)) in
         subst (Refusals r p im) (same-refused e) (at-column n (c .column) (fails-number f) a)
+
+-- ---- spare bits are ignored: those of the presence bits, and those of the null bits
+pub spare-presence : (r p q im : List ℕ) → recordValid r ≡ true → length p ≡ bytesFor (countOf r) → length q ≡ length p
+    → ((i : ℕ) → i < countOf r → bitLsb0 p i ≡ bitLsb0 q i) → Bytes im → walk r q im ≡ walk r p im
+spare-presence r p q im v b l h y =
+    only-says r q im (walk r p im) v (l ∙ b) (subst (λ (cs : List Present). Says cs im (walk r p im)) (present-same r p q h) (every-image r p im v b y))
+
+pub spare-nulls : (r p nulls nulls′ s : List ℕ) → recordValid r ≡ true → length p ≡ bytesFor (countOf r) → length nulls ≡ bytesFor (length (present r p)) → length nulls′ ≡ length nulls
+    → ((i : ℕ) → i < length (present r p) → bitLsb0 nulls i ≡ bitLsb0 nulls′ i) → walk r p (nulls′ ++ s) ≡ walk r p (nulls ++ s)
+spare-nulls r p nulls nulls′ s v b l e h =
+    let cs = present r p in
+    let u : Over r p = record { valid = v; bits = b } in
+    walk-read r p nulls′ s u (e ∙ l)
+    ∙ ap (readSlots (slots cs 0 nulls′) s) e
+    ∙ ap (λ (is : List Slot). readSlots is s (length nulls)) (slots-same cs 0 nulls′ nulls (λ i k. sym (h i (omega arith))))
+    ∙ sym (walk-read r p nulls s u l)

@@ -49,9 +49,13 @@ each-from P (suc m) r p j h = go (each-from P m r p (suc j) (λ i a. h i (omega 
     go g true e = (h j (omega arith) e, g)
     go g false e = g
 
-pub good-present : (r p : List ℕ) → recordValid r ≡ true → Each Good (present r p)
+-- of a valid record
+pub good-from : (m : ℕ) (r p : List ℕ) (j : ℕ) → recordValid r ≡ true → j + m ≤ countOf r → Each Good (presentFrom m r p j)
 unfolding shapeAt
-good-present r p v = each-from Good (countOf r) r p 0 (λ i a b. record { sized = sized (columnOf (entryIn r i)); taken = valid-column r i v (omega arith) })
+good-from m r p j v h = each-from Good m r p j (λ i a b. record { sized = sized (columnOf (entryIn r i)); taken = valid-column r i v (omega arith) })
+
+pub good-present : (r p : List ℕ) → recordValid r ≡ true → Each Good (present r p)
+good-present r p v = good-from (countOf r) r p 0 v (omega arith)
 
 -- a present column of the record: there is such a column, and its bit is set
 pub record Among (r p : List ℕ) (j : ℕ) : Type 0 where
@@ -60,6 +64,15 @@ pub record Among (r p : List ℕ) (j : ℕ) : Type 0 where
 
 pub among-present : (r p : List ℕ) → Each (λ c. Among r p (c .column)) (present r p)
 among-present r p = each-from (λ c. Among r p (c .column)) (countOf r) r p 0 (λ i a b. record { column = omega arith; bit = b })
+
+-- ---- presence bits: no others than the record's columns' are looked at
+present-bits : (m : ℕ) (r a b : List ℕ) (j : ℕ) → ((i : ℕ) → i < j + m → bitLsb0 a i ≡ bitLsb0 b i) → presentFrom m r a j ≡ presentFrom m r b j
+unfolding presentFrom
+present-bits zero r a b j h = refl
+present-bits (suc m) r a b j h = rw (h j (omega arith), present-bits m r a b (suc j) (λ i l. h i (omega arith)))
+
+pub present-same : (r a b : List ℕ) → ((i : ℕ) → i < countOf r → bitLsb0 a i ≡ bitLsb0 b i) → present r a ≡ present r b
+present-same r a b h = present-bits (countOf r) r a b 0 (λ i l. h i (omega arith))
 
 -- ---- null bits: no others than the first, one for each present column
 pub slots-same : (cs : List Present) (k : ℕ) (a b : List ℕ) → ((i : ℕ) → i < k + length cs → bitLsb0 a i ≡ bitLsb0 b i) → slots cs k a ≡ slots cs k b
