@@ -1,7 +1,7 @@
 -- A row written by steps is one store of its image, or refused for want of room and for nothing else; and the walk reads it back. Assumes nothing.
 use Prim.Native.Nat.{ℕ, suc, _+_, _-_, _≤_, _<_}
 use mathlib.Core.Path.{_≡_, refl, sym, ap, subst, _∙_}
-use mathlib.Core.Bool.{Bool, true, false, cond, _&&_, true≢false}
+use mathlib.Core.Bool.{Bool, true, false, true≢false}
 use mathlib.Core.Logic.{dite, ⊎-elim}
 use mathlib.Core.List.{List, [], _∷_, _++_, append-assoc}
 use native.Mathlib.Nat.{add-zero, zero-add, sub-zero}
@@ -10,20 +10,18 @@ use native.Mathlib.Decide.{decLe}
 use native.Mathlib.Omega.{arith}
 use borrow.Author.Tests.{le-ltb, eq-eqb}
 use lib.ListN.{length, drop, length-append}
-use Rattle.wire.specs.declared.refusal.Refusal.{Refusal}
 use Rattle.wire.specs.Outcome.{Outcome, ok, refused, refuse, after, why}
 use Rattle.wire.specs.Bits.{bytesFor, bitLsb0}
 use Rattle.wire.specs.Stored.{stored, store}
-use Rattle.wire.proofs.Outcomes.{after-after, after-is-ok, after-refuses, same-ok, ok-not-refused}
+use Rattle.wire.proofs.Outcomes.{after-is-ok, after-refuses, same-ok, ok-not-refused}
 use Rattle.wire.proofs.Stores.{length-stored, stored-none, stored-stored, store-fits, store-full}
 use Rattle.temporal.proofs.Ranges.{and-true}
 use Rattle.value.specs.declared.datum.Value.{Value}
-use Rattle.value.specs.Data.{Datum}
 use Rattle.value.specs.Domains.{domain}
 use Rattle.value.specs.Reading.{datumOf}
 use Rattle.value.specs.Storing.{isLent, isIn, storedBytes}
 use Rattle.value.proofs.Facts.{taken-domain}
-use Rattle.record.specs.Records.{countOf, recordValid}
+use Rattle.record.specs.Records.{countOf}
 use Rattle.image.specs.declared.cursor.Cursor.{Cursor}
 use Rattle.image.specs.Present.{Present, countBits, firstFrom, presentFrom, present}
 use Rattle.image.specs.Split.{Slot, slots, slotsAt, cursor, head}
@@ -31,7 +29,7 @@ use Rattle.image.specs.Walk.{walk}
 use Rattle.image.specs.Rows.{Row, isNull, inDomains, rowBytes, answersOf, Marks}
 use Rattle.image.specs.Puts.{filled, headNulls, startImage, slotBytes, putOver, putFrom}
 use Rattle.image.specs.Given.{Given, rowOf, areLent, Fit, putRow, writeRow}
-use Rattle.image.proofs.Firsts.{presentAt, first-is, present-end, present-first, count-set, count-none}
+use Rattle.image.proofs.Firsts.{first-is, present-end, present-first, count-set, count-none}
 use Rattle.image.proofs.Slots.{inCell, cell}
 use Rattle.image.proofs.Presents.{present-length}
 use Rattle.image.proofs.Walks.{Over, nullBytes, head-is}
@@ -109,9 +107,11 @@ next-present r p j c cs h e =
     let x : f ≡ c .column = ap (λ (y : Present). y .column) (heads z) in
     let k : n - (f + 1) ≡ j + (n - j) - suc f = omega arith in
     let s : f + 1 ≡ suc f = add-one f in
-    rw (← x)
-    (l, ap (λ (y : ℕ). presentFrom y r p (f + 1)) k ∙ ap (presentFrom (j + (n - j) - suc f) r p) s ∙ tails z,
-    ap (countBits p) s ∙ count-set p f (i .found (omega arith)) ∙ ap suc (i .rank)))
+    rw (← x) (
+      l,
+      ap (λ (y : ℕ). presentFrom y r p (f + 1)) k ∙ ap (presentFrom (j + (n - j) - suc f) r p) s ∙ tails z,
+      ap (countBits p) s ∙ count-set p f (i .found (omega arith)) ∙ ap suc (i .rank),
+    ))
   where
     nil-cons : (g : Present) (gs : List Present) → [] ≡ g ∷ gs → ⊥
     nil-cons g gs z = let o : _≡_ {A = ℕ} 0 1 = cc in omega arith
@@ -182,10 +182,10 @@ write-row r p nulls gs buf w =
     ∙ ap (λ (k : ℕ). store buf 0 (filled k nulls ++ rowBytes (present r p) (rowOf gs))) n
 
 -- ---- with room it is written, and read back
-marks-same : (ds : Row) (k : ℕ) (a b : List ℕ) → ((i : ℕ) → i < k + length ds → bitLsb0 b i ≡ bitLsb0 a i) → Marks a k ds → Marks b k ds
+pub marks-same : (ds : Row) (k : ℕ) (a b : List ℕ) → ((i : ℕ) → k ≤ i → i < k + length ds → bitLsb0 b i ≡ bitLsb0 a i) → Marks a k ds → Marks b k ds
 unfolding Marks
 marks-same [] k a b h m = tt
-marks-same (d ∷ ds) k a b h m = (h k (omega arith) ∙ m .0, marks-same ds (suc k) a b (λ i l. h i (omega arith)) (m .1))
+marks-same (d ∷ ds) k a b h m = (h k (omega arith) (omega arith) ∙ m .0, marks-same ds (suc k) a b (λ i g l. h i (omega arith) (omega arith)) (m .1))
 
 flat : (nulls bs buf : List ℕ) → stored buf 0 (nulls ++ bs) ≡ nulls ++ (bs ++ drop (length (nulls ++ bs)) buf)
 unfolding stored
@@ -223,7 +223,7 @@ written r p nulls gs buf w h =
     let e = same-ok (a .2) in
     let o : a .0 .0 .offset ≡ length nulls + length bs = ap (λ (x : ℕ × List ℕ). x .0) e ∙ s in
     let k : a .0 .1 ≡ stored buf 0 (f ++ bs) = ap (λ (x : ℕ × List ℕ). x .1) e in
-    let m : Marks f 0 ds = marks-same ds 0 nulls f (λ i j. fill-kept (length ds) nulls (w .size) i (omega arith)) (w .marks) in
+    let m : Marks f 0 ds = marks-same ds 0 nulls f (λ i g j. fill-kept (length ds) nulls (w .size) i (omega arith)) (w .marks) in
     record {
       last = a .0 .0;
       left = a .0 .1;
@@ -231,9 +231,9 @@ written r p nulls gs buf w h =
       offset = o;
       buffer = k;
       walked =
-        ap (walk r p) (k ∙ flat f bs buf)
-        ∙ every-row r p f (drop (length (f ++ bs)) buf) ds (w .valid) (w .bits) (w .row) m (l ∙ w .size)
-        ∙ ap (λ (x : ℕ). record { answers = answersOf (present r p) ds; how = ok x }) (ap (λ (x : ℕ). x + length bs) l ∙ sym o);
+          ap (walk r p) (k ∙ flat f bs buf)
+          ∙ every-row r p f (drop (length (f ++ bs)) buf) ds (w .valid) (w .bits) (w .row) m (l ∙ w .size)
+          ∙ ap (λ (x : ℕ). record { answers = answersOf (present r p) ds; how = ok x }) (ap (λ (x : ℕ). x + length bs) l ∙ sym o);
     }
 
 -- ---- and without room it is refused, 8 at 0

@@ -1,8 +1,8 @@
 -- Demand 3, of the definitions. Under a valid record and presence bits of its length the walk over any image gives the answers that the split of the image into
 -- null bits and values says, or stops where it says, and nothing else; and every row in the domains is read back. Assumes nothing.
-use Prim.Native.Nat.{ℕ, suc, _+_, _-_, _*_, _≤_, _<_}
+use Prim.Native.Nat.{ℕ, suc, _+_, _-_, _≤_, _<_}
 use mathlib.Core.Path.{_≡_, refl, sym, ap, subst, _∙_}
-use mathlib.Core.Bool.{true, false, _&&_, true≢false}
+use mathlib.Core.Bool.{true, true≢false}
 use mathlib.Core.Logic.{dite, _⊎_, inl, inr}
 use mathlib.Core.List.{List, [], _∷_, _++_}
 use native.Mathlib.Nat.{zero-add}
@@ -12,7 +12,7 @@ use borrow.Author.Tests.{le-ltb, lt-ltb}
 use lib.ListN.{length, take, drop, length-append, take-append-drop}
 use lib.Seq.{length-take-le, drop-append-seam}
 use Rattle.wire.specs.declared.refusal.Refusal.{Refusal}
-use Rattle.wire.specs.Outcome.{Outcome, ok, refused, refuse, why}
+use Rattle.wire.specs.Outcome.{ok, refused, refuse, why}
 use Rattle.wire.specs.Number.{Bytes}
 use Rattle.wire.specs.Bits.{bytesFor, bitLsb0}
 use Rattle.wire.proofs.Inverse.{bytes-drop}

@@ -1,7 +1,7 @@
 -- Present columns read one after the other: whatever the bytes are, they get the answers that they must get, and no bytes get others. Assumes nothing.
-use Prim.Native.Nat.{ℕ, zero, suc, _+_, _≤_}
+use Prim.Native.Nat.{ℕ, suc, _+_}
 use mathlib.Core.Path.{_≡_, refl, sym, ap, subst, _∙_}
-use mathlib.Core.Bool.{Bool, true, false, _&&_, true≢false}
+use mathlib.Core.Bool.{true, false, true≢false}
 use mathlib.Core.List.{List, [], _∷_, _++_, append-assoc, append-nil}
 use native.Mathlib.Nat.{add-zero, add-assoc}
 use native.Mathlib.Omega.{arith}
@@ -19,7 +19,7 @@ use Rattle.value.specs.Reading.{Fails}
 use Rattle.image.specs.Present.{Present}
 use Rattle.image.specs.Split.{Slot, slots}
 use Rattle.image.specs.Walk.{Walked, stopped, and}
-use Rattle.image.specs.Rows.{Row, isNull, inDomains, rowBytes, answersOf, Marks}
+use Rattle.image.specs.Rows.{Row, inDomains, rowBytes, answersOf, Marks}
 use Rattle.image.proofs.Slots.{inCell, cell, readSlot, slot-back, Held, slot-sound, slot-fails, slot-fails-back}
 
 -- ---- the reading: s is what is left of the image at offset o
@@ -114,11 +114,14 @@ read-row (c ∷ cs) more (d ∷ ds) k nulls rest o h m =
     let b = cell c d in
     let j : k + suc (length cs) ≡ suc k + length cs = omega arith in
     let n : o + length (b ++ rowBytes cs ds) ≡ o + length b + length (rowBytes cs ds) = omega (arith, length-append b (rowBytes cs ds)) in
-    rw (append-assoc b (rowBytes cs ds) rest,
-    slot-back (record { present = c; null = bitLsb0 nulls k }) d (rowBytes cs ds ++ rest) (w .0) (m .0),
-    drop-append-seam b (rowBytes cs ds ++ rest),
-    read-row cs more ds (suc k) nulls rest (o + length b) (w .1) (m .1),
-    j, n)
+    rw (
+      append-assoc b (rowBytes cs ds) rest,
+      slot-back (record { present = c; null = bitLsb0 nulls k }) d (rowBytes cs ds ++ rest) (w .0) (m .0),
+      drop-append-seam b (rowBytes cs ds ++ rest),
+      read-row cs more ds (suc k) nulls rest (o + length b) (w .1) (m .1),
+      j,
+      n,
+    )
 
 pub split-back : (cs : List Present) (k : ℕ) (nulls s : List ℕ) (o : ℕ) (w : Walked) → Each Good cs → Split cs k nulls s o w → readSlots (slots cs k nulls) s o ≡ w
 unfolding readSlots slots

@@ -1,6 +1,6 @@
 -- The walk by steps is the reading of the present columns one after the other, from any cursor. Assumes nothing.
 use Prim.Native.Nat.{ℕ, zero, suc, _+_, _-_, _≤_, _<_}
-use mathlib.Core.Path.{_≡_, refl, sym, ap, subst, _∙_}
+use mathlib.Core.Path.{_≡_, refl}
 use mathlib.Core.Bool.{Bool, true, false}
 use mathlib.Core.Logic.{dite}
 use mathlib.Core.List.{List, [], _∷_}
@@ -14,12 +14,12 @@ use Rattle.wire.specs.Outcome.{Outcome, ok, refused, after}
 use Rattle.wire.specs.Bits.{bytesFor}
 use Rattle.value.specs.declared.datum.Value.{Value}
 use Rattle.value.specs.Data.{Datum}
-use Rattle.value.specs.Reading.{readDatum, readValue, placed, datumOf}
+use Rattle.value.specs.Reading.{readDatum, readValue, placed}
 use Rattle.value.proofs.Laws.{took, said-read}
 use Rattle.record.specs.Records.{countOf, recordValid, readRecord}
 use Rattle.image.specs.declared.cursor.Cursor.{Cursor}
 use Rattle.image.specs.Present.{countBits, firstFrom}
-use Rattle.image.specs.Split.{Slot, slotsAt, cursor, head, headOf, Told, value, stepOver, stepFrom}
+use Rattle.image.specs.Split.{Slot, slotsAt, cursor, head, headOf, value, stepOver, stepFrom}
 use Rattle.image.specs.Walk.{Walked, onward, walkSteps}
 use Rattle.image.proofs.Firsts.{first-is, slotAt, slots-end, slots-first}
 use Rattle.image.proofs.Slots.{readSlot}

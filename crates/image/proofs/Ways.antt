@@ -1,6 +1,6 @@
 -- From any cursor, made up or not, under any record: the walk is the step's answer and then the walk from the step's cursor. Assumes nothing.
 use Prim.Native.Nat.{ℕ, zero, suc, _+_, _-_, _≤_, _<_}
-use mathlib.Core.Path.{_≡_, refl, sym, ap}
+use mathlib.Core.Path.{_≡_, refl, ap}
 use mathlib.Core.Bool.{Bool, true, false, cond}
 use mathlib.Core.Logic.{dite}
 use mathlib.Core.List.{List, [], _∷_}

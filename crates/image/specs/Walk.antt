@@ -1,7 +1,7 @@
 -- The whole walk, by steps: the answers up to the end or up to a refusal. Assumes nothing.
 use Prim.Native.Nat.{ℕ, zero, suc}
 use mathlib.Core.List.{List, [], _∷_}
-use Rattle.wire.specs.Outcome.{Outcome, ok, refused, refuse}
+use Rattle.wire.specs.Outcome.{Outcome, ok, refused}
 use Rattle.value.specs.Data.{Datum, null}
 use Rattle.value.specs.Reading.{datumOf}
 use Rattle.record.specs.Records.{countOf}
