@@ -1,7 +1,7 @@
 -- The whole walk, by steps: the answers up to the end or up to a refusal. Assumes nothing.
 use Prim.Native.Nat.{ℕ, zero, suc}
 use mathlib.Core.List.{List, [], _∷_}
-use Rattle.wire.specs.Outcome.{Outcome, ok, refused, refuse}
+use Rattle.wire.specs.Outcome.{Outcome, ok, refused}
 use Rattle.value.specs.Data.{Datum, null}
 use Rattle.value.specs.Reading.{datumOf}
 use Rattle.record.specs.Records.{countOf}
@@ -32,10 +32,14 @@ unfolding stepFrom
 walkSteps zero r p im c = stopped (ok 0)
 walkSteps (suc m) r p im c = onward (walkSteps m r p im) im (stepFrom r p im c)
 
+-- the walk from a cursor on
+abbrev pub walkFrom : List ℕ → List ℕ → List ℕ → Cursor → Walked
+walkFrom r p im c = walkSteps (suc (countOf r)) r p im c
+
 abbrev pub fromFirst : (Cursor → Walked) → Outcome Cursor → Walked
 fromFirst f (ok c) = f c
 fromFirst f (refused r) = stopped (refused r)
 
 unfoldable pub walk : List ℕ → List ℕ → List ℕ → Walked
 unfolding firstCursor walkSteps datumOf
-walk r p im = fromFirst (walkSteps (suc (countOf r)) r p im) (firstCursor r p)
+walk r p im = fromFirst (walkFrom r p im) (firstCursor r p)

@@ -1,0 +1,95 @@
+-- From any cursor, made up or not, under any record: the walk is the step's answer and then the walk from the step's cursor. Assumes nothing.
+use Prim.Native.Nat.{ℕ, zero, suc, _+_, _-_, _≤_, _<_}
+use mathlib.Core.Path.{_≡_, refl, ap}
+use mathlib.Core.Bool.{Bool, true, false, cond}
+use mathlib.Core.Logic.{dite}
+use mathlib.Core.List.{List, [], _∷_}
+use native.Mathlib.Decide.{decLe}
+use native.Mathlib.Omega.{arith}
+use lib.ListN.{length}
+use lib.Dec.{ltb}
+use Rattle.wire.specs.declared.refusal.Refusal.{Refusal}
+use Rattle.wire.specs.Outcome.{Outcome, ok, refused, why, after}
+use Rattle.value.specs.declared.datum.Value.{Value}
+use Rattle.value.specs.Data.{null}
+use Rattle.value.specs.Reading.{readValue, datumOf}
+use Rattle.record.specs.Records.{countOf}
+use Rattle.image.specs.declared.cursor.Cursor.{Cursor}
+use Rattle.image.specs.declared.cursor.Head.{Head}
+use Rattle.image.specs.Present.{firstFrom}
+use Rattle.image.specs.Split.{Slot, slots, slotsAt, cursor, headOf, Told, null as null₁, value, stepOver, stepFrom}
+use Rattle.image.specs.Walk.{Walked, and, onward, walkSteps, walkFrom}
+use Rattle.image.proofs.Firsts.{first-is, slotAt, present-end, slots-end, slots-first}
+
+-- two ways on that agree on every cursor that a step can give agree behind the step
+abbrev Agree : List ℕ → (Cursor → Walked) → (Cursor → Walked) → Outcome Told → Type 0
+Agree im f g x = onward f im x ≡ onward g im x
+
+agree-test : (im : List ℕ) (f g : Cursor → Walked) (b : Bool) (w : Refusal) (x : Outcome Told) → Agree im f g x → Agree im f g (cond b (refused w) x)
+agree-test im f g true w x e = refl
+agree-test im f g false w x e = e
+
+agree-after : (im : List ℕ) (f g : Cursor → Walked) (x : Outcome Head) (k : Head → Outcome Told) → ((h : Head) → Agree im f g (k h)) → Agree im f g (after x k)
+agree-after im f g (ok h) k e = e h
+agree-after im f g (refused w) k e = refl
+
+agree-end : (im : List ℕ) (f g : Cursor → Walked) (o : ℕ) → Agree im f g (stepOver [] im o)
+unfolding stepOver
+agree-end im f g o = refl
+
+agree-more : (im : List ℕ) (f g : Cursor → Walked) (i : Slot) (is : List Slot) (o : ℕ)
+    → ((o′ : ℕ) → f (cursor (i .present .column + 1) o′) ≡ g (cursor (i .present .column + 1) o′)) → Agree im f g (stepOver (i ∷ is) im o)
+unfolding stepOver
+agree-more im f g i is o h = go (i .null)
+  where
+    read : (x : Outcome (Value × ℕ)) → Agree im f g (after x (λ x. ok (value (i .present .column) (x .0) (cursor (i .present .column + 1) (x .1)))))
+    read (ok x) = ap (and (i .present .column, datumOf im (x .0))) (h (x .1))
+    read (refused w) = refl
+
+    go : (b : Bool) → Agree im f g (cond b (ok (null₁ (i .present .column) (cursor (i .present .column + 1) o)))
+        (after (readValue (i .present .shape) (i .present .column) im o) (λ x. ok (value (i .present .column) (x .0) (cursor (i .present .column + 1) (x .1))))))
+    go true = ap (and (i .present .column, null)) (h o)
+    go false = read (readValue (i .present .shape) (i .present .column) im o)
+
+none-past : (r p im : List ℕ) (j : ℕ) → countOf r < j → slotsAt r p im j ≡ []
+unfolding slotsAt slots
+none-past r p im j h =
+    let n = countOf r in
+    let l = first-is (n - j) p j .low in
+    rw (present-end (n - j) r p j (omega arith))
+
+agree-slots : (r p im : List ℕ) (j o : ℕ) (f g : Cursor → Walked) → ((c : Cursor) → j < c .column → c .column ≤ countOf r → f c ≡ g c)
+    → Agree im f g (stepOver (slotsAt r p im j) im o)
+agree-slots r p im j o f g h =
+    let n = countOf r in
+    let k = firstFrom (n - j) p j in
+    let i = first-is (n - j) p j in
+    dite (decLe j n)
+    (λ (b : j ≤ n).
+    dite (decLe n k)
+    (λ a. rw (slots-end r p im j b a) (agree-end im f g o))
+    (λ a. let l : k < n = omega arith in
+    rw (slots-first r p im j b l)
+    (agree-more im f g (slotAt r p im k) (slotsAt r p im (k + 1)) o (λ o′. h (cursor (k + 1) o′) (omega (arith, i .low)) (omega arith)))))
+    (λ b. rw (none-past r p im j (omega arith)) (agree-end im f g o))
+
+agree : (r p im : List ℕ) (c : Cursor) (f g : Cursor → Walked) → ((c′ : Cursor) → c .column < c′ .column → c′ .column ≤ countOf r → f c′ ≡ g c′)
+    → Agree im f g (stepFrom r p im c)
+unfolding stepFrom
+agree r p im c f g h =
+    agree-after im f g (headOf r p) _ (λ x.
+    agree-test im f g (ltb (x .columns) (c .column)) (why 14 (c .column)) _
+    (agree-test im f g (ltb (length im) (x .nulls)) (why 9 0) _
+    (agree-test im f g (ltb (length im) (c .offset)) (why 9 (c .column)) _ (agree-slots r p im (c .column) (c .offset) f g h))))
+
+-- more steps than enough change nothing
+pub enough : (m : ℕ) (r p im : List ℕ) (c : Cursor) → countOf r - c .column < m → walkSteps m r p im c ≡ walkSteps (suc m) r p im c
+unfolding walkSteps
+enough zero r p im c l = absurd (omega arith)
+enough (suc m) r p im c l = agree r p im c (λ c′. walkSteps m r p im c′) (λ c′. walkSteps (suc m) r p im c′) (λ c′ a b. enough m r p im c′ (omega arith))
+
+pub walk-on : (r p im : List ℕ) (c : Cursor) → walkFrom r p im c ≡ onward (λ c′. walkFrom r p im c′) im (stepFrom r p im c)
+unfolding walkSteps
+walk-on r p im c =
+    let n = countOf r in
+    agree r p im c (λ c′. walkSteps n r p im c′) (λ c′. walkSteps (suc n) r p im c′) (λ c′ a b. enough n r p im c′ (omega arith))

@@ -1,0 +1,53 @@
+-- A whole row written: a start, and then a step for each value given. Assumes nothing.
+use Prim.Native.Nat.{ℕ}
+use mathlib.Core.Path.{_≡_}
+use mathlib.Core.Bool.{Bool, true, _&&_}
+use mathlib.Core.List.{List, [], _∷_}
+use lib.ListN.{length}
+use Rattle.wire.specs.Outcome.{Outcome, ok, after}
+use Rattle.wire.specs.Bits.{bytesFor}
+use Rattle.value.specs.declared.datum.Value.{Value}
+use Rattle.value.specs.Reading.{datumOf}
+use Rattle.value.specs.Storing.{isLent}
+use Rattle.record.specs.Records.{countOf, recordValid}
+use Rattle.image.specs.declared.cursor.Cursor.{Cursor}
+use Rattle.image.specs.Present.{present}
+use Rattle.image.specs.Rows.{Row, inDomains, Marks}
+use Rattle.image.specs.Puts.{startImage, putFrom}
+
+-- a value as a step takes it, with the bytes lent beside it
+pub record Given : Type 0 where
+  pub lent : List ℕ
+  pub value : Value
+
+-- the row on paper
+unfoldable pub rowOf : List Given → Row
+unfolding datumOf
+rowOf [] = []
+rowOf (g ∷ gs) = datumOf (g .lent) (g .value) ∷ rowOf gs
+
+-- whether each value's bytes are all there
+unfoldable pub areLent : List Given → Bool
+unfolding isLent
+areLent [] = true
+areLent (g ∷ gs) = isLent (g .lent) (g .value) && areLent gs
+
+-- what a row is given with: a valid record and presence bits of its length; for each present column a value that it takes, or NULL, with its bytes;
+-- and null bits that say which are NULL
+pub record Fit (r p nulls : List ℕ) (gs : List Given) : Type 0 where
+  pub valid : recordValid r ≡ true
+  pub bits : length p ≡ bytesFor (countOf r)
+  pub row : inDomains (present r p) (rowOf gs) ≡ true
+  pub lent : areLent gs ≡ true
+  pub marks : Marks nulls 0 (rowOf gs)
+  pub size : length nulls ≡ bytesFor (length (rowOf gs))
+
+-- a step for each, from a cursor on: the cursor behind them, and the buffer
+unfoldable pub putRow : List ℕ → List ℕ → List ℕ → List Given → Cursor → List ℕ → Outcome (Cursor × List ℕ)
+unfolding putFrom
+putRow r p nulls [] c buf = ok (c, buf)
+putRow r p nulls (g ∷ gs) c buf = after (putFrom r p nulls c (g .lent) (g .value) buf) (λ x. putRow r p nulls gs (x .0) (x .1))
+
+unfoldable pub writeRow : List ℕ → List ℕ → List ℕ → List Given → List ℕ → Outcome (Cursor × List ℕ)
+unfolding startImage putRow
+writeRow r p nulls gs buf = after (startImage r p nulls buf) (λ x. putRow r p nulls gs (x .0) (x .1))
