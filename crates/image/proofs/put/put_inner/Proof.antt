@@ -8,7 +8,6 @@ use Rattle.record.specs.Entries.{columnOf}
 use Rattle.image.proofs.Sorts.{null-anywhere}
 use Rattle.image.proofs.Steps.{below}
 use Rattle.image.proofs.Puts.{put-end, put-unmarked, put-marked, put-null-full, put-null-goes, put-done, put-bad, put-refused, put-next}
--- `image::put::put_inner` meets its contract. Assumes nothing.
 use borrow.Author.Needs.{needs}
 use Rattle.image.proofs.put.put_inner.Statement.{statement}
 use Rattle.image.proofs.put.put_inner.Tie as tie

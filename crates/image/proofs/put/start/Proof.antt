@@ -4,7 +4,6 @@ use Rattle.wire.specs.Outcome.{refused}
 use Rattle.image.specs.Split.{headTold}
 use Rattle.image.specs.Puts.{startImage}
 use Rattle.image.proofs.Puts.{nulls-size, nulls-fit, start-full, start-done, put-refused}
--- `image::put::start` meets its contract. Assumes nothing.
 use borrow.Author.Needs.{needs}
 use Rattle.image.proofs.put.start.Statement.{statement}
 use Rattle.image.proofs.put.start.Tie as tie

@@ -1,5 +1,4 @@
 -- `image::step::without_rank` meets its contract. Assumes nothing.
--- `image::step::without_rank` meets its contract. Assumes nothing.
 use borrow.Author.Needs.{needs}
 use Rattle.image.proofs.step.without_rank.Statement.{statement}
 use Rattle.image.proofs.step.without_rank.Tie as tie

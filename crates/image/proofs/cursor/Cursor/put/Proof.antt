@@ -6,7 +6,6 @@ use Rattle.image.specs.Split.{headTold}
 use Rattle.image.specs.Puts.{putFrom}
 use Rattle.image.proofs.Heads.{head-tested, nulls-tested}
 use Rattle.image.proofs.Puts.{put-above, put-goes, put-refused}
--- `image::cursor::Cursor::put` meets its contract. Assumes nothing.
 use borrow.Author.Needs.{needs}
 use Rattle.image.proofs.cursor.Cursor.put.Statement.{statement}
 use Rattle.image.proofs.cursor.Cursor.put.Tie as tie
