@@ -1,7 +1,7 @@
 -- Null bits with the spare bits of the last byte set: the bits themselves are kept. Assumes nothing.
 use Prim.Native.Nat.{ℕ, zero, suc, _+_, _-_, _*_, _/_, _%_, _^_, _≤_, _<_}
 use mathlib.Core.Path.{_≡_, refl, sym, ap, _∙_}
-use mathlib.Core.Bool.{Bool, true, false, cond}
+use mathlib.Core.Bool.{Bool, true, false}
 use mathlib.Core.List.{List, [], _∷_, _++_, append-assoc}
 use native.Mathlib.Nat.{pow-suc, mod-lt}
 use native.Mathlib.Omega.{arith}
@@ -59,8 +59,8 @@ spare-high u b j h l =
     let c : 8 - u ≡ suc m + i = omega arith in
     let e : spareSet u b / 2 ^ u ≡ 2 ^ (8 - u) - 1 = ap (λ (x : ℕ). x / 2 ^ u) (split u b (omega arith)) ∙ high (2 ^ (8 - u) - 1) u (mod-lt b (pow-pos u)) in
     let f : spareSet u b / 2 ^ j ≡ (2 ^ (suc m + i) - 1) / 2 ^ i =
-      ap (λ (k : ℕ). spareSet u b / 2 ^ k) (sym a) ∙ sym (shr-shr (spareSet u b) u i)
-      ∙ ap (λ (x : ℕ). x / 2 ^ i) (e ∙ ap (λ (k : ℕ). 2 ^ k - 1) c) in
+    ap (λ (k : ℕ). spareSet u b / 2 ^ k) (sym a) ∙ sym (shr-shr (spareSet u b) u i)
+    ∙ ap (λ (x : ℕ). x / 2 ^ i) (e ∙ ap (λ (k : ℕ). 2 ^ k - 1) c) in
     rw f (rw (ones-digit m i))
 
 -- what the code makes a byte's low digits of

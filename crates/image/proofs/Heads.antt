@@ -20,18 +20,18 @@ pub record Tested (r p : List ℕ) (h : Head) : Type 0 where
   pub columns : h .columns ≡ countOf r
   pub nulls : h .nulls ≡ bytesFor (countBits p (h .columns))
 
-pub head-tested : (r p : List ℕ) (h : Head) → headOf r p ≡ ok h → Tested r p h
+pub head-tested : (r p : List ℕ) {h : Head} → headOf r p ≡ ok h → Tested r p h
 unfolding headOf
-head-tested r p h e =
+head-tested r p {h} e =
     let w = after-is-ok (readRecord r) _ h e in
     let n = w .0 in
     let t = test-is-ok (eqb (length p) (bytesFor n)) (head n (bytesFor (countBits p n))) (why 12 0) h (w .2) in
     subst (Tested r p) (t .1) (record { columns = read-valid r n (w .1) .1; nulls = refl })
 
 -- with null bits: the same tests, and they are just so many bytes
-pub nulls-tested : (r p nulls : List ℕ) (h : Head) → headNulls r p nulls ≡ ok h → (headOf r p ≡ ok h) × (length nulls ≡ h .nulls)
+pub nulls-tested : (r p nulls : List ℕ) {h : Head} → headNulls r p nulls ≡ ok h → (headOf r p ≡ ok h) × (length nulls ≡ h .nulls)
 unfolding headNulls
-nulls-tested r p nulls h e =
+nulls-tested r p nulls {h} e =
     let w = after-is-ok (headOf r p) _ h e in
     let a = w .0 in
     let t = test-is-ok (eqb (length nulls) (a .nulls)) a (why 12 0) h (w .2) in

@@ -2,7 +2,7 @@
 use Prim.Native.Nat.{ℕ, _+_, _-_, _≤_, _<_}
 use mathlib.Core.Path.{_≡_, refl, sym, ap, _∙_}
 use mathlib.Core.Bool.{true, false}
-use mathlib.Core.List.{List, [], _∷_}
+use mathlib.Core.List.{List, []}
 use native.Mathlib.Nat.{add-zero}
 use native.Mathlib.Omega.{arith}
 use borrow.Author.Tests.{lt-ltb, le-ltb}
@@ -41,26 +41,26 @@ abbrev pub Puts : List ℕ → Outcome (Cursor × List ℕ) → Put → List ℕ
 Puts buf w a x = (putTold a ≡ answerOf w) × (x ≡ leftOf buf w)
 
 -- a call whose answer is told and whose buffer is as it was
-pub put-refused : (buf : List ℕ) (w : Outcome (Cursor × List ℕ)) (z : Refusal) → w ≡ refused z → Puts buf w (Refused₂ z) buf
-put-refused buf w z e = rw e (refl, refl)
+pub put-refused : {w : Outcome (Cursor × List ℕ)} {z : Refusal} (buf : List ℕ) → w ≡ refused z → Puts buf w (Refused₂ z) buf
+put-refused buf e = rw e (refl, refl)
 
-pub put-next : (buf x : List ℕ) (w : Outcome (Cursor × List ℕ)) (c : Cursor) → w ≡ ok (c, x) → Puts buf w (Next c) x
-put-next buf x w c e = rw e (refl, refl)
+pub put-next : {w : Outcome (Cursor × List ℕ)} {c : Cursor} {x : List ℕ} (buf : List ℕ) → w ≡ ok (c, x) → Puts buf w (Next c) x
+put-next buf e = rw e (refl, refl)
 
 -- ---- the start
-module _ (r p nulls buf : List ℕ) (h : Head) (e : headNulls r p nulls ≡ ok h) where
+module _ (r p nulls buf : List ℕ) {h : Head} (e : headNulls r p nulls ≡ ok h) where
   tested : Tested r p h
-  tested = head-tested r p h (nulls-tested r p nulls h e .0)
+  tested = head-tested r p (nulls-tested r p nulls e .0)
 
   -- the null bits are as many bytes as one for each present column take
   pub nulls-size : (n : ℕ) → n ≡ countBits p (h .columns) → length nulls ≡ bytesFor n
-  nulls-size n k = nulls-tested r p nulls h e .1 ∙ tested .nulls ∙ ap bytesFor (sym k)
+  nulls-size n k = nulls-tested r p nulls e .1 ∙ tested .nulls ∙ ap bytesFor (sym k)
 
   pub nulls-fit : h .nulls ≤ length buf → length nulls ≤ length buf
-  nulls-fit l = omega (arith, nulls-tested r p nulls h e .1)
+  nulls-fit l = omega (arith, nulls-tested r p nulls e .1)
 
   size : length (filled (countBits p (h .columns)) nulls) ≡ h .nulls
-  size = fill-length (countBits p (h .columns)) nulls (nulls-size (countBits p (h .columns)) refl) ∙ nulls-tested r p nulls h e .1
+  size = fill-length (countBits p (h .columns)) nulls (nulls-size (countBits p (h .columns)) refl) ∙ nulls-tested r p nulls e .1
 
   pub start-full : length buf < h .nulls → startImage r p nulls buf ≡ refuse 8 0
   unfolding startImage
@@ -75,7 +75,7 @@ module _ (r p nulls buf : List ℕ) (h : Head) (e : headNulls r p nulls ≡ ok h
       → Puts buf (startImage r p nulls buf) (Next (cursor 0 (h .nulls))) x
   start-done n x k y l =
       let z : x ≡ stored buf 0 (filled (countBits p (h .columns)) nulls) = y ∙ ap (λ (m : ℕ). stored buf 0 (filled m nulls)) k in
-      put-next buf x (startImage r p nulls buf) (cursor 0 (h .nulls)) (start-goes l ∙ ap (λ (b : List ℕ). ok (cursor 0 (h .nulls), b)) (sym z))
+      put-next buf (start-goes l ∙ ap (λ (b : List ℕ). ok (cursor 0 (h .nulls), b)) (sym z))
 
 -- ---- a step
 -- the cursor behind a value takes the place after it
@@ -92,29 +92,29 @@ behind-left j buf (refused z) = refl
 
 -- f being the first present column from the cursor on
 module _
-    (r p nulls lent buf : List ℕ) (v : Value) (n : ℕ) (s : Standing) (h : Placed r p n s) (f : ℕ) (e : f ≡ firstFrom (n - s .column) p (s .column)) where
+    (nulls lent buf : List ℕ) (v : Value) {r p : List ℕ} {n : ℕ} {s : Standing} (h : Placed r p n s) {f : ℕ} (e : f ≡ firstFrom (n - s .column) p (s .column)) where
   abbrev put : Outcome (Cursor × List ℕ)
   put = putOver (slotsAt r p nulls (s .column)) (cursorOf s) lent v buf
 
   pub put-end : f ≡ n → put ≡ refuse 14 (s .column)
   unfolding putOver
-  put-end u = rw (slots-none r p n s h f e nulls u)
+  put-end u = rw (slots-none h e nulls u)
 
   module _ (u : f ≡ n → ⊥) where
     -- NULL for a column whose bit says a value
     pub put-unmarked : isNull (datumOf lent v) ≡ true → bitLsb0 nulls (s .rank) ≡ false → put ≡ refuse 13 f
     unfolding putOver slotBytes
-    put-unmarked i b = rw (slots-some r p n s h f e nulls u, i, b)
+    put-unmarked i b = rw (slots-some h e nulls u, i, b)
 
     -- and a value for one whose bit says NULL
     pub put-marked : isNull (datumOf lent v) ≡ false → bitLsb0 nulls (s .rank) ≡ true → put ≡ refuse 13 f
     unfolding putOver slotBytes
-    put-marked i b = rw (slots-some r p n s h f e nulls u, i, b)
+    put-marked i b = rw (slots-some h e nulls u, i, b)
 
     -- NULL takes no bytes, but the offset must be in the buffer
     put-null : isNull (datumOf lent v) ≡ true → bitLsb0 nulls (s .rank) ≡ true → put ≡ behind (f + 1) (store buf (s .offset) [])
     unfolding putOver slotBytes
-    put-null i b = rw (slots-some r p n s h f e nulls u, i, b)
+    put-null i b = rw (slots-some h e nulls u, i, b)
 
     pub put-null-full : isNull (datumOf lent v) ≡ true → bitLsb0 nulls (s .rank) ≡ true → length buf < s .offset → put ≡ refuse 8 0
     put-null-full i b l = put-null i b ∙ ap (behind (f + 1)) (store-full buf [] (s .offset) (omega arith))
@@ -125,11 +125,11 @@ module _
         put-null i b ∙ ap (behind (f + 1)) w
 
     -- the value as the record's column stores it
-    module _ (i : isNull (datumOf lent v) ≡ false) (b : bitLsb0 nulls (s .rank) ≡ false) (k : Column) (g : k ≡ columnOf (entryIn r f)) where
+    module _ (i : isNull (datumOf lent v) ≡ false) (b : bitLsb0 nulls (s .rank) ≡ false) {k : Column} (g : k ≡ columnOf (entryIn r f)) where
       put-value : put ≡ behind (f + 1) (writeValue (shapeOf k) f lent v buf (s .offset))
       unfolding putOver slotBytes writeValue shapeAt
       put-value =
-          rw (slots-some r p n s h f e nulls u, i, b)
+          rw (slots-some h e nulls u, i, b)
           (sym (after-after (storedBytes (shapeAt r f) f lent v) (store buf (s .offset)) (λ x. ok (cursor (f + 1) (x .0), x .1)))
           ∙ ap (λ (c : Column). behind (f + 1) (after (storedBytes (shapeOf c) f lent v) (store buf (s .offset)))) (sym g))
 
@@ -148,13 +148,13 @@ module _
         put-bad w z = (sym (rw z at answer-is), left-is)
 
 -- a step from a column above the record's
-pub put-above : (r p nulls : List ℕ) (c : Cursor) (lent : List ℕ) (v : Value) (buf : List ℕ) (h : Head) → headNulls r p nulls ≡ ok h → h .columns < c .column
+pub put-above : (r p nulls : List ℕ) (c : Cursor) (lent : List ℕ) (v : Value) (buf : List ℕ) {h : Head} → headNulls r p nulls ≡ ok h → h .columns < c .column
     → putFrom r p nulls c lent v buf ≡ refuse 14 (c .column)
 unfolding putFrom
-put-above r p nulls c lent v buf h e l = rw (e, lt-ltb (h .columns) (c .column) l)
+put-above r p nulls c lent v buf {h} e l = rw (e, lt-ltb (h .columns) (c .column) l)
 
 -- one that passes the tests goes over the slots from its column on
-pub put-goes : (r p nulls : List ℕ) (c : Cursor) (lent : List ℕ) (v : Value) (buf : List ℕ) (h : Head) → headNulls r p nulls ≡ ok h → c .column ≤ h .columns
+pub put-goes : (r p nulls : List ℕ) (c : Cursor) (lent : List ℕ) (v : Value) (buf : List ℕ) {h : Head} → headNulls r p nulls ≡ ok h → c .column ≤ h .columns
     → putFrom r p nulls c lent v buf ≡ putOver (slotsAt r p nulls (c .column)) c lent v buf
 unfolding putFrom
-put-goes r p nulls c lent v buf h e l = rw (e, le-ltb (h .columns) (c .column) l)
+put-goes r p nulls c lent v buf {h} e l = rw (e, le-ltb (h .columns) (c .column) l)

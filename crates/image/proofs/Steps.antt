@@ -1,6 +1,6 @@
 -- What a step answers, by what the code finds. Assumes nothing.
 use Prim.Native.Nat.{ℕ, suc, _+_, _-_, _≤_, _<_}
-use mathlib.Core.Path.{_≡_, refl, sym, ap, subst, _∙_}
+use mathlib.Core.Path.{_≡_, sym, ap, subst, _∙_}
 use mathlib.Core.Bool.{true, false}
 use mathlib.Core.List.{List, [], _∷_}
 use native.Mathlib.Numerals.{add-one}
@@ -27,7 +27,7 @@ use Rattle.image.specs.Inner.{Placed}
 use Rattle.image.proofs.Firsts.{First, first-is, presentAt, count-set, count-at-most, slots-end, slots-first}
 
 -- the slots from a cursor on, f being the first present column from it on
-module _ (r p : List ℕ) (n : ℕ) (s : Standing) (h : Placed r p n s) (f : ℕ) (e : f ≡ firstFrom (n - s .column) p (s .column)) where
+module _ {r p : List ℕ} {n : ℕ} {s : Standing} (h : Placed r p n s) {f : ℕ} (e : f ≡ firstFrom (n - s .column) p (s .column)) where
   here : firstFrom (countOf r - s .column) p (s .column) ≡ f
   here = ap (λ (m : ℕ). firstFrom (m - s .column) p (s .column)) (sym (h .count)) ∙ sym e
 
@@ -66,7 +66,7 @@ module _ (r p : List ℕ) (n : ℕ) (s : Standing) (h : Placed r p n s) (f : ℕ
     step-null u b = rw (slots-some im u, b)
 
     -- the value that the record's column says
-    module _ (u : f ≡ n → ⊥) (b : bitLsb0 im (s .rank) ≡ false) (k : Column) (g : k ≡ columnOf (entryIn r f)) (d : Read) (q : readOf d ≡ readValue (shapeOf k) f im o) where
+    module _ (u : f ≡ n → ⊥) (b : bitLsb0 im (s .rank) ≡ false) {k : Column} (g : k ≡ columnOf (entryIn r f)) (d : Read) (q : readOf d ≡ readValue (shapeOf k) f im o) where
       abbrev then : Outcome (Value × ℕ) → Outcome Told
       then w = after w (λ x. ok (value f (x .0) (cursor (f + 1) (x .1))))
 
@@ -81,7 +81,7 @@ module _ (r p : List ℕ) (n : ℕ) (s : Standing) (h : Placed r p n s) (f : ℕ
       step-bad z y = rw y at step-read
 
 -- a step that passes the tests goes over the slots from its column on
-pub step-goes : (r p im : List ℕ) (c : Cursor) (h : Head) → headOf r p ≡ ok h → c .column ≤ h .columns → h .nulls ≤ length im → c .offset ≤ length im
+pub step-goes : (r p im : List ℕ) (c : Cursor) {h : Head} → headOf r p ≡ ok h → c .column ≤ h .columns → h .nulls ≤ length im → c .offset ≤ length im
     → stepFrom r p im c ≡ stepOver (slotsAt r p im (c .column)) im (c .offset)
 unfolding stepFrom
-step-goes r p im c h e a b d = rw (e, le-ltb (h .columns) (c .column) a, le-ltb (length im) (h .nulls) b, le-ltb (length im) (c .offset) d)
+step-goes r p im c {h} e a b d = rw (e, le-ltb (h .columns) (c .column) a, le-ltb (length im) (h .nulls) b, le-ltb (length im) (c .offset) d)

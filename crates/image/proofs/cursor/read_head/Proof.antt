@@ -2,7 +2,6 @@
 use mathlib.Core.Path.{sym, ap, _∙_}
 use borrow.Author.Tests.{eq-eqb, ne-eqb}
 use Rattle.record.specs.Records.{recordOf}
-use Rattle.wire.specs.Bits.{bytesFor}
 use Rattle.image.specs.Split.{headOf}
 use borrow.Author.Needs.{needs}
 use Rattle.image.proofs.cursor.read_head.Statement.{statement}

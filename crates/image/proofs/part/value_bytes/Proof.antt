@@ -7,7 +7,6 @@ use Rattle.wire.proofs.Stores.{room}
 use Rattle.value.specs.Storing.{startOf, lenOf, isLent}
 use Rattle.image.specs.Part.{valueBytes}
 use Rattle.image.proofs.Sorts.{no-bytes}
--- `image::part::value_bytes` meets its contract. Assumes nothing.
 use borrow.Author.Needs.{needs}
 use Rattle.image.proofs.part.value_bytes.Statement.{statement}
 use Rattle.image.proofs.part.value_bytes.Tie as tie

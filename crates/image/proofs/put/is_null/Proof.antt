@@ -3,7 +3,6 @@ use mathlib.Core.Path.{sym}
 use Rattle.value.specs.Reading.{datumOf}
 use Rattle.image.specs.Rows.{isNull}
 use Rattle.image.proofs.Sorts.{not-null}
--- `image::put::is_null` meets its contract. Assumes nothing.
 use borrow.Author.Needs.{needs}
 use Rattle.image.proofs.put.is_null.Statement.{statement}
 use Rattle.image.proofs.put.is_null.Tie as tie

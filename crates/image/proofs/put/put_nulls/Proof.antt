@@ -1,7 +1,6 @@
 -- `image::put::put_nulls` meets its contract. Assumes nothing.
 use mathlib.Core.Path.{_∙_}
 use Rattle.image.proofs.Fills.{put-whole, put-spare}
--- `image::put::put_nulls` meets its contract. Assumes nothing.
 use borrow.Author.Needs.{needs}
 use Rattle.image.proofs.put.put_nulls.Statement.{statement}
 use Rattle.image.proofs.put.put_nulls.Tie as tie

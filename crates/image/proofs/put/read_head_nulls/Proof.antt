@@ -3,7 +3,6 @@ use mathlib.Core.Path.{sym, ap, _∙_}
 use borrow.Author.Tests.{eq-eqb, ne-eqb}
 use Rattle.image.specs.Split.{headTold}
 use Rattle.image.specs.Puts.{headNulls}
--- `image::put::read_head_nulls` meets its contract. Assumes nothing.
 use borrow.Author.Needs.{needs}
 use Rattle.image.proofs.put.read_head_nulls.Statement.{statement}
 use Rattle.image.proofs.put.read_head_nulls.Tie as tie

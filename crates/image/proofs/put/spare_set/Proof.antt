@@ -4,7 +4,6 @@ use native.Mathlib.Omega.{arith}
 use lib.Pow.{pow-pos}
 use Rattle.wire.proofs.Digits.{weight-is}
 use Rattle.image.proofs.Fills.{unit-is}
--- `image::put::spare_set` meets its contract. Assumes nothing.
 use borrow.Author.Needs.{needs}
 use Rattle.image.proofs.put.spare_set.Statement.{statement}
 use Rattle.image.proofs.put.spare_set.Tie as tie

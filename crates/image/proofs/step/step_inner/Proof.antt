@@ -18,24 +18,21 @@ first-set-requires : tie.Need-first-set-requires
 first-set-requires c κs = search needs
 
 returns : tie.Need-returns
-returns c = let a = c .before .before .before .before .before .args in
-    (sym (step-end (a .profile .now) (a .presence .now) (a .columns) (a .at) (c .before .before .before .before .before .pre) _ (c .before .first-set .ensures) (a .image .now) (a .at .offset) (c .if1 .taken)), tt)
+returns c = (sym (step-end (c .before .before .before .before .before .pre) (c .before .first-set .ensures) _ _ (c .if1 .taken)), tt)
 
 add-behind : tie.Need-add-behind
-add-behind c = let a = c .before .before .before .before .before .args in
-    omega (arith, below (a .profile .now) (a .presence .now) (a .columns) (a .at) (c .before .before .before .before .before .pre) _ (c .before .first-set .ensures) (c .if1 .left), c .before .before .before .before .before .pre .few)
+add-behind c = omega (arith, below (c .before .before .before .before .before .pre) (c .before .first-set .ensures) (c .if1 .left), (c .before .before .before .before .before .pre) .few)
 
 add-rank : tie.Need-add-rank
-add-rank c = let a = c .before .before .before .before .before .before .args in
-    omega (arith, rank-small (a .profile .now) (a .presence .now) (a .columns) (a .at) (c .before .before .before .before .before .before .pre) _ (c .before .before .first-set .ensures))
+add-rank c = omega (arith, rank-small (c .before .before .before .before .before .before .pre) (c .before .before .first-set .ensures))
 
 bit-lsb0-requires : tie.Need-bit-lsb0-requires
 bit-lsb0-requires c κs = search needs
 
 returns-2 : tie.Need-returns-2
-returns-2 c = let a = c .before .before .before .before .before .before .before .before .args in
-    (sym (step-null (a .profile .now) (a .presence .now) (a .columns) (a .at) (c .before .before .before .before .before .before .before .before .pre) _ (c .before .before .before .before .first-set .ensures) (a .image .now) (a .at .offset) (c .before .before .before .if1 .left) (sym (c .before .bit-lsb0 .ensures) ∙ c .if2 .taken)),
-    rank-next (a .profile .now) (a .presence .now) (a .columns) (a .at) (c .before .before .before .before .before .before .before .before .pre) _ (c .before .before .before .before .first-set .ensures) (c .before .before .before .if1 .left))
+returns-2 c = let e = c .before .before .before .before .first-set .ensures in
+    let u = c .before .before .before .if1 .left in
+    (sym (step-null (c .before .before .before .before .before .before .before .before .pre) e _ _ u (sym (c .before .bit-lsb0 .ensures) ∙ c .if2 .taken)), rank-next (c .before .before .before .before .before .before .before .before .pre) e u)
 
 entry-in-requires : tie.Need-entry-in-requires
 entry-in-requires c κs = search needs
@@ -53,15 +50,14 @@ enum-known-r : tie.Need-enum-known-r
 enum-known-r c = search needs
 
 returns-3 : tie.Need-returns-3
-returns-3 c = let a = c .before .before .before .before .before .before .before .before .before .before .before .before .before .before .args in
-    (sym (step-got (a .profile .now) (a .presence .now) (a .columns) (a .at) (c .before .before .before .before .before .before .before .before .before .before .before .before .before .before .pre) _ (c .before .before .before .before .before .before .before .before .before .before .first-set .ensures) (a .image .now) (a .at .offset) (c .before .before .before .before .before .before .before .before .before .if1 .left) (sym (c .before .before .before .before .before .before .before .bit-lsb0 .ensures) ∙ c .before .before .before .before .before .before .if2 .left)
-    _ (c .before .before .before .before .column-of .ensures ∙ ap columnOf (c .before .before .before .before .before .entry-in .ensures)) (c .before .before .before .read-value .result) (c .before .before .before .read-value .ensures) _ _ (c .before .value .given .1)),
-    rank-next (a .profile .now) (a .presence .now) (a .columns) (a .at) (c .before .before .before .before .before .before .before .before .before .before .before .before .before .before .pre) _ (c .before .before .before .before .before .before .before .before .before .before .first-set .ensures) (c .before .before .before .before .before .before .before .before .before .if1 .left))
+returns-3 c = let e = c .before .before .before .before .before .before .before .before .before .before .first-set .ensures in
+    let u = c .before .before .before .before .before .before .before .before .before .if1 .left in
+    let g = c .before .before .before .before .column-of .ensures ∙ ap columnOf (c .before .before .before .before .before .entry-in .ensures) in
+    (sym (step-got (c .before .before .before .before .before .before .before .before .before .before .before .before .before .before .pre) e _ _ u (sym (c .before .before .before .before .before .before .before .bit-lsb0 .ensures) ∙ c .before .before .before .before .before .before .if2 .left) g (c .before .before .before .read-value .result) (c .before .before .before .read-value .ensures) _ _ (c .before .value .given .1)), rank-next (c .before .before .before .before .before .before .before .before .before .before .before .before .before .before .pre) e u)
 
 returns-4 : tie.Need-returns-4
-returns-4 c = let a = c .before .before .before .before .before .before .before .before .before .before .before .before .before .before .args in
-    (sym (step-bad (a .profile .now) (a .presence .now) (a .columns) (a .at) (c .before .before .before .before .before .before .before .before .before .before .before .before .before .before .pre) _ (c .before .before .before .before .before .before .before .before .before .before .first-set .ensures) (a .image .now) (a .at .offset) (c .before .before .before .before .before .before .before .before .before .if1 .left) (sym (c .before .before .before .before .before .before .before .bit-lsb0 .ensures) ∙ c .before .before .before .before .before .before .if2 .left)
-    _ (c .before .before .before .before .column-of .ensures ∙ ap columnOf (c .before .before .before .before .before .entry-in .ensures)) (c .before .before .before .read-value .result) (c .before .before .before .read-value .ensures) _ (c .before .r .given .1)), tt)
+returns-4 c = let g = c .before .before .before .before .column-of .ensures ∙ ap columnOf (c .before .before .before .before .before .entry-in .ensures) in
+    (sym (step-bad (c .before .before .before .before .before .before .before .before .before .before .before .before .before .before .pre) (c .before .before .before .before .before .before .before .before .before .before .first-set .ensures) _ _ (c .before .before .before .before .before .before .before .before .before .if1 .left) (sym (c .before .before .before .before .before .before .before .bit-lsb0 .ensures) ∙ c .before .before .before .before .before .before .if2 .left) g (c .before .before .before .read-value .result) (c .before .before .before .read-value .ensures) _ (c .before .r .given .1)), tt)
 
 pub step-inner-spec : {M : Type 1} → statement M
 step-inner-spec =

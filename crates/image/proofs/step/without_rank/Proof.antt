@@ -1,10 +1,4 @@
 -- `image::step::without_rank` meets its contract. Assumes nothing.
-use mathlib.Core.Path.{sym, ap, _∙_}
-use Rattle.wire.specs.Outcome.{ok}
-use Rattle.image.specs.declared.cursor.Cursor.{Cursor}
-use Rattle.image.specs.Split.{null, value}
-use Rattle.image.specs.Inner.{toldInner}
--- `image::step::without_rank` meets its contract. Assumes nothing.
 use borrow.Author.Needs.{needs}
 use Rattle.image.proofs.step.without_rank.Statement.{statement}
 use Rattle.image.proofs.step.without_rank.Tie as tie

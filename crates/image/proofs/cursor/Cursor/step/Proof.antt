@@ -55,7 +55,7 @@ count-bits-requires c κs = search needs
 
 step-inner-requires : tie.Need-step-inner-requires
 step-inner-requires c κs = let a = c .before .before .before .before .before .before .before .before .before .before .before .before .args in
-    let t = head-tested (a .profile .now) (a .presence .now) _ (sym (c .before .before .before .before .before .before .before .before .read-head .ensures) ∙ ap headTold (c .before .before .before .before .before .before .head .given .1)) in
+    let t = head-tested (a .profile .now) (a .presence .now) (sym (c .before .before .before .before .before .before .before .before .read-head .ensures) ∙ ap headTold (c .before .before .before .before .before .before .head .given .1)) in
     record { count = t .columns; few = omega (arith, t .columns, c .before .before .before .before .before .before .before .before .before .before .before .shared-slice-known .given 4); column = omega arith; rank = c .count-bits .ensures }
 
 without-rank-requires : tie.Need-without-rank-requires
@@ -64,7 +64,7 @@ without-rank-requires c κs = search needs
 returns-5 : tie.Need-returns-5
 returns-5 c = let a = c .before .before .before .before .before .before .before .before .before .before .before .before .before .before .args in
     c .without-rank .ensures ∙ c .before .step-inner .ensures .0
-    ∙ sym (step-goes (a .profile .now) (a .presence .now) (a .image .now) (a .self) _ (sym (c .before .before .before .before .before .before .before .before .before .before .read-head .ensures) ∙ ap headTold (c .before .before .before .before .before .before .before .before .head .given .1)) (omega arith) (omega arith) (omega arith))
+    ∙ sym (step-goes (a .profile .now) (a .presence .now) (a .image .now) (a .self) (sym (c .before .before .before .before .before .before .before .before .before .before .read-head .ensures) ∙ ap headTold (c .before .before .before .before .before .before .before .before .head .given .1)) (omega arith) (omega arith) (omega arith))
 
 pub step-spec : {M : Type 1} → statement M
 step-spec =
