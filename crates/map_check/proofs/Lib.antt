@@ -1,2 +1,5 @@
--- The laws of the crate. `Worked`: maps, computed.
+-- The laws of the crate. `Between`: the items of a walk between two places. `Worked`: maps, computed.
+pub mod Lent
+pub mod Between
+pub mod Repeats
 mod Worked
