@@ -6,4 +6,5 @@ pub mod Counts
 pub mod Lent
 pub mod Between
 pub mod Repeats
+pub mod Passes
 mod Worked
