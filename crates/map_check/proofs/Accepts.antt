@@ -13,7 +13,7 @@ use Rattle.value.specs.declared.column.Family.the-variants.{Integer, Float, Dou
 use Rattle.value.specs.declared.shape.Shape.the-variants.{Unsigned, Signed, NotTaken}
 use Rattle.value.specs.Columns.{familyOf, or30, realType, given, shapeIn, shapeOf, isTaken, isNumeric}
 use Rattle.map_check.specs.declared.column.Declared.{Declared}
-use Rattle.map_check.specs.Columns.{metaByte, declared, isReal, columnOf, isAccepted}
+use Rattle.map_check.specs.Columns.{metaByte, declared, isReal, realColumn, isAccepted}
 
 -- ---- the sign of a column decides nothing of whether it is taken
 by-sign : (t u v : Bool) (k : ℕ) → isTaken (given t (cond u (Unsigned k) (Signed k))) ≡ isTaken (given t (cond v (Unsigned k) (Signed k)))
@@ -56,7 +56,7 @@ sign-free kind m0 m1 u v = go (eqb kind 10)
     go true = refl
     go false = sign-free-in (familyOf kind) m0 m1 u v
 
-pub accepted-taken : (c : Declared) (unsigned : Bool) → isAccepted c ≡ true → isTaken (shapeOf (columnOf c unsigned)) ≡ true
+pub accepted-taken : (c : Declared) (unsigned : Bool) → isAccepted c ≡ true → isTaken (shapeOf (realColumn c unsigned)) ≡ true
 unfolding isAccepted
 accepted-taken c unsigned e = sign-free (c .real) (c .m0) (c .m1) unsigned false ∙ and-true (isReal (c .kind) (c .real)) _ e .1
 

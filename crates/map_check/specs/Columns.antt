@@ -34,13 +34,13 @@ unfoldable pub isReal : ℕ → ℕ → Bool
 isReal kind real = cond (eqb kind 254) (eqb real 247 || (eqb real 248 || eqb real 254)) true
 
 -- the column as its values are stored, if it is flagged unsigned or not
-abbrev pub columnOf : Declared → Bool → Column
-columnOf c unsigned = record { kind = c .real; m0 = c .m0; m1 = c .m1; unsigned = unsigned }
+abbrev pub realColumn : Declared → Bool → Column
+realColumn c unsigned = record { kind = c .real; m0 = c .m0; m1 = c .m1; unsigned = unsigned }
 
 -- and the one table accepts the metadata
 unfoldable pub isAccepted : Declared → Bool
 unfolding isReal shapeOf isTaken
-isAccepted c = isReal (c .kind) (c .real) && isTaken (shapeOf (columnOf c false))
+isAccepted c = isReal (c .kind) (c .real) && isTaken (shapeOf (realColumn c false))
 
 -- a column: 4 for its type, 5 for metadata that is short or not accepted
 unfoldable pub takeColumn : ℕ → List ℕ → ℕ → Outcome Declared
