@@ -3,6 +3,7 @@ mod column;
 mod contents;
 mod facts;
 mod field;
+mod keys;
 mod names;
 mod rank;
 
