@@ -1,4 +1,4 @@
-// The key indexes of a map, in its fields 8 and 9: none stands twice.
+// The key indexes of a map, in its fields 8 and 9: all below n, and none twice.
 use crate::field::Found;
 use crate::field::Judged;
 use wire::Packed;
@@ -8,9 +8,10 @@ ghost use mathlib.Core.Bool.{true, false};
 ghost use mathlib.Core.List.{[]};
 ghost use Prim.Native.Nat.{_+_, _<_, _^_};
 ghost use lib.ListN.{length};
+ghost use lib.Dec.{ltb};
 ghost use Rattle.wire.specs.Outcome.{after};
 ghost use Rattle.wire.specs.Packed.{packedOf};
-ghost use Rattle.map_check.specs.Contents.{keyItem};
+ghost use Rattle.map_check.specs.Contents.{listHolds, keyItem};
 ghost use Rattle.map_check.specs.Fields.{judgedOf};
 ghost use Rattle.map_check.specs.Keys.{keysFrom, keysOnce, onceIn};
 
@@ -36,6 +37,26 @@ pub(crate) fn key_at(value: &[u8], paired: bool, at: usize) -> Packed
         }
         Packed::Refused(r) => Packed::Refused(r),
     }
+}
+
+// Whether the value is keys, and all of them below n.
+pub(crate) fn keys_hold(value: &[u8], paired: bool, n: usize) -> bool
+    ensures { λ r. ⌜ r ≡ listHolds (keyItem paired) (λ k. ltb k n) (now (value .entry)) 0 ⌝ }
+{
+    let above = n as u64;
+    let mut at: usize = 0;
+    while at < value.len() {
+        match key_at(value, paired, at) {
+            Packed::Value { value: key, next } => {
+                if above <= key {
+                    return false;
+                }
+                at = next;
+            }
+            Packed::Refused(_) => return false,
+        }
+    }
+    true
 }
 
 // The keys of a field's value, which starts at `start` of the event. The earliest item that repeats one is told, so the later
