@@ -46,10 +46,11 @@ fn keys_once(value: &[u8], paired: bool, start: usize) -> Judged
     requires { ⌜ start + length (now value) < 2 ^ 64 ⌝ }
     ensures { λ r. ⌜ judgedOf r ≡ keysOnce start [] (keysFrom paired (now (value .entry)) 0) ⌝ }
 {
+    let mut answer = Judged::Kept;
     let mut later: usize = 0;
     'later: while later < value.len() {
         let Packed::Value { value: key, next } = key_at(value, paired, later) else {
-            return Judged::Kept;
+            break;
         };
         let mut earlier: usize = 0;
         while earlier < later {
@@ -61,17 +62,15 @@ fn keys_once(value: &[u8], paired: bool, start: usize) -> Judged
                 break;
             };
             if other == key {
+                let place = start + later;
+                answer = Judged::Refused(wire::refuse(BAD_FIELD, place));
                 break 'later;
             }
             earlier = behind;
         }
         later = next;
     }
-    if later < value.len() {
-        let place = start + later;
-        return Judged::Refused(wire::refuse(BAD_FIELD, place));
-    }
-    Judged::Kept
+    answer
 }
 
 // The keys of a field, if it stands.
