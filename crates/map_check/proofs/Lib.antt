@@ -2,4 +2,5 @@
 pub mod Lent
 pub mod Between
 pub mod Repeats
+pub mod Twice
 mod Worked
