@@ -12,9 +12,18 @@ use lib.ListN.{length, getD}
 use lib.Dec.{eqb}
 use Rattle.wire.specs.declared.refusal.Refusal.{Refusal}
 use Rattle.wire.specs.Outcome.{Outcome, ok, refused, refuse, why}
-use Rattle.wire.proofs.Outcomes.{by-test, ok-not-refused, same-refused}
-use Rattle.map_check.specs.Fields.{stood}
-use Rattle.map_check.specs.Keys.{keysOnce}
+use Rattle.wire.specs.Packed.{readPacked, formOf}
+use Rattle.wire.proofs.Outcomes.{by-test, after-refuses, ok-not-refused, same-refused}
+use Rattle.table_map.specs.declared.event.Part.{Part}
+use Rattle.table_map.specs.Parts.{lentPart}
+use Rattle.table_map.specs.Lists.{step, walkSteps}
+use Rattle.map_check.specs.declared.field.Found.{Found}
+use Rattle.map_check.specs.declared.field.Found.the-variants.{Value, Nothing}
+use Rattle.map_check.specs.Contents.{keyItem}
+use Rattle.map_check.specs.Fields.{stood, firstOf}
+use Rattle.map_check.specs.Keys.{placed, keysFrom, keysOnce, onceIn, keysHold}
+use Rattle.map_check.proofs.Lent.{lent-ends}
+use Rattle.map_check.proofs.Repeats.{key-places}
 
 -- item j: its place, and its key
 abbrev pub placeAt : List (ℕ × ℕ) → ℕ → ℕ
@@ -67,9 +76,11 @@ clear-more before k items m t c = record { new = new; apart = apart }
   where
     behind : (j : ℕ) → j < m → (stood (keyAt items j) before ≡ false) × (k .1 ≡ keyAt items j → ⊥)
     behind j h = more-false (keyAt items j) before (k .1) (c .new j h)
+
     new : (j : ℕ) → j < suc m → stood (keyAt (k ∷ items) j) before ≡ false
     new zero h = t
     new (suc j) h = behind j (omega arith) .0
+
     apart : (i j : ℕ) → i < j → j < suc m → keyAt (k ∷ items) i ≡ keyAt (k ∷ items) j → ⊥
     apart i zero l h e = omega arith
     apart zero (suc j) l h e = behind j (omega arith) .1 e
@@ -103,10 +114,10 @@ stops start before (k ∷ items) w e =
       there = omega (arith, x .there);
       clear = clear-more before k items (x .j) t (x .clear);
       repeats =
-        ⊎-elim
-        (λ r. ⊎-elim (λ l. inl l) (λ q. inr (0, omega arith, q)) (more-true (keyAt items (x .j)) before (k .1) r))
-        (λ r. inr (suc (r .0), omega (arith, r .1), r .2))
-        (x .repeats);
+          ⊎-elim
+          (λ r. ⊎-elim (λ l. inl l) (λ q. inr (0, omega arith, q)) (more-true (keyAt items (x .j)) before (k .1) r))
+          (λ r. inr (suc (r .0), omega (arith, r .1), r .2))
+          (x .repeats);
       told = x .told;
     })
 
@@ -134,10 +145,11 @@ unfolding stood
 refused-repeat start items w e =
     let x = stops start [] items w e in
     ⊎-elim (λ t. let z : _≡_ {A = ℕ} 0 1 = cc in absurd (omega arith))
-    (λ r.
-    (x .j,
-    record { earlier = r .0; before = r .1; there = x .there; same = r .2; first = record { apart = x .clear .apart } },
-    x .told))
+    (λ r. (
+      x .j,
+      record { earlier = r .0; before = r .1; there = x .there; same = r .2; first = record { apart = x .clear .apart } },
+      x .told,
+    ))
     (x .repeats)
 
 -- and the other way, both
@@ -155,12 +167,33 @@ repeat-refused start items j r = go (keysOnce start [] items) refl
   where
     only : (j k : ℕ) → Repeat items j → Repeat items k → j < k → ⊥
     only j k a b h = b .first .apart (a .earlier) j (a .before) h (a .same)
+
     go : (o : Outcome (Unit {0})) → keysOnce start [] items ≡ o → o ≡ refuse 7 (start + placeAt items j)
     go (ok tt) e = absurd (kept-apart start items e .apart (r .earlier) j (r .before) (r .there) (r .same))
     go (refused w) e =
         let x = refused-repeat start items w e in
         let q : x .0 ≡ j =
-            dite (decLe (x .0) j)
-            (λ a. dite (decLe j (x .0)) (λ b. omega arith) (λ b. absurd (only (x .0) j (x .1) r (omega arith))))
-            (λ a. absurd (only j (x .0) r (x .1) (omega arith)))
+        dite (decLe (x .0) j)
+        (λ a. dite (decLe j (x .0)) (λ b. omega arith) (λ b. absurd (only (x .0) j (x .1) r (omega arith))))
+        (λ a. absurd (only j (x .0) r (x .1) (omega arith)))
         in ap (λ (v : Refusal). refused v) (x .2 ∙ ap (λ (i : ℕ). why 7 (start + placeAt items i)) q)
+
+-- ---- in a map: a repeated key is a 7, at a place of the event
+once-told : (paired : Bool) (s : List ℕ) (f : Found) (w : Refusal) → onceIn paired s f ≡ refused w → (w .number ≡ 7) × (w .place < length s)
+once-told paired s (Value p) w e =
+    let x = refused-repeat (p .start) (keysFrom paired (lentPart s p) 0) w e in
+    let h = key-places paired (lentPart s p) 0 (x .0) (x .1 .there) in
+    let at = ap (λ (v : Refusal). v .place) (x .2) in
+    (ap (λ (v : Refusal). v .number) (x .2), ⊎-elim (λ z. absurd (omega (arith, h, z))) (λ l. omega (arith, h, at, l)) (lent-ends s p))
+once-told paired s Nothing w e = absurd (ok-not-refused e)
+
+pub keys-told : (s : List ℕ) (fs : List (ℕ × Part)) (w : Refusal) → keysHold s fs ≡ refused w → (w .number ≡ 7) × (w .place < length s)
+unfolding keysHold
+keys-told s fs w e =
+    ⊎-elim (λ l. once-told false s (firstOf 8 fs) w l) (λ r. once-told true s (firstOf 9 fs) w (r .2))
+    (after-refuses (onceIn false s (firstOf 8 fs)) (λ x. onceIn true s (firstOf 9 fs)) w e)
+
+-- ---- keys 1, 2, 2, 1: the third item is told and not the fourth
+third : keysOnce 40 [] (keysFrom false (1 ∷ 2 ∷ 2 ∷ 1 ∷ []) 0) ≡ refuse 7 42
+unfolding readPacked formOf step walkSteps placed keyItem stood keysOnce
+third = refl
