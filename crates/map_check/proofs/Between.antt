@@ -1,15 +1,14 @@
 -- The items of a walk between two places, by any rule whose items move. Assumes nothing.
 use Prim.Native.Nat.{ℕ, _≤_, _<_}
-use mathlib.Core.Path.{_≡_, refl, sym, ap, subst, _∙_}
+use mathlib.Core.Path.{_≡_, refl}
 use mathlib.Core.Logic.{dite, _⊎_, inl, inr, ⊎-elim}
 use mathlib.Core.List.{List, [], _∷_, _++_}
 use native.Mathlib.Decide.{decLe}
 use native.Mathlib.Omega.{arith}
 use lib.ListN.{length}
 use Rattle.wire.specs.declared.refusal.Refusal.{Refusal}
-use Rattle.wire.specs.Outcome.{ok, refused, after}
-use Rattle.wire.proofs.Outcomes.{ok-not-refused, same-ok}
-use Rattle.table_map.specs.Lists.{Rule, end, item, step, onward, walk}
+use Rattle.wire.specs.Outcome.{ok, refused}
+use Rattle.table_map.specs.Lists.{Rule, walk}
 use Rattle.table_map.proofs.Steps.{step-end, step-past, step-before}
 use Rattle.table_map.proofs.Items.{Moves}
 use Rattle.table_map.proofs.Walks.{walk-steps}

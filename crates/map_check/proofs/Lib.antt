@@ -1,6 +1,6 @@
 -- The laws of the crate. `Declares`: columns one by one. `Accepts`: what an accepted column is for the record. `Counts`: ranks as they are counted. `Lent`: parts of the event. `Tallies`: lists
--- judged item by item. `Bounds`: charsets take two bytes. `KeyItems`: the items of fields 8 and 9. `Between`: the items of a walk between two places. `Repeats`: keys, none twice. `Passes`: the
--- check link by link. `Worked`: maps, computed.
+-- judged item by item. `Bounds`: charsets take two bytes. `KeyItems`: the items of fields 8 and 9. `Between`: the items of a walk between two places. `Repeats`: keys, none twice. `Twice`: which
+-- key is told. `Passes`: the check link by link. `Worked`: maps, computed.
 pub mod Declares
 pub mod Accepts
 pub mod Counts
@@ -10,5 +10,6 @@ pub mod Bounds
 pub mod KeyItems
 pub mod Between
 pub mod Repeats
+pub mod Twice
 pub mod Passes
 mod Worked

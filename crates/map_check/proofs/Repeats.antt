@@ -1,41 +1,26 @@
--- The search for a key index that stands twice: what its two loops turn on. Assumes nothing.
-use Prim.Native.Nat.{ℕ, _+_, _≤_, _<_}
+-- The keys of a value, and the search for one that stands twice: what its two loops turn on. Assumes nothing.
+use Prim.Native.Nat.{ℕ, zero, suc, _+_, _-_, _≤_, _<_}
 use mathlib.Core.Path.{_≡_, refl, sym, ap, subst, _∙_}
-use mathlib.Core.Bool.{Bool, true, false, cond, _||_}
+use mathlib.Core.Bool.{Bool, true, false, _||_}
 use mathlib.Core.Logic.{⊎-elim}
 use mathlib.Core.List.{List, [], _∷_, _++_}
 use native.Mathlib.Omega.{arith}
 use borrow.Author.Tests.{eq-eqb, ne-eqb}
-use lib.ListN.{length}
+use lib.ListN.{length, getD}
 use lib.Dec.{eqb}
 use Rattle.wire.specs.declared.refusal.Refusal.{Refusal}
 use Rattle.wire.specs.Outcome.{Outcome, ok, refused, refuse, after}
 use Rattle.wire.specs.Packed.{readPacked}
 use Rattle.wire.proofs.Outcomes.{after-is-ok, ok-not-refused, same-ok}
 use Rattle.wire.proofs.Forms.{read-moves}
-use Rattle.table_map.specs.Lists.{Rule}
+use Rattle.table_map.specs.Lists.{Rule, Stepped, end, item, step, onward, walkSteps}
+use Rattle.table_map.proofs.Steps.{item-read}
 use Rattle.table_map.proofs.Items.{Moves}
 use Rattle.map_check.specs.Contents.{keyItem}
 use Rattle.map_check.specs.Fields.{stood}
 use Rattle.map_check.specs.Keys.{placed, keysFrom, keysOnce}
+use Rattle.map_check.proofs.KeyItems.{key-moves}
 use Rattle.map_check.proofs.Between.{Between, none, one-more, rises, parted, items-next, items-past, items-stop}
-
--- ---- keys, with or without prefix lengths, move
-key-read : (paired : Bool) (s : List ℕ) (at k next : ℕ) → keyItem paired s at ≡ ok (k, next) → (at < next) × (next ≤ length s)
-unfolding keyItem
-key-read false s at k next e =
-    let x = after-is-ok (readPacked s at) (λ a. ok a) (k, next) e in
-    read-moves s at k next (x .1 ∙ x .2)
-key-read true s at k next e =
-    let x = after-is-ok (readPacked s at) (λ a. after (readPacked s (a .1)) (λ b. ok (a .0, b .1))) (k, next) e in
-    let y = after-is-ok (readPacked s (x .0 .1)) (λ b. ok (x .0 .0, b .1)) (k, next) (x .2) in
-    let m = read-moves s at (x .0 .0) (x .0 .1) (x .1) in
-    let n = read-moves s (x .0 .1) (y .0 .0) (y .0 .1) (y .1) in
-    let z : y .0 .1 ≡ next = ap (λ (w : ℕ × ℕ). w .1) (same-ok (y .2)) in
-    (omega (arith, m .0, n .0), omega (arith, n .1))
-
-pub key-moves : (paired : Bool) → Moves (keyItem paired)
-key-moves paired = record { moves = key-read paired }
 
 -- items with their places move as they do without
 pub placed-moves : {A : Type 0} (rule : Rule A) → Moves rule → Moves (placed rule)
@@ -63,6 +48,28 @@ unfolding placed
 keys-stop paired value at w e =
     let r : placed (keyItem paired) value at ≡ refused w = rw e in
     items-stop (placed (keyItem paired)) (placed-moves (keyItem paired) (key-moves paired)) value at w r
+
+-- they stand within the value
+places : {A : Type 0} (rule : Rule A) (m : ℕ) (s : List ℕ) (at j : ℕ) (d : ℕ × A) → j < length (walkSteps m (placed rule) s at .items)
+    → getD (walkSteps m (placed rule) s at .items) j d .0 < length s
+unfolding walkSteps placed
+places rule zero s at j d h = absurd (omega arith)
+places {A} rule (suc m) s at j d h = go (λ next i. places rule m s next i d) (step (placed rule) s at) refl j h
+  where
+    go : ((next i : ℕ) → i < length (walkSteps m (placed rule) s next .items) → getD (walkSteps m (placed rule) s next .items) i d .0 < length s)
+        → (o : Outcome (Stepped (ℕ × A) ℕ)) → step (placed rule) s at ≡ o
+        → (j : ℕ) → j < length (onward (walkSteps m (placed rule) s) o .items) → getD (onward (walkSteps m (placed rule) s) o .items) j d .0 < length s
+    go again (ok end) e j h = absurd (omega arith)
+    go again (refused r) e j h = absurd (omega arith)
+    go again (ok (item a next)) e zero h =
+        let x = item-read (placed rule) s at a next e in
+        let y = after-is-ok (rule s at) (λ z. ok ((at, z .0), z .1)) (a, next) (x .1) in
+        let z : at ≡ a .0 = ap (λ (w : (ℕ × A) × ℕ). w .0 .0) (same-ok (y .2)) in
+        omega (arith, x .0, z)
+    go again (ok (item a next)) e (suc j) h = again next j (omega arith)
+
+pub key-places : (paired : Bool) (value : List ℕ) (at j : ℕ) → j < length (keysFrom paired value at) → getD (keysFrom paired value at) j (0, 0) .0 < length value
+key-places paired value at j h = places (keyItem paired) (suc (length value - at)) value at j (0, 0) h
 
 -- ---- the outer loop: the keys before `later` repeat none, so those from there on decide
 pub record Reached (paired : Bool) (value : List ℕ) (start later : ℕ) : Type 0 where

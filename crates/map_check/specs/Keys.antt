@@ -1,9 +1,7 @@
 -- "The first key index that stands twice is a 7": placed at the first byte of the earliest item, of field 8 or 9, that repeats an earlier one. Assumes nothing.
-use Prim.Native.Nat.{ℕ, zero, suc, _+_, _-_}
-use mathlib.Core.Bool.{Bool, true, false, cond, _||_}
+use Prim.Native.Nat.{ℕ, _+_}
+use mathlib.Core.Bool.{Bool, true, false, cond}
 use mathlib.Core.List.{List, [], _∷_, _++_}
-use lib.ListN.{length, getD, take}
-use lib.Dec.{eqb}
 use Rattle.wire.specs.Outcome.{Outcome, ok, refuse, after}
 use Rattle.table_map.specs.declared.event.Part.{Part}
 use Rattle.table_map.specs.Parts.{lentPart}

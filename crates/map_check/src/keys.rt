@@ -59,18 +59,19 @@ pub(crate) fn keys_hold(value: &[u8], paired: bool, n: usize) -> bool
     true
 }
 
-// The keys of a field's value, which starts at `start` of the event. The earliest item that repeats one is told, so the later
-// item is the outer loop: with the earlier one outside, keys 1, 2, 2, 1 would be told at the fourth item and not at the third.
-// Keys are below n, which is at most 255: a repetition comes within the first n + 1 items, and at most 255 * 256 / 2 pairs
-// of items are compared, whatever the value's length.
+// The keys of a field's value, which starts at `start` of the event. The earliest item that repeats one is told, so the later item is the outer loop:
+// with the earlier one outside, keys 1, 2, 2, 1 would be told at the fourth item and not at the third. The contents were judged before, so keys are
+// below n, which is at most 255: a repetition comes within the first n + 1 items, and however long the value is, at most 255 * 256 / 2 pairs of items
+// are compared.
 fn keys_once(value: &[u8], paired: bool, start: usize) -> Judged
     requires { ⌜ start + length (now value) < 2 ^ 64 ⌝ }
     ensures { λ r. ⌜ judgedOf r ≡ keysOnce start [] (keysFrom paired (now (value .entry)) 0) ⌝ }
 {
+    let mut answer = Judged::Kept;
     let mut later: usize = 0;
     'later: while later < value.len() {
         let Packed::Value { value: key, next } = key_at(value, paired, later) else {
-            return Judged::Kept;
+            break;
         };
         let mut earlier: usize = 0;
         while earlier < later {
@@ -79,20 +80,19 @@ fn keys_once(value: &[u8], paired: bool, start: usize) -> Judged
                 next: behind,
             } = key_at(value, paired, earlier)
             else {
+                // not met: it was read before, as the later item
                 break;
             };
             if other == key {
+                let place = start + later;
+                answer = Judged::Refused(wire::refuse(BAD_FIELD, place));
                 break 'later;
             }
             earlier = behind;
         }
         later = next;
     }
-    if later < value.len() {
-        let place = start + later;
-        return Judged::Refused(wire::refuse(BAD_FIELD, place));
-    }
-    Judged::Kept
+    answer
 }
 
 // The keys of a field, if it stands.

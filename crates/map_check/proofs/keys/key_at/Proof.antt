@@ -18,7 +18,10 @@ enum-known-key c = search needs
 
 returns : tie.Need-returns
 unfolding keyItem
-returns c = rw (sym (c .before .before .before .before .read-packed .ensures) ∙ ap packedOf (c .before .before .key .given .1), not-true (c .before .before .before .before .before .before .args .paired) (c .if1 .taken))
+returns c = rw (
+  sym (c .before .before .before .before .read-packed .ensures) ∙ ap packedOf (c .before .before .key .given .1),
+  not-true (c .before .before .before .before .before .before .args .paired) (c .if1 .taken),
+)
 
 read-packed-requires-2 : tie.Need-read-packed-requires-2
 read-packed-requires-2 c κs = search needs
@@ -34,11 +37,19 @@ enum-known-r-2 c = search needs
 
 returns-2 : tie.Need-returns-2
 unfolding keyItem
-returns-2 c = rw (sym (c .before .before .before .before .before .before .before .before .read-packed .ensures) ∙ ap packedOf (c .before .before .before .before .before .before .key .given .1), not-false (c .before .before .before .before .before .before .before .before .before .before .args .paired) (c .before .before .before .before .if1 .left), sym (c .before .before .before .read-packed2 .ensures) ∙ ap packedOf (c .before .behind .given .1))
+returns-2 c = rw (
+  sym (c .before .before .before .before .before .before .before .before .read-packed .ensures) ∙ ap packedOf (c .before .before .before .before .before .before .key .given .1),
+  not-false (c .before .before .before .before .before .before .before .before .before .before .args .paired) (c .before .before .before .before .if1 .left),
+  sym (c .before .before .before .read-packed2 .ensures) ∙ ap packedOf (c .before .behind .given .1),
+)
 
 returns-3 : tie.Need-returns-3
 unfolding keyItem
-returns-3 c = rw (sym (c .before .before .before .before .before .before .before .before .read-packed .ensures) ∙ ap packedOf (c .before .before .before .before .before .before .key .given .1), not-false (c .before .before .before .before .before .before .before .before .before .before .args .paired) (c .before .before .before .before .if1 .left), sym (c .before .before .before .read-packed2 .ensures) ∙ ap packedOf (c .before .r .given .1))
+returns-3 c = rw (
+  sym (c .before .before .before .before .before .before .before .before .read-packed .ensures) ∙ ap packedOf (c .before .before .before .before .before .before .key .given .1),
+  not-false (c .before .before .before .before .before .before .before .before .before .before .args .paired) (c .before .before .before .before .if1 .left),
+  sym (c .before .before .before .read-packed2 .ensures) ∙ ap packedOf (c .before .r .given .1),
+)
 
 returns-4 : tie.Need-returns-4
 unfolding keyItem
