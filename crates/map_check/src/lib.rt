@@ -6,5 +6,9 @@ mod field;
 mod names;
 mod rank;
 
+pub use names::NameRead;
+pub use names::column_name;
+pub use names::name_part;
+pub use names::names_field;
 pub use rank::Place;
 pub use rank::Rank;
