@@ -1,15 +1,18 @@
 -- The laws of the crate. `Declares`: columns one by one. `Accepts`: what an accepted column is for the record. `Counts`: ranks as they are counted. `Lent`: parts of the event. `Tallies`: lists
--- judged item by item. `Bounds`: charsets take two bytes. `KeyItems`: the items of fields 8 and 9. `Between`: the items of a walk between two places. `Repeats`: keys, none twice. `Twice`: which
--- key is told. `Passes`: the check link by link. `Worked`: maps, computed.
+-- judged item by item. `Bounds`: charsets take two bytes. `FieldTurns`: fields one by one. `KeptFields`: fields that are kept. `KeyItems`: the items of fields 8 and 9. `Between`: the items of a
+-- walk between two places. `Repeats`: keys, none twice. `Twice`: which key is told. `NameLooks`: names one by one. `Passes`: the check link by link. `Worked` and `Named`: maps and names, computed.
 pub mod Declares
 pub mod Accepts
 pub mod Counts
 pub mod Lent
 pub mod Tallies
 pub mod Bounds
+pub mod FieldTurns
+pub mod KeptFields
 pub mod KeyItems
 pub mod Between
 pub mod Repeats
 pub mod Twice
-pub mod Passes
+pub mod NameLooks
 mod Worked
+mod Named

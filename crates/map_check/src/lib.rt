@@ -7,5 +7,9 @@ mod keys;
 mod names;
 mod rank;
 
+pub use names::NameRead;
+pub use names::column_name;
+pub use names::name_part;
+pub use names::names_field;
 pub use rank::Place;
 pub use rank::Rank;
