@@ -156,9 +156,15 @@ came d s x types meta k c a b t h r f = record {
 
 -- ---- writing
 -- before the first column all are to come
-pub all-come : (d : Dialect) (s : List ℕ) (x : Facts) (types meta : List ℕ) (k : Standing) → Starts s x k
+all-come : (d : Dialect) (s : List ℕ) (x : Facts) (types meta : List ℕ) (k : Standing) → Starts s x k
     → toCome d s x types meta k ≡ entriesFrom d s x (declareAll types meta) (place 0) noRanks
 all-come d s x types meta k h = rw (h .place, h .metadata, h .ranks)
+
+pub start-stored : (d : Dialect) (s : List ℕ) (x : Facts) (types meta : List ℕ) (k : Standing) (buf : List ℕ) → Starts s x k
+    → stored buf (6 + 6 * k .place .0) (entriesBytes (toCome d s x types meta k)) ≡ stored buf 6 (entriesBytes (entriesFrom d s x (declareAll types meta) (place 0) noRanks))
+start-stored d s x types meta k buf h =
+    let n : 6 + 6 * k .place .0 ≡ 6 = omega (arith, ap (λ (p : Place). p .0) (h .place)) in
+    rw (all-come d s x types meta k h, n)
 
 -- behind the last none is
 none-come : (d : Dialect) (s : List ℕ) (x : Facts) (types meta : List ℕ) (k : Standing) → length types ≤ k .place .0 → toCome d s x types meta k ≡ []
@@ -188,3 +194,24 @@ pub all-stored : (d : Dialect) (s : List ℕ) (x : Facts) (types meta : List ℕ
 unfolding entriesBytes
 all-stored d s x types meta k buf z at h g =
     sym (stored-none buf at) ∙ ap (λ (es : List Entry). stored buf at (entriesBytes es)) (sym (none-come d s x types meta k h)) ∙ g
+
+-- the whole record: its head, and its entries
+pub record-length : (es : List Entry) (n : ℕ) → length es ≡ n → length (recordBytes es) ≡ 6 + 6 * n
+unfolding recordBytes
+record-length es n e = length-append (headBytes (length es)) (entriesBytes es) ∙ omega (arith, head-length (length es), entries-bytes-length es)
+
+pub record-written : (es : List Entry) (n : ℕ) (old x₁ x : List ℕ) → length es ≡ n → 6 + 6 * n ≤ length old → x₁ ≡ leftOf old (store old 0 (headBytes n))
+    → x ≡ stored x₁ 6 (entriesBytes es) → Wrote old 0 (recordBytes es) (Done (6 + 6 * n)) x
+unfolding recordBytes
+record-written es n old x₁ x e h p q =
+    let m : length (entriesBytes es) ≡ 6 * n = entries-bytes-length es ∙ ap (λ (k : ℕ). 6 * k) e in
+    let f = store-fits old (headBytes n) 0 (omega (arith, head-length n)) in
+    let y : x₁ ≡ stored old 0 (headBytes n) = p ∙ rw f in
+    let l : length x₁ ≡ length old = ap length y ∙ length-stored old 0 (headBytes n) (omega (arith, head-length n)) in
+    rw e (wrote-two old (headBytes n) (entriesBytes es) x₁ x 0 6 (Done (6 + 6 * n)) (head-length n) (omega arith) p
+    (wrote x₁ (entriesBytes es) x 6 (6 * n) (6 + 6 * n) m (omega arith) refl q))
+
+-- a record's entries are as many as the types
+pub map-entries-length : (d : Dialect) (s : List ℕ) (x : Facts) (types meta : List ℕ)
+    → length (entriesFrom d s x (declareAll types meta) (place 0) noRanks) ≡ length types
+map-entries-length d s x types meta = entries-length d s x (declareAll types meta) (place 0) noRanks ∙ declared-length types meta
