@@ -1,0 +1,22 @@
+use mathlib.Core.Path.{sym, _∙_}
+use borrow.Author.Needs.{needs}
+use Rattle.map_check.proofs.entries.charset_of.Statement.{statement}
+use Rattle.map_check.proofs.entries.charset_of.Tie as tie
+use Rattle.map_check.proofs.entries.charset_of.Reads as reads
+use Rattle.map_check.proofs.entries.charset_of.Lts as lts
+use Rattle.value.proofs.is_character.Reads as is-character-reads
+
+-- src/entries.rt:138:8
+is-character-requires : tie.Need-is-character-requires
+is-character-requires c κs = search needs
+
+-- src/entries.rt:139:9
+returns : tie.Need-returns
+returns c = rw (sym (c .before .is-character .ensures) ∙ c .if1 .taken)
+
+-- src/entries.rt:135:1
+returns-2 : tie.Need-returns-2
+returns-2 c = rw (sym (c .before .is-character .ensures) ∙ c .if1 .left)
+
+pub charset-of-spec : {M : Type 1} → statement M
+charset-of-spec = tie.close (tie.spec is-character-requires returns returns-2)
