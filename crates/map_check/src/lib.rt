@@ -6,9 +6,11 @@ mod entries;
 mod facts;
 mod field;
 mod keys;
+mod map;
 mod names;
 mod rank;
 
+pub use map::check;
 pub use names::NameRead;
 pub use names::column_name;
 pub use names::name_part;
