@@ -134,11 +134,7 @@ pub(crate) fn name_case(
     match map_check::column_name(names, operator, column) {
         NameRead::Name(_) => {
             let used = put_text(out, used, b"ok ");
-            put_hex(
-                out,
-                used,
-                map_check::name_part(names, operator, column),
-            )
+            put_hex(out, used, map_check::name_part(names, operator, column))
         }
         NameRead::Refused(refusal) => put_refused(out, used, refusal),
     }

@@ -86,9 +86,10 @@ first-item rule m value at a next e =
 -- ---- in a list
 -- what is left of a list of which r are gone, and its first
 left-first : (l gone : List ℕ) (r : ℕ) → gone ≡ drop r l → (getD l r 0 ≡ getD gone 0 0) × (drop (r + 1) l ≡ drop 1 gone)
-left-first l gone r e =
-    (ap (λ (i : ℕ). getD l i 0) (sym (add-zero r)) ∙ sym (getD-drop r l 0 0) ∙ ap (λ (g : List ℕ). getD g 0 0) (sym e),
-    sym (drop-drop 1 r l) ∙ ap (λ (g : List ℕ). drop 1 g) (sym e))
+left-first l gone r e = (
+  ap (λ (i : ℕ). getD l i 0) (sym (add-zero r)) ∙ sym (getD-drop r l 0 0) ∙ ap (λ (g : List ℕ). getD g 0 0) (sym e),
+  sym (drop-drop 1 r l) ∙ ap (λ (g : List ℕ). drop 1 g) (sym e),
+)
 
 pub listed-fits : {value : List ℕ} {r : ℕ} {c : CharsetCursor} → Listed value r c → IntegerFits value (c .at)
 listed-fits {value} {r} {c} h charset next e =
@@ -217,7 +218,7 @@ paired-turn {value} {r} {c} t e h =
     let x = pair-turned (h .size) r value c o w (ap (pairsHold (h .size) r) (sym w) ∙ h .rise) in
     let q = pairTurn c r o in
     let left : (i : ℕ) → r + 1 ≤ i → fromPairs value i (readPacked value 0) ≡ pairOr (q .next .default) i (walk pairItem value (q .next .at) .items)
-        = λ i l. h .left i (omega arith) ∙ ap (pairOr (c .default) i) w ∙ x .left i l ∙ ap (λ (d : ℕ). pairOr d i (walk pairItem value (q .next .at) .items)) (sym (x .default-kept)) in
+    = λ i l. h .left i (omega arith) ∙ ap (pairOr (c .default) i) w ∙ x .left i l ∙ ap (λ (d : ℕ). pairOr d i (walk pairItem value (q .next .at) .items)) (sym (x .default-kept)) in
     rw e (
       x .charset ∙ sym (h .left r (omega arith) ∙ ap (pairOr (c .default) r) w),
       record { left = left; size = h .size; rise = x .rise },

@@ -128,7 +128,7 @@ come-behind d s x types meta k c a b t h f =
     let j = k .place .0 in
     let n : j + 1 ≡ suc j = omega arith in
     let e : t .entry ≡ entryFor s x c (k .place) (k .ranks)
-        = f .entry ∙ ap (entryWith s x c (k .place) (k .ranks)) (found-charset d s x c (k .ranks) (a .charset) (b .charset) (f .character .charset) (f .choice .charset)) in
+    = f .entry ∙ ap (entryWith s x c (k .place) (k .ranks)) (found-charset d s x c (k .ranks) (a .charset) (b .charset) (f .character .charset) (f .choice .charset)) in
     come-first d s x types meta j (k .metadata) (k .ranks) c h (f .column)
     ∙ rw (e, f .place, f .metadata, f .ranks, n)
 
@@ -182,9 +182,10 @@ turn-stored d s x types meta k t buf buf′ z c h l e g =
     let f = store-fits buf v at (omega arith) in
     let p : buf′ ≡ stored buf at v = e ∙ rw f in
     let m : 6 + 6 * t .next .place .0 ≡ at + length v = omega (arith, c .place) in
-    let w = entriesBytes (toCome d s x types meta (t .next)) in
-    (ap length p ∙ length-stored buf at v (omega arith),
-    rw (p, m) (stored-stored buf at v w (omega arith) ∙ ap (λ (es : List Entry). stored buf at (entriesBytes es)) (sym (c .entry)) ∙ g))
+    let w = entriesBytes (toCome d s x types meta (t .next)) in (
+      ap length p ∙ length-stored buf at v (omega arith),
+      rw (p, m) (stored-stored buf at v w (omega arith) ∙ ap (λ (es : List Entry). stored buf at (entriesBytes es)) (sym (c .entry)) ∙ g),
+    )
 
 -- when none is to come, all is stored
 pub all-stored : (d : Dialect) (s : List ℕ) (x : Facts) (types meta : List ℕ) (k : Standing) (buf z : List ℕ) (at : ℕ) → length types ≤ k .place .0

@@ -70,9 +70,9 @@ taken-of {d} {s} {e} {types} {meta} {k} c =
 behind : (d : Dialect) (s : List ℕ) (e : Event) → length (lentPart s (e .types)) ≤ 255
     → checkEvent d s e
     ≡ after (takeColumns (lentPart s (e .types)) (lentPart s (e .metadata)) 0) (λ cs.
-      after (keepFields (sizesOf d cs) (fieldsAt d (lentPart s (e .types)) (e .optional .start)) s) (λ fs.
-      after (keysHold s fs) (λ once.
-      ok (entriesOf d s e cs fs))))
+    after (keepFields (sizesOf d cs) (fieldsAt d (lentPart s (e .types)) (e .optional .start)) s) (λ fs.
+    after (keysHold s fs) (λ once.
+    ok (entriesOf d s e cs fs))))
 unfolding checkEvent fewEnough
 behind d s e h = rw (le-leb (length (lentPart s (e .types))) 255 h)
 

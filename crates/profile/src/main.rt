@@ -51,7 +51,7 @@ fn dialect_of(word: &[u8]) -> Asked {
 }
 
 // The dialect that the program was asked for; without a word, document 01 to the letter.
-fn asked() -> Asked {
+fn word_asked() -> Asked {
     let words = os::arg_count();
     if words < 2 {
         return Asked::For(Dialect::Document);
@@ -70,13 +70,38 @@ fn put_refused(out: &mut [u8], used: usize, refusal: Refusal) -> usize {
     put_number(out, used, refusal.place as u64, b'\n')
 }
 
+// Three numbers, and the byte behind the last.
+fn put_three(out: &mut [u8], used: usize, a: u64, b: u64, c: u64, behind: u8) -> usize {
+    let used = put_number(out, used, a, b' ');
+    let used = put_number(out, used, b, b' ');
+    put_number(out, used, c, behind)
+}
+
 fn put_column(out: &mut [u8], used: usize, place: usize, entry: Entry) -> usize {
-    let used = put_number(out, used, place as u64, b' ');
-    let used = put_number(out, used, entry.kind as u64, b' ');
-    let used = put_number(out, used, entry.flags as u64, b' ');
-    let used = put_number(out, used, entry.m0 as u64, b' ');
-    let used = put_number(out, used, entry.m1 as u64, b' ');
-    put_number(out, used, entry.charset as u64, b'\n')
+    let used = put_three(
+        out,
+        used,
+        place as u64,
+        entry.kind as u64,
+        entry.flags as u64,
+        b' ',
+    );
+    put_three(
+        out,
+        used,
+        entry.m0 as u64,
+        entry.m1 as u64,
+        entry.charset as u64,
+        b'\n',
+    )
+}
+
+// How many columns a record of so many bytes has: six bytes stand before them, and each has six.
+fn columns_of(length: usize) -> usize {
+    if length < 6 {
+        return 0;
+    }
+    (length - 6) / 6
 }
 
 fn put_columns(out: &mut [u8], profile: &[u8], columns: usize) -> usize {
@@ -96,13 +121,21 @@ fn put_profile(out: &mut [u8], event: &[u8], dialect: Dialect) -> usize {
     }
     let mut profile = [0u8; 1536];
     match map_check::check(event, POST_HEADER, dialect, &mut profile) {
-        Written::Done { next: _ } => put_columns(out, &profile, profile[4] as usize),
+        Written::Done { next } => put_columns(out, &profile, columns_of(next)),
         Written::Refused(refusal) => put_refused(out, 0, refusal),
     }
 }
 
+// Prints what waits.
+fn print(out: &[u8], used: usize) {
+    if out.len() < used {
+        return;
+    }
+    io::write_all(STDOUT_FILENO, &out[0..used]);
+}
+
 fn main() {
-    let Asked::For(dialect) = asked() else {
+    let Asked::For(dialect) = word_asked() else {
         io::write_all(
             STDOUT_FILENO,
             b"profile takes one word, document, mysql or mariadb, or none, which is document\n",
@@ -113,5 +146,5 @@ fn main() {
     let mut out = [0u8; 8192];
     let length = io::read_full(STDIN_FILENO, &mut event);
     let used = put_profile(&mut out, &event[..length], dialect);
-    io::write_all(STDOUT_FILENO, &out[..used]);
+    print(&out, used);
 }

@@ -19,7 +19,7 @@ enum-known-charset c = search needs
 
 -- src/charset.rt:70:22
 cast-t9 : tie.Need-cast-t9
-cast-t9 c = 
+cast-t9 c =
     let x = item-read integerItem _ _ _ _ (sym (c .before .before .before .next .ensures) ∙ ap integerOf (c .before .charset .given .1)) in
     omega (arith, c .before .before .before .before .before .pre _ _ (x .1))
 

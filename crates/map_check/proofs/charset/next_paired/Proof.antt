@@ -20,7 +20,7 @@ enum-known-first c = search needs
 
 -- src/charset.rt:99:30
 cast-t13 : tie.Need-cast-t13
-cast-t13 c = 
+cast-t13 c =
     let x = item-read pairItem _ _ _ _ (sym (c .before .before .before .before .next .ensures) ∙ ap pairOf (c .before .before .first .given .1)) in
     omega (arith, c .before .before .before .before .before .before .pre _ _ _ (x .1))
 

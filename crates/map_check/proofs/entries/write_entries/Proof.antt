@@ -34,10 +34,12 @@ first-standing-requires c κs = (c .before .before .before .before .pre .0 .char
 
 -- src/entries.rt:211:5
 loop-holds : tie.Need-loop-holds Inv-loop μ-loop
-loop-holds c = (c .first-standing .ensures .ready,
-    omega (arith, ap (λ (p : Place). p .0) (c .first-standing .ensures .place)),
-    refl,
-    start-stored (c .before .before .before .before .before .args .dialect) (c .before .before .before .before .before .args .event .now) (c .before .before .before .before .before .args .facts) (c .before .before .before .before .before .args .types .now) (c .before .before .before .before .before .args .metadata .now) (c .first-standing .result) (c .before .before .before .before .before .args .buf .now) (c .first-standing .ensures))
+loop-holds c = (
+  c .first-standing .ensures .ready,
+  omega (arith, ap (λ (p : Place). p .0) (c .first-standing .ensures .place)),
+  refl,
+  start-stored (c .before .before .before .before .before .args .dialect) (c .before .before .before .before .before .args .event .now) (c .before .before .before .before .before .args .facts) (c .before .before .before .before .before .args .types .now) (c .before .before .before .before .before .args .metadata .now) (c .first-standing .result) (c .before .before .before .before .before .args .buf .now) (c .first-standing .ensures),
+)
 
 -- src/entries.rt:212:13
 next-entry-requires : tie.Need-next-entry-requires Inv-loop μ-loop
@@ -61,7 +63,7 @@ loop-less c = omega (arith, c .before .before .before .before .before .before .b
 
 -- src/entries.rt:211:5
 loop-again : tie.Need-loop-again Inv-loop μ-loop
-loop-again c = 
+loop-again c =
     let a = c .before .before .before .before .before .before .before .before .before .before .before .before .before .before .before .args in
     let l = c .before .before .before .before .before .before .before .before .before .loop in
     let t = c .before .before .before .before .before .before .next-entry in
@@ -74,7 +76,7 @@ same-length c = c .before .before .loop .inv .2
 
 -- src/entries.rt:199:1
 returns : tie.Need-returns Inv-loop μ-loop
-returns c = 
+returns c =
     let a = c .before .before .before .before .before .before .before .before .args in
     let l = c .before .before .loop in
     all-stored (a .dialect) (a .event .now) (a .facts) (a .types .now) (a .metadata .now) (l .standing) (l .buf) _ _ (c .if1 .left) (l .inv .3)

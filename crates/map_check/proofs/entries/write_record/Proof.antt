@@ -30,7 +30,7 @@ refuse-requires c κs = search needs
 
 -- src/entries.rt:234:9
 returns : tie.Need-returns
-returns c = 
+returns c =
     let a = c .before .before .before .before .before .before .args in
     let es = entriesFrom (a .dialect) (a .event .now) (a .facts) (declareAll (a .types .now) (a .metadata .now)) (place 0) noRanks in
     let e = map-entries-length (a .dialect) (a .event .now) (a .facts) (a .types .now) (a .metadata .now) in
@@ -54,7 +54,7 @@ same-length c = search needs
 
 -- src/entries.rt:220:1
 returns-2 : tie.Need-returns-2
-returns-2 c = 
+returns-2 c =
     let a = c .before .before .before .before .before .before .before .before .before .before .before .before .before .args in
     let es = entriesFrom (a .dialect) (a .event .now) (a .facts) (declareAll (a .types .now) (a .metadata .now)) (place 0) noRanks in
     let e = map-entries-length (a .dialect) (a .event .now) (a .facts) (a .types .now) (a .metadata .now) in
