@@ -1,17 +1,16 @@
 -- The cursors in a class's charsets: what stands there fits 16 bits, and a turn gives a rank's charset and leaves the cursor where the next rank's is the
 -- next. Assumes nothing.
 use Prim.Native.Nat.{ℕ, zero, suc, _+_, _≤_, _<_}
-use mathlib.Core.Path.{_≡_, refl, sym, ap, subst, _∙_}
-use mathlib.Core.Bool.{Bool, true, false, cond, _&&_}
+use mathlib.Core.Path.{_≡_, refl, sym, ap, _∙_}
+use mathlib.Core.Bool.{Bool, true, false, cond}
 use mathlib.Core.List.{List, [], _∷_}
 use native.Mathlib.Nat.{add-zero}
-use native.Mathlib.Numerals.{add-one}
 use native.Mathlib.Omega.{arith}
 use borrow.Author.Tests.{le-leb, leb-true, eqb-true, eqb-false, eq-eqb, ne-eqb}
-use lib.ListN.{length, getD, drop}
+use lib.ListN.{getD, drop}
 use lib.Seq.{getD-drop, drop-drop}
 use lib.Dec.{leb, ltb, eqb}
-use Rattle.wire.specs.Outcome.{Outcome, ok, refused, after}
+use Rattle.wire.specs.Outcome.{Outcome, ok, refused}
 use Rattle.wire.specs.Packed.{readPacked}
 use Rattle.wire.proofs.Outcomes.{same-ok, ok-not-refused}
 use Rattle.temporal.proofs.Ranges.{and-true}
@@ -124,7 +123,7 @@ pub record First (size low : ℕ) (p : ℕ × ℕ) (ps : List (ℕ × ℕ)) : Ty
   pub charset : isCharset (p .1) ≡ true
   pub rise : pairsHold size (suc (p .0)) ps ≡ true
 
-first-pair : (size low : ℕ) (p : ℕ × ℕ) (ps : List (ℕ × ℕ)) → pairsHold size low (p ∷ ps) ≡ true → First size low p ps
+pub first-pair : (size low : ℕ) (p : ℕ × ℕ) (ps : List (ℕ × ℕ)) → pairsHold size low (p ∷ ps) ≡ true → First size low p ps
 unfolding pairsHold
 first-pair size low p ps e =
     let a = and-true (leb low (p .0)) _ e in

@@ -2,16 +2,13 @@
 use Prim.Native.Nat.{ℕ, suc, _+_, _-_, _*_, _≤_, _<_}
 use mathlib.Core.Path.{_≡_, refl, sym, ap, subst, _∙_}
 use mathlib.Core.Bool.{Bool, true, false, cond, _||_}
-use mathlib.Core.List.{List, [], _∷_, _++_}
-use native.Mathlib.Numerals.{add-one}
+use mathlib.Core.List.{List, [], _∷_}
 use native.Mathlib.Omega.{arith}
 use lib.ListN.{length, getD, drop, length-append, length-drop, drop-of-length-le}
 use lib.Seq.{drop-cons, drop-drop}
 use Rattle.wire.specs.Number.{leBytes}
 use Rattle.wire.specs.Stored.{stored, store, leftOf}
-use Rattle.wire.specs.declared.store.Written.{Written}
 use Rattle.wire.specs.declared.store.Written.the-variants.{Done}
-use Rattle.wire.proofs.Bytes.{leBytes-length}
 use Rattle.wire.proofs.Stores.{length-stored, stored-none, stored-stored, store-fits, Wrote, wrote, wrote-two}
 use Rattle.value.specs.declared.column.Dialect.{Dialect}
 use Rattle.value.specs.declared.column.Family.{Family}
@@ -30,7 +27,7 @@ use Rattle.map_check.specs.declared.entries.EntryTurn.{EntryTurn}
 use Rattle.map_check.specs.Columns.{metaBytes, declared, declareAll}
 use Rattle.map_check.specs.Ranks.{place, noRanks, ranksAfter, Below}
 use Rattle.map_check.specs.Profile.{charsetBy, charsetOf, entryFor, entriesFrom}
-use Rattle.map_check.specs.Standing.{Stands, TakenIf, entryWith, Ready, Starts, toCome, Came}
+use Rattle.map_check.specs.Standing.{TakenIf, entryWith, Ready, Starts, toCome, Came}
 use Rattle.map_check.proofs.Counts.{below-after}
 
 -- ---- lengths
