@@ -134,10 +134,8 @@ ready-behind : (d : Dialect) (s : List ℕ) (x : Facts) (types meta : List ℕ) 
 unfolding ranksAfter
 ready-behind d s x types meta k c a b t f r =
     let j = k .place .0 in
-    let n : suc j ≡ j + 1 = omega arith in
-    let w : Below (j + 1) (ranksAfter d (k .ranks) c) = subst (λ (m : ℕ). Below m (ranksAfter d (k .ranks) c)) n (below-after d c (r .ranks)) in
     record {
-      ranks = rw (f .place, f .ranks) w;
+      ranks = rw (f .place, f .ranks) (below-after d c (r .ranks));
       metadata = rw (f .place, f .metadata) (omega (arith, r .metadata, few-metadata (familyOf (getD types j 0))));
       characters = rw (f .ranks, f .characters) (f .character .next);
       choices = rw (f .ranks, f .choices) (f .choice .next);

@@ -43,7 +43,11 @@ unfoldable pub checkMap : Dialect → List ℕ → ℕ → Outcome (List Entry)
 unfolding readEvent checkEvent
 checkMap d s postHeader = after (readEvent s postHeader) (λ e. checkEvent d s e)
 
--- the call: the record's length and the buffer with the record at its start, or 8 at 0 for room
+-- its record in a buffer: the record's length and the buffer with the record at its start, or 8 at 0 for room
+abbrev pub written : List ℕ → Outcome (List Entry) → Outcome (ℕ × List ℕ)
+written buf o = after o (λ es. store buf 0 (recordBytes es))
+
+-- the call
 unfoldable pub check : Dialect → List ℕ → ℕ → List ℕ → Outcome (ℕ × List ℕ)
 unfolding checkMap recordBytes store
-check d s postHeader buf = after (checkMap d s postHeader) (λ es. store buf 0 (recordBytes es))
+check d s postHeader buf = written buf (checkMap d s postHeader)

@@ -5,8 +5,15 @@ mod contents;
 mod entries;
 mod facts;
 mod field;
+mod keys;
+mod map;
 mod names;
 mod rank;
 
+pub use map::check;
+pub use names::NameRead;
+pub use names::column_name;
+pub use names::name_part;
+pub use names::names_field;
 pub use rank::Place;
 pub use rank::Rank;
