@@ -8,12 +8,11 @@ use native.Mathlib.Omega.{arith}
 use lib.ListN.{length, getD}
 use lib.Dec.{leb, ltb, eqb}
 use Rattle.wire.specs.Bits.{bitLsb0, bitMsb0}
-use Rattle.wire.specs.Packed.{readPacked}
 use Rattle.value.specs.declared.column.Dialect.{Dialect}
 use Rattle.value.specs.Columns.{familyOf, isNumeric, isCharacter, isEnumOrSet}
 use Rattle.table_map.specs.Parts.{lentPart}
 use Rattle.table_map.specs.declared.event.Part.{Part}
-use Rattle.table_map.specs.Lists.{walk, integerItem, pairItem}
+use Rattle.table_map.specs.Lists.{integerItem}
 use Rattle.record.specs.declared.entry.Entry.{Entry}
 use Rattle.record.specs.Entries.{flagsHold, charsetHolds}
 use Rattle.map_check.specs.declared.column.Declared.{Declared}
@@ -26,39 +25,31 @@ use Rattle.map_check.specs.declared.field.Found.the-variants.{Value, Not
 use Rattle.map_check.specs.declared.facts.Facts.{Facts}
 use Rattle.map_check.specs.declared.facts.Charsets.{Charsets}
 use Rattle.map_check.specs.Ranks.{place, ranksAfter}
-use Rattle.map_check.specs.Contents.{exactly, integerHolds, pairsHold, defaultHolds}
+use Rattle.map_check.specs.Contents.{exactly, integerHolds, defaultHolds}
 use Rattle.map_check.specs.Fields.{valueIn}
-use Rattle.map_check.specs.Profile.{stands, pairOr, fromPairs, fromList, charsetBy, charsetOf, one, isSignKnown, isUnsigned, isVisible, flagsOf, entryFor, entriesFrom}
+use Rattle.map_check.specs.Profile.{stands, fromList, charsetBy, charsetOf, one, isSignKnown, isUnsigned, isVisible, flagsOf, entryFor, entriesFrom}
 use Rattle.map_check.specs.Standing.{ClassHolds}
-use Rattle.map_check.proofs.Cursors.{list-fits, Default, default-fits, first-pair}
+use Rattle.map_check.proofs.Bounds.{charset-list, charset-default}
 
 -- ---- charsets
-either : (b : Bool) {u w : ℕ} → u ≤ 65535 → w ≤ 65535 → cond b u w ≤ 65535
-either true h l = h
-either false h l = l
-
-pair-fits : (size low default r : ℕ) (ps : List (ℕ × ℕ)) → pairsHold size low ps ≡ true → default ≤ 65535 → pairOr default r ps ≤ 65535
-unfolding pairOr
-pair-fits size low default r [] e h = h
-pair-fits size low default r (p ∷ ps) e h =
-    let f = first-pair size low p ps e in
-    either (eqb (p .0) r) (f .fits) (pair-fits size (suc (p .0)) default r ps (f .rise) h)
-
-default-narrow : (size r : ℕ) (value : List ℕ) → Default size value → fromPairs value r (readPacked value 0) ≤ 65535
-default-narrow size r value d = rw (d .read) (pair-fits size 0 (d .charset) r (walk pairItem value (d .next) .items) (d .rise) (d .fits))
-
 class-narrow : (s : List ℕ) (r : ℕ) (default list : Found) (size : ℕ)
     → ((p : Part) → list ≡ Value p → exactly integerItem (integerHolds Charset) size 0 (lentPart s p) 0 ≡ true)
     → ((p : Part) → default ≡ Value p → defaultHolds size (lentPart s p) ≡ true)
     → fromList s r default list ≤ 65535
-class-narrow s r default (Value p) size h g = list-fits size (lentPart s p) (h p refl) r
-class-narrow s r (Value p) Nothing size h g = default-narrow size r (lentPart s p) (default-fits size (lentPart s p) (g p refl))
+class-narrow s r default (Value p) size h g = charset-list size (lentPart s p) (h p refl) r
+class-narrow s r (Value p) Nothing size h g =
+    let d = charset-default size (lentPart s p) (g p refl) in
+    rw (d .read) (d .each r)
 class-narrow s r Nothing Nothing size h g = omega arith
 
 -- of a class whose fields hold
 pub charset-narrow : (s : List ℕ) (class : Charsets) (r : Rank) → ClassHolds s class → charsetBy s class r < 2 ^ 16
 unfolding charsetBy
 charset-narrow s class r h = omega (arith, class-narrow s (r .0) (class .default) (class .list) (h .size) (h .list) (h .default))
+
+either : (b : Bool) {u w : ℕ} → u ≤ 65535 → w ≤ 65535 → cond b u w ≤ 65535
+either true h l = h
+either false h l = l
 
 pub column-narrow : (s : List ℕ) (x : Facts) (c : Declared) (k : Ranks) → ClassHolds s (x .characters) → ClassHolds s (x .choices) → charsetOf s x c k < 2 ^ 16
 unfolding charsetOf

@@ -177,7 +177,13 @@ fn next_entry(
     let real = column.real;
     let counted = value::has_charset(dialect, real);
     let characters = facts.characters;
-    let character = charset_if(event, counted, characters, standing.characters, ranks.character);
+    let character = charset_if(
+        event,
+        counted,
+        characters,
+        standing.characters,
+        ranks.character,
+    );
     let chosen = value::is_enum_or_set(real);
     let choices = facts.choices;
     let choice = charset_if(event, chosen, choices, standing.choices, ranks.choice);

@@ -57,11 +57,11 @@ add-result-3 c = search needs
 returns : tie.Need-returns
 unfolding flagsOf
 returns c = rw (
-    c .before .before .before .before .before .before .one .ensures .0 ∙ ap one (c .before .before .before .before .before .before .before .is-unsigned .ensures),
-    c .before .before .before .before .one2 .ensures .0 ∙ ap one (c .before .before .before .before .before .is-nullable .ensures),
-    c .before .before .one3 .ensures .0 ∙ ap one (c .before .before .before .is-sign-known .ensures),
-    c .one4 .ensures .0 ∙ ap one (c .before .is-visible .ensures),
-    )
+  c .before .before .before .before .before .before .one .ensures .0 ∙ ap one (c .before .before .before .before .before .before .before .is-unsigned .ensures),
+  c .before .before .before .before .one2 .ensures .0 ∙ ap one (c .before .before .before .before .before .is-nullable .ensures),
+  c .before .before .one3 .ensures .0 ∙ ap one (c .before .before .before .is-sign-known .ensures),
+  c .one4 .ensures .0 ∙ ap one (c .before .is-visible .ensures),
+)
 
 pub flags-of-spec : {M : Type 1} → statement M
 flags-of-spec =

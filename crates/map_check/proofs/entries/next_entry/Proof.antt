@@ -63,15 +63,15 @@ returns c =
     came (a .dialect) (a .event .now) (a .facts) (a .types .now) (a .metadata .now) (a .standing) (c .before .before .before .before .before .before .before .before .before .before .before .before .before .declare .result) (c .before .before .before .before .before .before .before .before .before .before .charset-if .result) (c .before .before .before .before .before .before .before .charset-if2 .result) _
     (c .before .before .before .before .before .before .before .before .before .before .before .before .before .before .before .before .before .before .before .before .pre .0) (c .before .before .before .before .before .before .before .before .before .before .before .before .before .before .before .before .before .before .before .before .pre .2)
     (record {
-    column = c .before .before .before .before .before .before .before .before .before .before .before .before .before .declare .ensures;
-    character = rw (← (c .before .before .before .before .before .before .before .before .before .before .before .before .has-charset .ensures)) (c .before .before .before .before .before .before .before .before .before .before .charset-if .ensures);
-    choice = rw (← (c .before .before .before .before .before .before .before .before .before .is-enum-or-set .ensures)) (c .before .before .before .before .before .before .before .charset-if2 .ensures);
-    entry = c .before .before .before .before .before .entry-for .ensures ∙ rw (c .before .before .before .before .before .before .charset-of .ensures);
-    place = refl;
-    metadata = rw (c .before .before .metadata-bytes .ensures);
-    ranks = c .ranks-after .ensures;
-    characters = refl;
-    choices = refl;
+      column = c .before .before .before .before .before .before .before .before .before .before .before .before .before .declare .ensures;
+      character = rw (← (c .before .before .before .before .before .before .before .before .before .before .before .before .has-charset .ensures)) (c .before .before .before .before .before .before .before .before .before .before .charset-if .ensures);
+      choice = rw (← (c .before .before .before .before .before .before .before .before .before .is-enum-or-set .ensures)) (c .before .before .before .before .before .before .before .charset-if2 .ensures);
+      entry = c .before .before .before .before .before .entry-for .ensures ∙ rw (c .before .before .before .before .before .before .charset-of .ensures);
+      place = refl;
+      metadata = rw (c .before .before .metadata-bytes .ensures);
+      ranks = c .ranks-after .ensures;
+      characters = refl;
+      choices = refl;
     })
 
 pub next-entry-spec : {M : Type 1} → statement M

@@ -34,10 +34,12 @@ first-standing-requires : tie.Need-first-standing-requires Inv-loop μ-loop
 first-standing-requires c κs = (c .before .before .before .before .pre .0 .characters, c .before .before .before .before .pre .0 .choices)
 
 loop-holds : tie.Need-loop-holds Inv-loop μ-loop
-loop-holds c = (c .first-standing .ensures .ready,
-    omega (arith, ap (λ (p : Place). p .0) (c .first-standing .ensures .place)),
-    refl,
-    start-stored (c .before .before .before .before .before .args .dialect) (c .before .before .before .before .before .args .event .now) (c .before .before .before .before .before .args .facts) (c .before .before .before .before .before .args .types .now) (c .before .before .before .before .before .args .metadata .now) (c .first-standing .result) (c .before .before .before .before .before .args .buf .now) (c .first-standing .ensures))
+loop-holds c = (
+  c .first-standing .ensures .ready,
+  omega (arith, ap (λ (p : Place). p .0) (c .first-standing .ensures .place)),
+  refl,
+  start-stored (c .before .before .before .before .before .args .dialect) (c .before .before .before .before .before .args .event .now) (c .before .before .before .before .before .args .facts) (c .before .before .before .before .before .args .types .now) (c .before .before .before .before .before .args .metadata .now) (c .first-standing .result) (c .before .before .before .before .before .args .buf .now) (c .first-standing .ensures),
+)
 
 next-entry-requires : tie.Need-next-entry-requires Inv-loop μ-loop
 next-entry-requires c κs = (c .if1 .taken, c .before .before .before .before .before .before .before .before .pre .0 .few, c .before .before .loop .inv .0)

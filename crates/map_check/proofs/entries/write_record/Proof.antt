@@ -1,13 +1,15 @@
 -- `map_check::entries::write_record` meets its contract. Assumes nothing.
-use Prim.Native.Nat.{_+_, _*_}
+use Prim.Native.Nat.{ℕ, _+_, _*_}
+use mathlib.Core.Path.{ap, _∙_}
 use native.Mathlib.Omega.{arith}
 use lib.ListN.{length}
 use Rattle.wire.proofs.Stores.{not-wrote}
 use Rattle.record.specs.Records.{recordBytes}
+use Rattle.record.proofs.Made.{made-length}
 use Rattle.map_check.specs.Columns.{declareAll}
 use Rattle.map_check.specs.Ranks.{place, noRanks}
 use Rattle.map_check.specs.Profile.{entriesFrom}
-use Rattle.map_check.proofs.Making.{map-entries-length, record-length, record-written}
+use Rattle.map_check.proofs.Making.{map-entries-length, record-written}
 use borrow.Author.Needs.{needs}
 use Rattle.map_check.proofs.entries.write_record.Statement.{statement}
 use Rattle.map_check.proofs.entries.write_record.Tie as tie
@@ -31,7 +33,7 @@ returns c =
     let a = c .before .before .before .before .before .before .args in
     let es = entriesFrom (a .dialect) (a .event .now) (a .facts) (declareAll (a .types .now) (a .metadata .now)) (place 0) noRanks in
     let e = map-entries-length (a .dialect) (a .event .now) (a .facts) (a .types .now) (a .metadata .now) in
-    not-wrote (a .buf .now) (recordBytes es) 0 (6 + 6 * length (a .types .now)) _ (record-length es _ e) (omega (arith, c .before .if1 .taken)) (c .refuse .ensures)
+    not-wrote (a .buf .now) (recordBytes es) 0 (6 + 6 * length (a .types .now)) _ (made-length es ∙ ap (λ (n : ℕ). 6 + 6 * n) e) (omega (arith, c .before .if1 .taken)) (c .refuse .ensures)
 
 cast-write-head : tie.Need-cast-write-head
 cast-write-head c = search needs
