@@ -1,24 +1,22 @@
 -- The cursors in a class's charsets: what stands there fits 16 bits, and a turn gives a rank's charset and leaves the cursor where the next rank's is the
 -- next. Assumes nothing.
-use Prim.Native.Nat.{ℕ, zero, suc, _+_, _≤_, _<_}
-use mathlib.Core.Path.{_≡_, refl, sym, ap, subst, _∙_}
-use mathlib.Core.Bool.{Bool, true, false, cond, _&&_}
+use Prim.Native.Nat.{ℕ, suc, _+_, _≤_, _<_}
+use mathlib.Core.Path.{_≡_, refl, sym, ap, _∙_}
+use mathlib.Core.Bool.{Bool, true, false, cond}
 use mathlib.Core.List.{List, [], _∷_}
 use native.Mathlib.Nat.{add-zero}
-use native.Mathlib.Numerals.{add-one}
 use native.Mathlib.Omega.{arith}
 use borrow.Author.Tests.{le-leb, leb-true, eqb-true, eqb-false, eq-eqb, ne-eqb}
-use lib.ListN.{length, getD, drop}
+use lib.ListN.{getD, drop}
 use lib.Seq.{getD-drop, drop-drop}
 use lib.Dec.{leb, ltb, eqb}
-use Rattle.wire.specs.Outcome.{Outcome, ok, refused, after}
+use Rattle.wire.specs.Outcome.{Outcome, ok, refused}
 use Rattle.wire.specs.Packed.{readPacked}
 use Rattle.wire.proofs.Outcomes.{same-ok, ok-not-refused}
 use Rattle.temporal.proofs.Ranges.{and-true}
 use Rattle.table_map.specs.declared.event.Part.{Part}
 use Rattle.table_map.specs.Parts.{lentPart}
 use Rattle.table_map.specs.Lists.{Rule, Stepped, end, item, step, Walked, onward, walk, walkSteps, integerItem, pairItem}
-use Rattle.table_map.proofs.Steps.{step-before}
 use Rattle.table_map.proofs.Items.{Moves, integer-moves, pair-moves}
 use Rattle.table_map.proofs.Walks.{walk-steps}
 use Rattle.map_check.specs.declared.contents.Meaning.the-variants.{Charset}
@@ -29,59 +27,16 @@ use Rattle.map_check.specs.declared.facts.Charsets.{Charsets}
 use Rattle.map_check.specs.declared.charset.CharsetCursor.{CharsetCursor}
 use Rattle.map_check.specs.declared.charset.CharsetTurn.{CharsetTurn}
 use Rattle.map_check.specs.Ranks.{rank}
-use Rattle.map_check.specs.Contents.{isWhole, all, listHolds, exactly, isCharset, integerHolds, pairsHold, pairsWhole, fromDefault, defaultHolds}
+use Rattle.map_check.specs.Contents.{exactly, isCharset, integerHolds, pairsHold, defaultHolds}
 use Rattle.map_check.specs.Fields.{valueIn}
 use Rattle.map_check.specs.Profile.{pairOr, fromPairs, fromList, charsetBy}
 use Rattle.map_check.specs.Standing.{ClassHolds, cursor, turn, behind, listTurn, pairTurn, IntegerFits, PairFits, Listed, Paired, StandsIn, Stands, Taken}
+use Rattle.map_check.proofs.Between.{items-next}
+use Rattle.map_check.proofs.Bounds.{charset-fits, charset-list, Defaults, charset-default}
 
--- ---- what fields that hold say of their charsets
-charset-fits : (c : ℕ) → isCharset c ≡ true → c ≤ 65535
-unfolding isCharset
-charset-fits c e = leb-true c 65535 (and-true (leb 1 c) (leb c 65535) e .1)
-
-all-fit : (l : List ℕ) → all (integerHolds Charset) l ≡ true → (i : ℕ) → getD l i 0 ≤ 65535
-unfolding all integerHolds
-all-fit [] e i = omega arith
-all-fit (v ∷ l) e zero = charset-fits v (and-true (isCharset v) (all (integerHolds Charset) l) e .0)
-all-fit (v ∷ l) e (suc i) = all-fit l (and-true (isCharset v) (all (integerHolds Charset) l) e .1) i
-
-pub list-fits : (n : ℕ) (value : List ℕ) → exactly integerItem (integerHolds Charset) n 0 value 0 ≡ true
-    → (i : ℕ) → getD (walk integerItem value 0 .items) i 0 ≤ 65535
-unfolding exactly listHolds
-list-fits n value e =
-    let a = and-true (listHolds integerItem (integerHolds Charset) value 0) _ e in
-    let b = and-true (isWhole (walk integerItem value 0 .how)) _ (a .0) in
-    all-fit (walk integerItem value 0 .items) (b .1)
-
--- a default that holds: it was read, it fits, and the pairs behind it hold
-pub record Default (size : ℕ) (value : List ℕ) : Type 0 where
-  pub charset : ℕ
-  pub next : ℕ
-  pub read : readPacked value 0 ≡ ok (charset, next)
-  pub fits : charset ≤ 65535
-  pub rise : pairsHold size 0 (walk pairItem value next .items) ≡ true
-
-pub default-fits : (size : ℕ) (value : List ℕ) → defaultHolds size value ≡ true → Default size value
-unfolding defaultHolds pairsWhole
-default-fits size value e = go (readPacked value 0) refl e
-  where
-    go : (o : Outcome (ℕ × ℕ)) → readPacked value 0 ≡ o → fromDefault size value o ≡ true → Default size value
-    go (ok c) f g =
-        let a = and-true (isCharset (c .0)) (pairsWhole size 0 value (c .1)) g in
-        let b = and-true (isWhole (walk pairItem value (c .1) .how)) _ (a .1) in
-        record { charset = c .0; next = c .1; read = f; fits = charset-fits (c .0) (a .0); rise = b .1 }
-    go (refused r) f g = let z : _≡_ {A = ℕ} 0 1 = cc in absurd (omega arith)
-
--- ---- a walk's items, from its first step
+-- a walk's items, from its first step
 items-step : {A : Type 0} (rule : Rule A) → Moves rule → (value : List ℕ) (at : ℕ) → walk rule value at .items ≡ onward (walk rule value) (step rule value at) .items
 items-step {A} rule m value at = ap (λ (w : Walked A). w .items) (walk-steps rule m value at)
-
-first-item : {A : Type 0} (rule : Rule A) → Moves rule → (value : List ℕ) (at : ℕ) (a : A) (next : ℕ) → rule value at ≡ ok (a, next)
-    → walk rule value at .items ≡ a ∷ walk rule value next .items
-first-item rule m value at a next e =
-    let x = m .moves value at a next e in
-    let t : step rule value at ≡ ok (item a next) = step-before rule value at (omega (arith, x .0, x .1)) ∙ rw e in
-    items-step rule m value at ∙ rw t
 
 -- ---- in a list
 -- what is left of a list of which r are gone, and its first
@@ -93,7 +48,7 @@ left-first l gone r e = (
 
 pub listed-fits : {value : List ℕ} {r : ℕ} {c : CharsetCursor} → Listed value r c → IntegerFits value (c .at)
 listed-fits {value} {r} {c} h charset next e =
-    let f = first-item integerItem integer-moves value (c .at) charset next e in
+    let f = items-next integerItem integer-moves value (c .at) charset next e in
     let x = left-first (walk integerItem value 0 .items) (charset ∷ walk integerItem value next .items) r (sym f ∙ h .left) in
     omega (arith, x .0, h .fits r)
 
@@ -151,7 +106,7 @@ none-earlier size low default r (p ∷ ps) e h =
 
 pub paired-fits : {value : List ℕ} {r : ℕ} {c : CharsetCursor} → Paired value r c → PairFits value (c .at)
 paired-fits {value} {r} {c} h q charset next e =
-    let f = first-item pairItem pair-moves value (c .at) (q, charset) next e in
+    let f = items-next pairItem pair-moves value (c .at) (q, charset) next e in
     first-pair (h .size) r (q, charset) (walk pairItem value next .items) (ap (pairsHold (h .size) r) (sym f) ∙ h .rise) .fits
 
 -- what a turn gives and leaves, of pairs ps
@@ -226,24 +181,24 @@ paired-turn {value} {r} {c} t e h =
 
 -- ---- the first cursors
 pub listed-first : (n : ℕ) (value : List ℕ) → exactly integerItem (integerHolds Charset) n 0 value 0 ≡ true → Listed value 0 (cursor 0 0)
-listed-first n value e = record { left = refl; fits = list-fits n value e }
+listed-first n value e = record { left = refl; fits = charset-list n value e }
 
-paired-first : (size : ℕ) (value : List ℕ) → Default size value → Paired value 0 (behind (readPacked value 0))
+paired-first : (size : ℕ) (value : List ℕ) → Defaults size value → Paired value 0 (behind (readPacked value 0))
 paired-first size value d =
-    rw (d .read) (record { left = λ i l. rw (d .read); size = size; rise = d .rise })
+    rw (d .read) (record { left = λ i l. rw (d .read); size = size; rise = d .hold })
 
 -- whether a default stands or not
 pub first-paired : (s : List ℕ) (default : Found) (size : ℕ) → ((p : Part) → default ≡ Value p → defaultHolds size (lentPart s p) ≡ true)
     → Paired (valueIn s default) 0 (behind (readPacked (valueIn s default) 0))
 unfolding readPacked step walkSteps pairOr pairsHold
-first-paired s (Value p) size h = paired-first size (lentPart s p) (default-fits size (lentPart s p) (h p refl))
+first-paired s (Value p) size h = paired-first size (lentPart s p) (charset-default size (lentPart s p) (h p refl))
 first-paired s Nothing size h = record { left = λ i l. refl; size = size; rise = refl }
 
 pub first-fits : (s : List ℕ) (default : Found) (size : ℕ) → ((p : Part) → default ≡ Value p → defaultHolds size (lentPart s p) ≡ true)
     → IntegerFits (valueIn s default) 0
 unfolding readPacked
 first-fits s (Value p) size h charset next e =
-    let d = default-fits size (lentPart s p) (h p refl) in
+    let d = charset-default size (lentPart s p) (h p refl) in
     let f : d .charset ≡ charset = ap (λ (x : ℕ × ℕ). x .0) (same-ok (sym (d .read) ∙ e)) in
     omega (arith, d .fits)
 first-fits s Nothing size h charset next e = absurd (ok-not-refused (sym e))

@@ -1,17 +1,14 @@
 -- The making of a record: a turn gives the next column's entry, and entries are written one behind the other. Assumes nothing.
 use Prim.Native.Nat.{ℕ, suc, _+_, _-_, _*_, _≤_, _<_}
-use mathlib.Core.Path.{_≡_, refl, sym, ap, subst, _∙_}
+use mathlib.Core.Path.{_≡_, refl, sym, ap, _∙_}
 use mathlib.Core.Bool.{Bool, true, false, cond, _||_}
-use mathlib.Core.List.{List, [], _∷_, _++_}
-use native.Mathlib.Numerals.{add-one}
+use mathlib.Core.List.{List, [], _∷_}
 use native.Mathlib.Omega.{arith}
-use lib.ListN.{length, getD, drop, length-append, length-drop, drop-of-length-le}
+use lib.ListN.{length, getD, drop, length-drop, drop-of-length-le}
 use lib.Seq.{drop-cons, drop-drop}
 use Rattle.wire.specs.Number.{leBytes}
 use Rattle.wire.specs.Stored.{stored, store, leftOf}
-use Rattle.wire.specs.declared.store.Written.{Written}
 use Rattle.wire.specs.declared.store.Written.the-variants.{Done}
-use Rattle.wire.proofs.Bytes.{leBytes-length}
 use Rattle.wire.proofs.Stores.{length-stored, stored-none, stored-stored, store-fits, Wrote, wrote, wrote-two}
 use Rattle.value.specs.declared.column.Dialect.{Dialect}
 use Rattle.value.specs.declared.column.Family.{Family}
@@ -20,6 +17,7 @@ use Rattle.value.specs.Columns.{familyOf, metadataBytes, isCharacter, hasCharse
 use Rattle.record.specs.declared.entry.Entry.{Entry}
 use Rattle.record.specs.Entries.{entryBytes}
 use Rattle.record.specs.Records.{headBytes, entriesBytes, recordBytes}
+use Rattle.record.proofs.Made.{made-length}
 use Rattle.map_check.specs.declared.column.Declared.{Declared}
 use Rattle.map_check.specs.declared.rank.Place.{Place}
 use Rattle.map_check.specs.declared.rank.Ranks.{Ranks}
@@ -28,9 +26,10 @@ use Rattle.map_check.specs.declared.charset.CharsetTurn.{CharsetTurn}
 use Rattle.map_check.specs.declared.entries.Standing.{Standing}
 use Rattle.map_check.specs.declared.entries.EntryTurn.{EntryTurn}
 use Rattle.map_check.specs.Columns.{metaBytes, declared, declareAll}
-use Rattle.map_check.specs.Ranks.{place, noRanks, ranksAfter, Below}
+use Rattle.map_check.specs.Ranks.{place, noRanks, ranksAfter}
 use Rattle.map_check.specs.Profile.{charsetBy, charsetOf, entryFor, entriesFrom}
-use Rattle.map_check.specs.Standing.{Stands, TakenIf, entryWith, Ready, Starts, toCome, Came}
+use Rattle.map_check.specs.Standing.{TakenIf, entryWith, Ready, Starts, toCome, Came}
+use Rattle.map_check.proofs.Declares.{declared-length}
 use Rattle.map_check.proofs.Counts.{below-after}
 
 -- ---- lengths
@@ -57,11 +56,6 @@ few-metadata Enum = omega arith
 few-metadata Set = omega arith
 few-metadata Unknown = omega arith
 
-declared-length : (types meta : List ℕ) → length (declareAll types meta) ≡ length types
-unfolding declareAll
-declared-length [] meta = refl
-declared-length (t ∷ types) meta = ap suc (declared-length types (drop (metaBytes t) meta))
-
 -- there is an entry for each column
 pub entries-length : (d : Dialect) (s : List ℕ) (x : Facts) (cs : List Declared) (j : Place) (k : Ranks) → length (entriesFrom d s x cs j k) ≡ length cs
 unfolding entriesFrom
@@ -78,15 +72,14 @@ entry-length : (e : Entry) → length (entryBytes e) ≡ 6
 unfolding entryBytes leBytes
 entry-length e = refl
 
-pub head-length : (n : ℕ) → length (headBytes n) ≡ 6
+head-length : (n : ℕ) → length (headBytes n) ≡ 6
 unfolding headBytes leBytes
 head-length n = refl
 
 -- six bytes for each
-pub entries-bytes-length : (es : List Entry) → length (entriesBytes es) ≡ 6 * length es
-unfolding entriesBytes
-entries-bytes-length [] = refl
-entries-bytes-length (e ∷ es) = length-append (entryBytes e) (entriesBytes es) ∙ omega (arith, entry-length e, entries-bytes-length es)
+bytes-length : (es : List Entry) → length (entriesBytes es) ≡ 6 * length es
+unfolding recordBytes headBytes leBytes
+bytes-length es = omega (arith, made-length es)
 
 -- ---- the next entry
 -- a charset is counted for every column that has one
@@ -101,8 +94,8 @@ found-charset : (d : Dialect) (s : List ℕ) (x : Facts) (c : Declared) (k : Ran
 unfolding charsetOf hasCharset
 found-charset d s x c k a b e f = rw (e, f) (counted-charset (isCharacter (c .real)) _ (charsetBy s (x .characters) (k .character)) _)
 
--- what the code of a turn found
-pub record Found (d : Dialect) (s : List ℕ) (x : Facts) (types meta : List ℕ) (k : Standing) (c : Declared) (a b : CharsetTurn) (t : EntryTurn) : Type 0 where
+-- what the code of a turn has gathered
+pub record Gathered (d : Dialect) (s : List ℕ) (x : Facts) (types meta : List ℕ) (k : Standing) (c : Declared) (a b : CharsetTurn) (t : EntryTurn) : Type 0 where
   pub column : c ≡ declared (getD types (k .place .0) 0) (drop (k .metadata) meta)
   pub character : TakenIf (hasCharset d (c .real)) s (x .characters) (k .ranks .character) a
   pub choice : TakenIf (isEnumOrSet (c .real)) s (x .choices) (k .ranks .choice) b
@@ -123,7 +116,7 @@ come-first d s x types meta j at k c h e = rw (drop-cons types j 0 h, drop-drop 
 
 -- they are the turn's entry, and those to come behind it
 come-behind : (d : Dialect) (s : List ℕ) (x : Facts) (types meta : List ℕ) (k : Standing) (c : Declared) (a b : CharsetTurn) (t : EntryTurn) → k .place .0 < length types
-    → Found d s x types meta k c a b t → toCome d s x types meta k ≡ t .entry ∷ toCome d s x types meta (t .next)
+    → Gathered d s x types meta k c a b t → toCome d s x types meta k ≡ t .entry ∷ toCome d s x types meta (t .next)
 come-behind d s x types meta k c a b t h f =
     let j = k .place .0 in
     let n : j + 1 ≡ suc j = omega arith in
@@ -133,7 +126,7 @@ come-behind d s x types meta k c a b t h f =
     ∙ rw (e, f .place, f .metadata, f .ranks, n)
 
 ready-behind : (d : Dialect) (s : List ℕ) (x : Facts) (types meta : List ℕ) (k : Standing) (c : Declared) (a b : CharsetTurn) (t : EntryTurn)
-    → Found d s x types meta k c a b t → Ready s x k → Ready s x (t .next)
+    → Gathered d s x types meta k c a b t → Ready s x k → Ready s x (t .next)
 unfolding ranksAfter
 ready-behind d s x types meta k c a b t f r =
     let j = k .place .0 in
@@ -145,7 +138,7 @@ ready-behind d s x types meta k c a b t f r =
     }
 
 pub came : (d : Dialect) (s : List ℕ) (x : Facts) (types meta : List ℕ) (k : Standing) (c : Declared) (a b : CharsetTurn) (t : EntryTurn) → k .place .0 < length types → Ready s x k
-    → Found d s x types meta k c a b t → Came d s x types meta k t
+    → Gathered d s x types meta k c a b t → Came d s x types meta k t
 came d s x types meta k c a b t h r f = record {
   entry = come-behind d s x types meta k c a b t h f;
   place = ap (λ (p : Place). p .0) (f .place);
@@ -195,15 +188,11 @@ all-stored d s x types meta k buf z at h g =
     sym (stored-none buf at) ∙ ap (λ (es : List Entry). stored buf at (entriesBytes es)) (sym (none-come d s x types meta k h)) ∙ g
 
 -- the whole record: its head, and its entries
-pub record-length : (es : List Entry) (n : ℕ) → length es ≡ n → length (recordBytes es) ≡ 6 + 6 * n
-unfolding recordBytes
-record-length es n e = length-append (headBytes (length es)) (entriesBytes es) ∙ omega (arith, head-length (length es), entries-bytes-length es)
-
 pub record-written : (es : List Entry) (n : ℕ) (old x₁ x : List ℕ) → length es ≡ n → 6 + 6 * n ≤ length old → x₁ ≡ leftOf old (store old 0 (headBytes n))
     → x ≡ stored x₁ 6 (entriesBytes es) → Wrote old 0 (recordBytes es) (Done (6 + 6 * n)) x
 unfolding recordBytes
 record-written es n old x₁ x e h p q =
-    let m : length (entriesBytes es) ≡ 6 * n = entries-bytes-length es ∙ ap (λ (k : ℕ). 6 * k) e in
+    let m : length (entriesBytes es) ≡ 6 * n = bytes-length es ∙ ap (λ (k : ℕ). 6 * k) e in
     let f = store-fits old (headBytes n) 0 (omega (arith, head-length n)) in
     let y : x₁ ≡ stored old 0 (headBytes n) = p ∙ rw f in
     let l : length x₁ ≡ length old = ap length y ∙ length-stored old 0 (headBytes n) (omega (arith, head-length n)) in

@@ -1,6 +1,6 @@
 -- Where the making of a record stands between two columns: a cursor in each class's charsets, so that a charset is found by one look; what holds there, and
 -- what is to come. Assumes nothing.
-use Prim.Native.Nat.{ℕ, suc, _+_, _*_, _≤_}
+use Prim.Native.Nat.{ℕ, _+_, _*_, _≤_}
 use mathlib.Core.Path.{_≡_}
 use mathlib.Core.Bool.{Bool, true, cond}
 use mathlib.Core.List.{List, _∷_}
@@ -11,7 +11,7 @@ use Rattle.wire.specs.Packed.{readPacked}
 use Rattle.value.specs.declared.column.Dialect.{Dialect}
 use Rattle.table_map.specs.declared.event.Part.{Part}
 use Rattle.table_map.specs.Parts.{lentPart}
-use Rattle.table_map.specs.Lists.{Stepped, end, item, step, walk, integerItem, pairItem}
+use Rattle.table_map.specs.Lists.{Stepped, end, item, walk, integerItem, pairItem}
 use Rattle.record.specs.declared.entry.Entry.{Entry}
 use Rattle.map_check.specs.declared.contents.Meaning.the-variants.{Charset}
 use Rattle.map_check.specs.declared.column.Declared.{Declared}

@@ -1,3 +1,4 @@
+-- `map_check::charset::behind_default` meets its contract. Assumes nothing.
 use mathlib.Core.Path.{sym, ap, _∙_}
 use native.Mathlib.Omega.{arith}
 use Rattle.table_map.specs.Lists.{charsetOf}
@@ -8,27 +9,21 @@ use Rattle.map_check.proofs.charset.behind_default.Reads as reads
 use Rattle.map_check.proofs.charset.behind_default.Lts as lts
 use Rattle.table_map.proofs.default_charset.Reads as default-charset-reads
 
--- src/charset.rt:33:11
 default-charset-requires : tie.Need-default-charset-requires
 default-charset-requires c κs = search needs
 
--- src/charset.rt:34:32
 enum-known-charset : tie.Need-enum-known-charset
 enum-known-charset c = search needs
 
--- src/charset.rt:36:22
 cast-t6 : tie.Need-cast-t6
 cast-t6 c = omega (arith, c .before .before .before .before .before .pre _ _ (sym (c .before .before .before .default-charset .ensures) ∙ ap charsetOf (c .before .charset .given .1)))
 
--- src/charset.rt:38:39
 enum-told : tie.Need-enum-told
 enum-told c = search needs
 
--- src/charset.rt:29:1
 returns : tie.Need-returns
 returns c = rw (sym (c .before .before .before .default-charset .ensures) ∙ ap charsetOf (c .before .charset .given .1))
 
--- src/charset.rt:29:1
 returns-2 : tie.Need-returns-2
 returns-2 c = rw (sym (c .before .before .default-charset .ensures) ∙ ap charsetOf (c .enum-told .given .1))
 

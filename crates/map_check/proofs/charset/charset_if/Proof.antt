@@ -1,3 +1,4 @@
+-- `map_check::charset::charset_if` meets its contract. Assumes nothing.
 use mathlib.Core.Path.{refl}
 use native.Mathlib.Nat.{add-zero}
 use borrow.Author.Needs.{needs}
@@ -7,15 +8,12 @@ use Rattle.map_check.proofs.charset.charset_if.Reads as reads
 use Rattle.map_check.proofs.charset.charset_if.Lts as lts
 use Rattle.map_check.proofs.charset.next_charset.Reads as next-charset-reads
 
--- src/charset.rt:135:9
 next-charset-requires : tie.Need-next-charset-requires
 next-charset-requires c κs = search needs
 
--- src/charset.rt:135:9
 returns : tie.Need-returns
 returns c = rw (c .before .if1 .taken) (record { charset = c .next-charset .ensures .charset; next = c .next-charset .ensures .next })
 
--- src/charset.rt:124:1
 returns-2 : tie.Need-returns-2
 returns-2 c = rw (c .if1 .left) (record { charset = refl; next = rw add-zero (c .before .before .pre) })
 

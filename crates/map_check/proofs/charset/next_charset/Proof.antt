@@ -1,5 +1,6 @@
+-- `map_check::charset::next_charset` meets its contract. Assumes nothing.
+use mathlib.Core.Path.{_∙_}
 use Rattle.map_check.proofs.Cursors.{fits-in-list, fits-in-pairs, taken-in-list, taken-in-pairs}
-use mathlib.Core.Path.{ap, _∙_}
 use borrow.Author.Needs.{needs}
 use Rattle.map_check.proofs.charset.next_charset.Statement.{statement}
 use Rattle.map_check.proofs.charset.next_charset.Tie as tie
@@ -9,35 +10,27 @@ use Rattle.map_check.proofs.charset.next_listed.Reads as next-listed-re
 use Rattle.map_check.proofs.charset.next_paired.Reads as next-paired-reads
 use Rattle.map_check.proofs.field.value_in.Reads as value-in-reads
 
--- src/charset.rt:118:40
 enum-told : tie.Need-enum-told
 enum-told c = search needs
 
--- src/charset.rt:118:40
 value-in-requires : tie.Need-value-in-requires
 value-in-requires c κs = search needs
 
--- src/charset.rt:118:28
 next-listed-requires : tie.Need-next-listed-requires
 next-listed-requires c κs = rw (c .value-in .ensures) (fits-in-list _ (c .before .before .before .before .args .class .default) (c .before .before .before .before .args .class .list) _ (c .before .before .before .before .args .rank .0) (c .before .before .before .before .args .cursor) (c .before .enum-told .given .1) (c .before .before .before .before .pre))
 
--- src/charset.rt:119:39
 enum-told-2 : tie.Need-enum-told-2
 enum-told-2 c = search needs
 
--- src/charset.rt:119:39
 value-in-requires-2 : tie.Need-value-in-requires-2
 value-in-requires-2 c κs = search needs
 
--- src/charset.rt:119:27
 next-paired-requires : tie.Need-next-paired-requires
 next-paired-requires c κs = rw (c .value-in2 .ensures) (fits-in-pairs _ (c .before .before .before .before .args .class .default) (c .before .before .before .before .args .class .list) (c .before .before .before .before .args .rank .0) (c .before .before .before .before .args .cursor) (c .before .enum-told2 .given .1) (c .before .before .before .before .pre))
 
--- src/charset.rt:111:1
 returns : tie.Need-returns
 returns c = taken-in-list _ (c .before .before .before .before .before .args .class) _ _ (c .before .before .before .before .before .args .cursor) _ (c .before .before .enum-told .given .1) (c .before .before .before .before .before .pre) (c .next-listed .ensures ∙ rw (c .before .value-in .ensures))
 
--- src/charset.rt:111:1
 returns-2 : tie.Need-returns-2
 returns-2 c = taken-in-pairs _ (c .before .before .before .before .before .args .class) _ (c .before .before .before .before .before .args .cursor) _ (c .before .before .enum-told2 .given .1) (c .before .before .before .before .before .pre) (c .next-paired .ensures ∙ rw (c .before .value-in2 .ensures))
 

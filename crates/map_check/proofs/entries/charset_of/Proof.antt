@@ -1,3 +1,4 @@
+-- `map_check::entries::charset_of` meets its contract. Assumes nothing.
 use mathlib.Core.Path.{sym, _∙_}
 use borrow.Author.Needs.{needs}
 use Rattle.map_check.proofs.entries.charset_of.Statement.{statement}
@@ -6,15 +7,12 @@ use Rattle.map_check.proofs.entries.charset_of.Reads as reads
 use Rattle.map_check.proofs.entries.charset_of.Lts as lts
 use Rattle.value.proofs.is_character.Reads as is-character-reads
 
--- src/entries.rt:138:8
 is-character-requires : tie.Need-is-character-requires
 is-character-requires c κs = search needs
 
--- src/entries.rt:139:9
 returns : tie.Need-returns
 returns c = rw (sym (c .before .is-character .ensures) ∙ c .if1 .taken)
 
--- src/entries.rt:135:1
 returns-2 : tie.Need-returns-2
 returns-2 c = rw (sym (c .before .is-character .ensures) ∙ c .if1 .left)
 

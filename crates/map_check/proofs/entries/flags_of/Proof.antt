@@ -1,3 +1,4 @@
+-- `map_check::entries::flags_of` meets its contract. Assumes nothing.
 use mathlib.Core.Path.{ap, _∙_}
 use Rattle.map_check.specs.Profile.{one, flagsOf}
 use borrow.Author.Needs.{needs}
@@ -11,63 +12,48 @@ use Rattle.map_check.proofs.entries.is_unsigned.Reads as is-unsigned-re
 use Rattle.map_check.proofs.entries.is_visible.Reads as is-visible-reads
 use Rattle.map_check.proofs.entries.one.Reads as one-reads
 
--- src/entries.rt:110:24
 is-unsigned-requires : tie.Need-is-unsigned-requires
 is-unsigned-requires c κs = search needs
 
--- src/entries.rt:110:9
 one-requires : tie.Need-one-requires
 one-requires c κs = search needs
 
--- src/entries.rt:111:24
 is-nullable-requires : tie.Need-is-nullable-requires
 is-nullable-requires c κs = search needs
 
--- src/entries.rt:111:9
 one-requires-2 : tie.Need-one-requires-2
 one-requires-2 c κs = search needs
 
--- src/entries.rt:112:21
 is-sign-known-requires : tie.Need-is-sign-known-requires
 is-sign-known-requires c κs = search needs
 
--- src/entries.rt:112:9
 one-requires-3 : tie.Need-one-requires-3
 one-requires-3 c κs = search needs
 
--- src/entries.rt:113:23
 is-visible-requires : tie.Need-is-visible-requires
 is-visible-requires c κs = search needs
 
--- src/entries.rt:113:9
 one-requires-4 : tie.Need-one-requires-4
 one-requires-4 c κs = search needs
 
--- src/entries.rt:114:16
 mul-result : tie.Need-mul-result
 mul-result c = search needs
 
--- src/entries.rt:114:5
 add-result : tie.Need-add-result
 add-result c = search needs
 
--- src/entries.rt:114:31
 mul-result-2 : tie.Need-mul-result-2
 mul-result-2 c = search needs
 
--- src/entries.rt:114:5
 add-result-2 : tie.Need-add-result-2
 add-result-2 c = search needs
 
--- src/entries.rt:114:43
 mul-result-3 : tie.Need-mul-result-3
 mul-result-3 c = search needs
 
--- src/entries.rt:114:5
 add-result-3 : tie.Need-add-result-3
 add-result-3 c = search needs
 
--- src/entries.rt:106:1
 returns : tie.Need-returns
 unfolding flagsOf
 returns c = rw (

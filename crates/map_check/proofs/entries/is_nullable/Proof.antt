@@ -1,3 +1,4 @@
+-- `map_check::entries::is_nullable` meets its contract. Assumes nothing.
 use mathlib.Core.Path.{_∙_}
 use borrow.Author.Needs.{needs}
 use Rattle.map_check.proofs.entries.is_nullable.Statement.{statement}
@@ -7,15 +8,12 @@ use Rattle.map_check.proofs.entries.is_nullable.Lts as lts
 use Rattle.table_map.proofs.part_of.Reads as part-of-reads
 use Rattle.wire.proofs.bit_lsb0.Reads as bit-lsb0-reads
 
--- src/entries.rt:82:20
 part-of-requires : tie.Need-part-of-requires
 part-of-requires c κs = search needs
 
--- src/entries.rt:82:5
 bit-lsb0-requires : tie.Need-bit-lsb0-requires
 bit-lsb0-requires c κs = search needs
 
--- src/entries.rt:79:1
 returns : tie.Need-returns
 returns c = c .bit-lsb0 .ensures ∙ rw (c .before .part-of .ensures)
 

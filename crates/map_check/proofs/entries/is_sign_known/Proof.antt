@@ -1,3 +1,4 @@
+-- `map_check::entries::is_sign_known` meets its contract. Assumes nothing.
 use mathlib.Core.Path.{sym, _∙_}
 use borrow.Author.Tests.{not-true, not-false}
 use borrow.Author.Needs.{needs}
@@ -8,19 +9,15 @@ use Rattle.map_check.proofs.entries.is_sign_known.Lts as lts
 use Rattle.map_check.proofs.entries.stands.Reads as stands-reads
 use Rattle.value.proofs.is_numeric.Reads as is-numeric-reads
 
--- src/entries.rt:62:9
 is-numeric-requires : tie.Need-is-numeric-requires
 is-numeric-requires c κs = search needs
 
--- src/entries.rt:63:9
 returns : tie.Need-returns
 returns c = rw (sym (c .before .is-numeric .ensures) ∙ not-true _ (c .if1 .taken))
 
--- src/entries.rt:66:5
 stands-requires : tie.Need-stands-requires
 stands-requires c κs = search needs
 
--- src/entries.rt:59:1
 returns-2 : tie.Need-returns-2
 returns-2 c = rw (sym (c .before .before .is-numeric .ensures) ∙ not-false _ (c .before .if1 .left)) (c .stands .ensures)
 

@@ -1,3 +1,4 @@
+-- `map_check::entries::is_unsigned` meets its contract. Assumes nothing.
 use mathlib.Core.Path.{sym, _∙_}
 use borrow.Author.Tests.{not-true, not-false}
 use borrow.Author.Needs.{needs}
@@ -9,23 +10,18 @@ use Rattle.map_check.proofs.entries.is_sign_known.Reads as is-sign-know
 use Rattle.map_check.proofs.field.value_in.Reads as value-in-reads
 use Rattle.table_map.proofs.flag.Reads as flag-reads
 
--- src/entries.rt:73:9
 is-sign-known-requires : tie.Need-is-sign-known-requires
 is-sign-known-requires c κs = search needs
 
--- src/entries.rt:74:9
 returns : tie.Need-returns
 returns c = rw (sym (c .before .is-sign-known .ensures) ∙ not-true _ (c .if1 .taken))
 
--- src/entries.rt:77:21
 value-in-requires : tie.Need-value-in-requires
 value-in-requires c κs = search needs
 
--- src/entries.rt:77:5
 flag-requires : tie.Need-flag-requires
 flag-requires c κs = search needs
 
--- src/entries.rt:70:1
 returns-2 : tie.Need-returns-2
 returns-2 c = rw (sym (c .before .before .before .is-sign-known .ensures) ∙ not-false _ (c .before .before .if1 .left)) (c .flag .ensures ∙ rw (c .before .value-in .ensures))
 

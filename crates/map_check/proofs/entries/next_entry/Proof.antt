@@ -1,7 +1,7 @@
-use lib.ListN.{getD}
-use mathlib.Core.Path.{refl}
-use mathlib.Core.Path.{ap, _∙_}
+-- `map_check::entries::next_entry` meets its contract. Assumes nothing.
+use mathlib.Core.Path.{refl, _∙_}
 use native.Mathlib.Omega.{arith}
+use lib.ListN.{getD}
 use Rattle.value.specs.Columns.{familyOf}
 use Rattle.map_check.proofs.Counts.{below-wider}
 use Rattle.map_check.proofs.Making.{few-metadata, came}
@@ -19,57 +19,44 @@ use Rattle.value.proofs.has_charset.Reads as has-charset-reads
 use Rattle.value.proofs.is_enum_or_set.Reads as is-enum-or-set-reads
 use Rattle.value.proofs.metadata_bytes.Reads as metadata-bytes-reads
 
--- src/entries.rt:175:16
 shared-slice-read-kind : tie.Need-shared-slice-read-kind
 shared-slice-read-kind c = search needs
 
--- src/entries.rt:176:9
 declare-requires : tie.Need-declare-requires
 declare-requires c κs = search needs
 
--- src/entries.rt:178:9
 has-charset-requires : tie.Need-has-charset-requires
 has-charset-requires c κs = search needs
 
--- src/entries.rt:180:9
 charset-if-requires : tie.Need-charset-if-requires
 charset-if-requires c κs = search needs
 
--- src/entries.rt:181:9
 is-enum-or-set-requires : tie.Need-is-enum-or-set-requires
 is-enum-or-set-requires c κs = search needs
 
--- src/entries.rt:183:9
 charset-if-requires-2 : tie.Need-charset-if-requires-2
 charset-if-requires-2 c κs = search needs
 
--- src/entries.rt:184:9
 charset-of-requires : tie.Need-charset-of-requires
 charset-of-requires c κs = search needs
 
--- src/entries.rt:185:9
 entry-for-requires : tie.Need-entry-for-requires
 entry-for-requires c κs = search needs
 
--- src/entries.rt:189:22
 add-t26 : tie.Need-add-t26
 add-t26 c = omega (arith, c .before .before .before .before .before .before .before .before .before .before .before .before .before .before .before .before .before .pre .0, c .before .before .before .before .before .before .before .before .before .before .before .before .before .before .before .before .before .pre .1)
 
--- src/entries.rt:190:39
 metadata-bytes-requires : tie.Need-metadata-bytes-requires
 metadata-bytes-requires c κs = search needs
 
--- src/entries.rt:190:19
 add-t29 : tie.Need-add-t29
 add-t29 c =
     let a = c .before .before .before .before .before .before .before .before .before .before .before .before .before .before .before .before .before .before .before in
     omega (arith, a .pre .0, a .pre .1, a .pre .2 .metadata, c .before .metadata-bytes .ensures, few-metadata (familyOf (getD (a .args .types .now) (a .args .standing .place .0) 0)))
 
--- src/entries.rt:191:16
 ranks-after-requires : tie.Need-ranks-after-requires
 ranks-after-requires c κs = below-wider (omega (arith, c .before .before .before .before .before .before .before .before .before .before .before .before .before .before .before .before .before .before .before .pre .0, c .before .before .before .before .before .before .before .before .before .before .before .before .before .before .before .before .before .before .before .pre .1)) (c .before .before .before .before .before .before .before .before .before .before .before .before .before .before .before .before .before .before .before .pre .2 .ranks)
 
--- src/entries.rt:161:1
 returns : tie.Need-returns
 returns c =
     let a = c .before .before .before .before .before .before .before .before .before .before .before .before .before .before .before .before .before .before .before .before .args in

@@ -1,4 +1,5 @@
-use borrow.Author.Needs.{needs}
+-- `map_check::entries::write_entries` meets its contract. The loop's invariant: what is to be stored from here on is what was to be
+-- stored from the start. Assumes nothing.
 use Prim.Native.Nat.{_+_, _-_, _*_, _≤_}
 use mathlib.Core.Path.{_≡_, refl, ap, _∙_}
 use native.Mathlib.Omega.{arith}
@@ -11,6 +12,7 @@ use Rattle.map_check.specs.Ranks.{place, noRanks}
 use Rattle.map_check.specs.Profile.{entriesFrom}
 use Rattle.map_check.specs.Standing.{Ready, toCome}
 use Rattle.map_check.proofs.Making.{start-stored, turn-stored, all-stored}
+use borrow.Author.Needs.{needs}
 use Rattle.map_check.proofs.entries.write_entries.Statement.{statement}
 use Rattle.map_check.proofs.entries.write_entries.Tie as tie
 use Rattle.map_check.proofs.entries.write_entries.Reads as reads
@@ -28,11 +30,9 @@ Inv-loop dialect event types metadata facts buf₀ standing₀ buf standing =
 abbrev μ-loop : tie.MeasureT-loop
 μ-loop dialect event types metadata facts buf₀ standing₀ buf standing = length types - standing .place .0
 
--- src/entries.rt:210:9
 first-standing-requires : tie.Need-first-standing-requires Inv-loop μ-loop
 first-standing-requires c κs = (c .before .before .before .before .pre .0 .characters, c .before .before .before .before .pre .0 .choices)
 
--- src/entries.rt:211:5
 loop-holds : tie.Need-loop-holds Inv-loop μ-loop
 loop-holds c = (
   c .first-standing .ensures .ready,
@@ -41,27 +41,21 @@ loop-holds c = (
   start-stored (c .before .before .before .before .before .args .dialect) (c .before .before .before .before .before .args .event .now) (c .before .before .before .before .before .args .facts) (c .before .before .before .before .before .args .types .now) (c .before .before .before .before .before .args .metadata .now) (c .first-standing .result) (c .before .before .before .before .before .args .buf .now) (c .first-standing .ensures),
 )
 
--- src/entries.rt:212:13
 next-entry-requires : tie.Need-next-entry-requires Inv-loop μ-loop
 next-entry-requires c κs = (c .if1 .taken, c .before .before .before .before .before .before .before .before .pre .0 .few, c .before .before .loop .inv .0)
 
--- src/entries.rt:213:22
 mul-at : tie.Need-mul-at Inv-loop μ-loop
 mul-at c = omega (arith, c .before .before .if1 .taken, c .before .before .before .before .before .before .before .before .before .before .pre .0 .few)
 
--- src/entries.rt:213:18
 add-at : tie.Need-add-at Inv-loop μ-loop
 add-at c = omega (arith, c .before .before .if1 .taken, c .before .before .before .before .before .before .before .before .before .before .pre .0 .few)
 
--- src/entries.rt:214:9
 write-entry-requires : tie.Need-write-entry-requires Inv-loop μ-loop
 write-entry-requires c κs = search needs
 
--- src/entries.rt:211:5
 loop-less : tie.Need-loop-less Inv-loop μ-loop
 loop-less c = omega (arith, c .before .before .before .before .before .before .before .if1 .taken, c .before .before .before .before .before .before .next-entry .ensures .place)
 
--- src/entries.rt:211:5
 loop-again : tie.Need-loop-again Inv-loop μ-loop
 loop-again c =
     let a = c .before .before .before .before .before .before .before .before .before .before .before .before .before .before .before .args in
@@ -70,11 +64,9 @@ loop-again c =
     let w = turn-stored (a .dialect) (a .event .now) (a .facts) (a .types .now) (a .metadata .now) (l .standing) (t .result) (l .buf) _ _ (t .ensures) (c .before .before .before .before .before .before .before .if1 .taken) (omega (arith, c .before .before .before .before .before .before .before .before .before .before .before .before .before .before .before .pre .1, l .inv .2)) (c .before .before .before .write-entry .ensures .1) (l .inv .3) in
     (t .ensures .ready, omega (arith, c .before .before .before .before .before .before .before .if1 .taken, t .ensures .place), w .0 ∙ l .inv .2, w .1)
 
--- src/entries.rt:199:1
 same-length : tie.Need-same-length Inv-loop μ-loop
 same-length c = c .before .before .loop .inv .2
 
--- src/entries.rt:199:1
 returns : tie.Need-returns Inv-loop μ-loop
 returns c =
     let a = c .before .before .before .before .before .before .before .before .args in

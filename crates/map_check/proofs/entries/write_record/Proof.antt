@@ -1,12 +1,15 @@
+-- `map_check::entries::write_record` meets its contract. Assumes nothing.
+use Prim.Native.Nat.{ℕ, _+_, _*_}
+use mathlib.Core.Path.{ap, _∙_}
 use native.Mathlib.Omega.{arith}
 use lib.ListN.{length}
 use Rattle.wire.proofs.Stores.{not-wrote}
 use Rattle.record.specs.Records.{recordBytes}
+use Rattle.record.proofs.Made.{made-length}
 use Rattle.map_check.specs.Columns.{declareAll}
 use Rattle.map_check.specs.Ranks.{place, noRanks}
 use Rattle.map_check.specs.Profile.{entriesFrom}
-use Rattle.map_check.proofs.Making.{map-entries-length, record-length, record-written}
-use Prim.Native.Nat.{_+_, _*_}
+use Rattle.map_check.proofs.Making.{map-entries-length, record-written}
 use borrow.Author.Needs.{needs}
 use Rattle.map_check.proofs.entries.write_record.Statement.{statement}
 use Rattle.map_check.proofs.entries.write_record.Tie as tie
@@ -16,43 +19,34 @@ use Rattle.map_check.proofs.entries.write_entries.Reads as write-entrie
 use Rattle.record.proofs.write_head.Reads as write-head-reads
 use Rattle.wire.proofs.refuse.Reads as refuse-reads
 
--- src/entries.rt:232:20
 mul-size : tie.Need-mul-size
 mul-size c = search needs
 
--- src/entries.rt:232:16
 add-size : tie.Need-add-size
 add-size c = search needs
 
--- src/entries.rt:234:33
 refuse-requires : tie.Need-refuse-requires
 refuse-requires c κs = search needs
 
--- src/entries.rt:234:9
 returns : tie.Need-returns
 returns c =
     let a = c .before .before .before .before .before .before .args in
     let es = entriesFrom (a .dialect) (a .event .now) (a .facts) (declareAll (a .types .now) (a .metadata .now)) (place 0) noRanks in
     let e = map-entries-length (a .dialect) (a .event .now) (a .facts) (a .types .now) (a .metadata .now) in
-    not-wrote (a .buf .now) (recordBytes es) 0 (6 + 6 * length (a .types .now)) _ (record-length es _ e) (omega (arith, c .before .if1 .taken)) (c .refuse .ensures)
+    not-wrote (a .buf .now) (recordBytes es) 0 (6 + 6 * length (a .types .now)) _ (made-length es ∙ ap (λ (n : ℕ). 6 + 6 * n) e) (omega (arith, c .before .if1 .taken)) (c .refuse .ensures)
 
--- src/entries.rt:236:29
 cast-write-head : tie.Need-cast-write-head
 cast-write-head c = search needs
 
--- src/entries.rt:236:5
 write-head-requires : tie.Need-write-head-requires
 write-head-requires c κs = search needs
 
--- src/entries.rt:237:5
 write-entries-requires : tie.Need-write-entries-requires
 write-entries-requires c κs = search needs
 
--- src/entries.rt:220:1
 same-length : tie.Need-same-length
 same-length c = search needs
 
--- src/entries.rt:220:1
 returns-2 : tie.Need-returns-2
 returns-2 c =
     let a = c .before .before .before .before .before .before .before .before .before .before .before .before .before .args in
