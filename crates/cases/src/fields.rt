@@ -21,7 +21,7 @@ use table_map::Part;
 use value::Dialect;
 
 // The dialect, and the place of the next word.
-enum DialectWord {
+pub(crate) enum DialectWord {
     Found(Dialect, usize),
     Bad,
 }
@@ -33,7 +33,7 @@ enum Walk {
     Over(usize),
 }
 
-fn read_dialect(line: &[u8], at: usize) -> DialectWord {
+pub(crate) fn read_dialect(line: &[u8], at: usize) -> DialectWord {
     let Word::Found(to, next) = find_word(line, at) else {
         return DialectWord::Bad;
     };

@@ -1,4 +1,5 @@
 // Reads cases from standard input, a line each, and prints an answer line for each.
+mod checks;
 mod fields;
 mod input;
 mod lists;

@@ -1,4 +1,8 @@
 // The cases of table maps: which there are, and `event`.
+use crate::checks::check_as_case;
+use crate::checks::check_case;
+use crate::checks::name_case;
+use crate::checks::record_case;
 use crate::fields::field_case;
 use crate::fields::fields_as_case;
 use crate::fields::fields_case;
@@ -26,7 +30,7 @@ use value::Dialect;
 
 // The post-header length that a case names. All but 6 read alike, and a case may name one that no
 // byte holds.
-fn post_header(n: u64) -> u8 {
+pub(crate) fn post_header(n: u64) -> u8 {
     if n == 6 {
         return 6;
     }
@@ -105,6 +109,31 @@ pub(crate) fn answer_map(
     }
     if same(word, b"item") {
         return item_case(line, next, arena, out, used);
+    }
+    answer_check(word, line, next, arena, room, out, used)
+}
+
+// The same for the check and what it writes.
+fn answer_check(
+    word: &[u8],
+    line: &[u8],
+    next: usize,
+    arena: &mut [u8],
+    room: &mut [u8],
+    out: &mut [u8],
+    used: usize,
+) -> usize {
+    if same(word, b"check") {
+        return check_case(Dialect::Document, line, next, arena, room, out, used);
+    }
+    if same(word, b"check-as") {
+        return check_as_case(line, next, arena, room, out, used);
+    }
+    if same(word, b"record") {
+        return record_case(line, next, arena, out, used);
+    }
+    if same(word, b"name") {
+        return name_case(line, next, arena, out, used);
     }
     put_bad(out, used)
 }

@@ -1,6 +1,7 @@
 -- The check of a map: "After event reading, in order: n at most 255; each column's type then metadata; no metadata left over; optional fields one by one,
 -- contents in full; a repeated key index; room." Assumes nothing.
-use Prim.Native.Nat.{ℕ}
+use Prim.Native.Nat.{ℕ, _≤_}
+use mathlib.Core.Path.{_≡_}
 use mathlib.Core.Bool.{cond}
 use mathlib.Core.List.{List}
 use lib.ListN.{length}
@@ -39,11 +40,25 @@ checkEvent d s e =
     after (keysHold s fs) (λ once.
     ok (entriesOf d s e cs fs)))))
 
+-- a map that passes, test by test, and its entries
+pub record Passes (d : Dialect) (s : List ℕ) (e : Event) (es : List Entry) : Type 0 where
+  pub few : length (lentPart s (e .types)) ≤ 255
+  pub columns : List Declared
+  pub taken : takeColumns (lentPart s (e .types)) (lentPart s (e .metadata)) 0 ≡ ok columns
+  pub fields : List (ℕ × Part)
+  pub kept : keepFields (sizesOf d columns) (fieldsAt d (lentPart s (e .types)) (e .optional .start)) s ≡ ok fields
+  pub once : keysHold s fields ≡ ok tt
+  pub said : es ≡ entriesOf d s e columns fields
+
 unfoldable pub checkMap : Dialect → List ℕ → ℕ → Outcome (List Entry)
 unfolding readEvent checkEvent
 checkMap d s postHeader = after (readEvent s postHeader) (λ e. checkEvent d s e)
 
--- the call: the record's length and the buffer with the record at its start, or 8 at 0 for room
+-- its record in a buffer: the record's length and the buffer with the record at its start, or 8 at 0 for room
+abbrev pub written : List ℕ → Outcome (List Entry) → Outcome (ℕ × List ℕ)
+written buf o = after o (λ es. store buf 0 (recordBytes es))
+
+-- the call
 unfoldable pub check : Dialect → List ℕ → ℕ → List ℕ → Outcome (ℕ × List ℕ)
 unfolding checkMap recordBytes store
-check d s postHeader buf = after (checkMap d s postHeader) (λ es. store buf 0 (recordBytes es))
+check d s postHeader buf = written buf (checkMap d s postHeader)

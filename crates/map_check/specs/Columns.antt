@@ -4,9 +4,15 @@ use mathlib.Core.Bool.{Bool, true, false, cond, _&&_, _||_}
 use mathlib.Core.List.{List, [], _∷_}
 use lib.ListN.{length, getD, drop}
 use lib.Dec.{leb, eqb}
-use Rattle.wire.specs.Outcome.{Outcome, ok, refuse, after}
+use Rattle.wire.specs.Outcome.{Outcome, ok, refused, refuse, after}
+use Rattle.value.specs.declared.column.Column.{Column}
 use Rattle.value.specs.Columns.{familyOf, isKnown, metadataBytes, realType, shapeOf, isTaken}
+use Rattle.map_check.specs.declared.rank.Ranks.{Ranks}
 use Rattle.map_check.specs.declared.column.Declared.{Declared}
+use Rattle.map_check.specs.declared.column.ColumnTaken.{ColumnTaken}
+use Rattle.map_check.specs.declared.column.ColumnTaken.the-variants.{Taken, Refused}
+use Rattle.map_check.specs.declared.column.Sizes.{Sizes}
+use Rattle.map_check.specs.declared.column.Sizes.the-variants.{Counted, Refused as NotCounted}
 
 -- how many bytes of metadata the type has
 abbrev pub metaBytes : ℕ → ℕ
@@ -23,12 +29,18 @@ unfolding metaByte realType
 declared kind meta =
     record { kind = kind; real = realType kind (metaByte 0 kind meta); m0 = metaByte 0 kind meta; m1 = metaByte 1 kind meta }
 
--- "254: m0 or-ed with 0x30 is the real type: 247, 248 as above, or 254"; and the one table accepts the metadata
+-- "254: m0 or-ed with 0x30 is the real type: 247, 248 as above, or 254"
+unfoldable pub isReal : ℕ → ℕ → Bool
+isReal kind real = cond (eqb kind 254) (eqb real 247 || (eqb real 248 || eqb real 254)) true
+
+-- the column as its values are stored, if it is flagged unsigned or not
+abbrev pub realColumn : Declared → Bool → Column
+realColumn c unsigned = record { kind = c .real; m0 = c .m0; m1 = c .m1; unsigned = unsigned }
+
+-- and the one table accepts the metadata
 unfoldable pub isAccepted : Declared → Bool
-unfolding shapeOf isTaken
-isAccepted c =
-    cond (eqb (c .kind) 254) (eqb (c .real) 247 || (eqb (c .real) 248 || eqb (c .real) 254)) true
-    && isTaken (shapeOf (record { kind = c .real; m0 = c .m0; m1 = c .m1; unsigned = false }))
+unfolding isReal shapeOf isTaken
+isAccepted c = isReal (c .kind) (c .real) && isTaken (shapeOf (realColumn c false))
 
 -- a column: 4 for its type, 5 for metadata that is short or not accepted
 unfoldable pub takeColumn : ℕ → List ℕ → ℕ → Outcome Declared
@@ -49,3 +61,18 @@ takeColumns (kind ∷ types) meta place =
     after (takeColumn kind meta place) (λ c.
     after (takeColumns types (drop (metaBytes kind) meta) (suc place)) (λ cs.
     ok (c ∷ cs)))
+
+-- the columns as the types say them, whether accepted or not
+unfoldable pub declareAll : List ℕ → List ℕ → List Declared
+unfolding declared
+declareAll [] meta = []
+declareAll (kind ∷ types) meta = declared kind meta ∷ declareAll types (drop (metaBytes kind) meta)
+
+-- ---- what the answers say
+abbrev pub takenOf : ColumnTaken → Outcome Declared
+takenOf (Taken c) = ok c
+takenOf (Refused r) = refused r
+
+abbrev pub sizesTold : Sizes → Outcome Ranks
+sizesTold (Counted k) = ok k
+sizesTold (NotCounted r) = refused r

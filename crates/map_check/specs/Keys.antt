@@ -1,9 +1,7 @@
 -- "The first key index that stands twice is a 7": placed at the first byte of the earliest item, of field 8 or 9, that repeats an earlier one. Assumes nothing.
-use Prim.Native.Nat.{ℕ, zero, suc, _+_, _-_}
-use mathlib.Core.Bool.{Bool, true, false, cond, _||_}
-use mathlib.Core.List.{List, [], _∷_}
-use lib.ListN.{length, getD, take}
-use lib.Dec.{eqb}
+use Prim.Native.Nat.{ℕ, _+_}
+use mathlib.Core.Bool.{Bool, true, false, cond}
+use mathlib.Core.List.{List, [], _∷_, _++_}
 use Rattle.wire.specs.Outcome.{Outcome, ok, refuse, after}
 use Rattle.table_map.specs.declared.event.Part.{Part}
 use Rattle.table_map.specs.Parts.{lentPart}
@@ -25,7 +23,7 @@ keysFrom paired value at = walk (placed (keyItem paired)) value at .items
 unfoldable pub keysOnce : ℕ → List ℕ → List (ℕ × ℕ) → Outcome (Unit {0})
 unfolding stood
 keysOnce start before [] = ok tt
-keysOnce start before (k ∷ ks) = cond (stood (k .1) before) (refuse 7 (start + k .0)) (keysOnce start (k .1 ∷ before) ks)
+keysOnce start before (k ∷ ks) = cond (stood (k .1) before) (refuse 7 (start + k .0)) (keysOnce start (before ++ (k .1 ∷ [])) ks)
 
 -- in the value of a field, if it stands
 abbrev pub onceIn : Bool → List ℕ → Found → Outcome (Unit {0})

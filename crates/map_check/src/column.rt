@@ -1,4 +1,19 @@
 // The columns of a map, each with its type and its metadata (table_map_event.rs: get_column_metadata, get_real_type).
+use crate::rank::Place;
+use crate::rank::Ranks;
+use crate::rank::no_ranks;
+use crate::rank::ranks_after;
+use value::Column;
+use value::Dialect;
+use wire::Refusal;
+use wire::refusal::BAD_METADATA;
+use wire::refusal::TYPE_NOT_TAKEN;
+ghost use mathlib.Core.Path.{_≡_};
+ghost use Prim.Native.Nat.{_≤_};
+ghost use lib.ListN.{length, drop};
+ghost use Rattle.wire.specs.Outcome.{ok, after};
+ghost use Rattle.map_check.specs.Columns.{metaByte, declared, isReal, isAccepted, takeColumn, takeColumns, takenOf, sizesTold};
+ghost use Rattle.map_check.specs.Ranks.{sizesOf};
 
 // What a map says of a column before its optional fields.
 pub struct Declared {
@@ -7,4 +22,114 @@ pub struct Declared {
     pub real: u8,
     pub m0: u8,
     pub m1: u8,
+}
+
+// A column that is accepted.
+pub(crate) enum ColumnTaken {
+    Taken(Declared),
+    Refused(Refusal),
+}
+
+// How many columns each class has, if all columns are accepted.
+pub(crate) enum Sizes {
+    Counted(Ranks),
+    Refused(Refusal),
+}
+
+// Byte i of the metadata of a type, which stand from `at` on; 0 if it has none or they end first.
+fn meta_byte(i: usize, kind: u8, metadata: &[u8], at: usize) -> u8
+    ensures { λ r. ⌜ r ≡ metaByte i kind (drop at (now (metadata .entry))) ⌝ }
+{
+    if value::metadata_bytes(kind) <= i {
+        return 0;
+    }
+    if metadata.len() <= at {
+        return 0;
+    }
+    if metadata.len() - at <= i {
+        return 0;
+    }
+    metadata[at + i]
+}
+
+// What a type says of its column together with its metadata, which stand from `at` on.
+pub(crate) fn declare(kind: u8, metadata: &[u8], at: usize) -> Declared
+    ensures { λ r. ⌜ r ≡ declared kind (drop at (now (metadata .entry))) ⌝ }
+{
+    let m0 = meta_byte(0, kind, metadata, at);
+    let m1 = meta_byte(1, kind, metadata, at);
+    let real = value::real_type(kind, m0);
+    Declared { kind, real, m0, m1 }
+}
+
+// Whether 254 is told to be one of the types that it may be.
+fn is_real(kind: u8, real: u8) -> bool
+    ensures { λ r. ⌜ r ≡ isReal kind real ⌝ }
+{
+    if kind != 254 {
+        return true;
+    }
+    match real {
+        247 => true,
+        248 => true,
+        254 => true,
+        _ => false,
+    }
+}
+
+pub(crate) fn is_accepted(column: Declared) -> bool
+    ensures { λ r. ⌜ r ≡ isAccepted column ⌝ }
+{
+    if !is_real(column.kind, column.real) {
+        return false;
+    }
+    value::is_accepted(Column {
+        kind: column.real,
+        m0: column.m0,
+        m1: column.m1,
+        unsigned: false,
+    })
+}
+
+// The column of a type at a place, its metadata standing from `at` on.
+pub(crate) fn take_column(kind: u8, metadata: &[u8], at: usize, column: Place) -> ColumnTaken
+    requires { ⌜ at ≤ length (now metadata) ⌝ }
+    ensures { λ r. ⌜ takenOf r ≡ takeColumn kind (drop at (now (metadata .entry))) (column .0) ⌝ }
+{
+    if !value::is_known(kind) {
+        return ColumnTaken::Refused(wire::refuse(TYPE_NOT_TAKEN, column.0));
+    }
+    if metadata.len() - at < value::metadata_bytes(kind) {
+        return ColumnTaken::Refused(wire::refuse(BAD_METADATA, column.0));
+    }
+    let said = declare(kind, metadata, at);
+    if is_accepted(said) {
+        return ColumnTaken::Taken(said);
+    }
+    ColumnTaken::Refused(wire::refuse(BAD_METADATA, column.0))
+}
+
+// All columns in turn, until one is refused; then there may be no metadata left.
+pub(crate) fn take_columns(dialect: Dialect, types: &[u8], metadata: &[u8]) -> Sizes
+    requires { ⌜ length (now types) ≤ 255 ⌝ }
+    ensures { λ r. ⌜ sizesTold r ≡ after (takeColumns (now (types .entry)) (now (metadata .entry)) 0) (λ cs. ok (sizesOf dialect cs)) ⌝ }
+{
+    let mut ranks = no_ranks();
+    let mut at: usize = 0;
+    let mut j: usize = 0;
+    while j < types.len() {
+        let kind = types[j];
+        match take_column(kind, metadata, at, Place(j)) {
+            ColumnTaken::Taken(column) => {
+                ranks = ranks_after(dialect, ranks, column);
+            }
+            ColumnTaken::Refused(r) => return Sizes::Refused(r),
+        }
+        at += value::metadata_bytes(kind);
+        j += 1;
+    }
+    if at < metadata.len() {
+        return Sizes::Refused(wire::refuse(BAD_METADATA, j));
+    }
+    Sizes::Counted(ranks)
 }

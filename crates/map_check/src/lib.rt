@@ -1,10 +1,19 @@
 // The check of a map, which writes the profile record, and the names of columns. Added by document 01; the Rust has no such thing.
+mod charset;
 mod column;
 mod contents;
+mod entries;
 mod facts;
 mod field;
+mod keys;
+mod map;
 mod names;
 mod rank;
 
+pub use map::check;
+pub use names::NameRead;
+pub use names::column_name;
+pub use names::name_part;
+pub use names::names_field;
 pub use rank::Place;
 pub use rank::Rank;

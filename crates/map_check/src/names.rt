@@ -1,9 +1,86 @@
 // The names of columns (table_map_event.rs: ColumnName).
+use crate::field::find_field;
+use crate::field::value_in;
+use crate::rank::Place;
+use table_map::EventRead;
+use table_map::Fields;
 use table_map::Part;
+use table_map::StringStep;
+use table_map::Strings;
+use value::Dialect;
 use wire::Refusal;
+use wire::refusal::NO_COLUMN;
+ghost use mathlib.Core.Path.{_≡_};
+ghost use Rattle.table_map.specs.Events.{readEvent};
+ghost use Rattle.map_check.specs.Names.{listOf, stringAt, columnName, nameIn, namesOf, nameOf};
+
+// The type of the field that holds the names.
+const NAMES: u8 = 4;
 
 // Where a column's name stands in the list that was looked at.
 pub enum NameRead {
     Name(Part),
     Refused(Refusal),
+}
+
+// The name of a column, in the map's names if there are any, else in the operator's list.
+pub fn column_name<'a>(names: &'a [u8], operator: &'a [u8], column: Place) -> NameRead
+    ensures { λ r. ⌜ nameOf r ≡ columnName (now (names .entry)) (now (operator .entry)) column ⌝ }
+{
+    string_at(list_of(names, operator), column.0)
+}
+
+// Its bytes, none where it is refused.
+pub fn name_part<'a>(names: &'a [u8], operator: &'a [u8], column: Place) -> &'a [u8]
+    ensures { λ r. ⌜ now r ≡ nameIn (listOf (now (names .entry)) (now (operator .entry))) (columnName (now (names .entry)) (now (operator .entry)) column) ⌝ }
+{
+    match column_name(names, operator, column) {
+        NameRead::Name(part) => table_map::part_of(list_of(names, operator), part),
+        NameRead::Refused(_) => &names[0..0],
+    }
+}
+
+// The names that a map has, empty where it has none or is refused before them.
+pub fn names_field(event: &[u8], post_header: u8, dialect: Dialect) -> &[u8]
+    ensures { λ r. ⌜ now r ≡ namesOf dialect (now (event .entry)) (readEvent (now (event .entry)) «post_header») ⌝ }
+{
+    let e = match table_map::read_event(event, post_header) {
+        EventRead::Read(e) => e,
+        EventRead::Refused(_) => return &event[0..0],
+    };
+    let types = e.types;
+    let optional = e.optional;
+    let fields = Fields::new(dialect, table_map::part_of(event, types), optional.start);
+    value_in(event, find_field(event, fields, NAMES))
+}
+
+// The list that is looked at.
+fn list_of<'a>(names: &'a [u8], operator: &'a [u8]) -> &'a [u8]
+    ensures { λ r. ⌜ now r ≡ listOf (now (names .entry)) (now (operator .entry)) ⌝ }
+{
+    if names.len() == 0 {
+        return operator;
+    }
+    names
+}
+
+// A string of a list, read up to it and no further: the number asked is believed only as far as the list goes.
+fn string_at(list: &[u8], asked: usize) -> NameRead
+    ensures { λ r. ⌜ nameOf r ≡ stringAt asked asked (now (list .entry)) 0 ⌝ }
+{
+    let mut strings = Strings { at: 0 };
+    let mut left = asked;
+    loop {
+        match strings.next(list) {
+            StringStep::Item { value, next } => {
+                if left == 0 {
+                    return NameRead::Name(value);
+                }
+                left -= 1;
+                strings = next;
+            }
+            StringStep::End => return NameRead::Refused(wire::refuse(NO_COLUMN, asked)),
+            StringStep::Refused(r) => return NameRead::Refused(r),
+        }
+    }
 }

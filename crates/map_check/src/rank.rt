@@ -1,4 +1,9 @@
 // Two ways of numbering columns: by their place in the table, and by their rank among the columns of a class.
+use crate::column::Declared;
+use value::Dialect;
+ghost use mathlib.Core.Path.{_≡_};
+ghost use Prim.Native.Nat.{_≤_};
+ghost use Rattle.map_check.specs.Ranks.{passed, noRanks, ranksAfter, Below};
 
 // A column's place in the table, from 0 on.
 pub struct Place(pub usize);
@@ -18,4 +23,46 @@ pub struct Ranks {
     pub enumeration: Rank,
     pub geometry: Rank,
     pub vector: Rank,
+}
+
+pub(crate) fn no_ranks() -> Ranks
+    ensures { λ r. ⌜ r ≡ noRanks ⌝ }
+{
+    Ranks {
+        sign: Rank(0),
+        character: Rank(0),
+        choice: Rank(0),
+        set: Rank(0),
+        enumeration: Rank(0),
+        geometry: Rank(0),
+        vector: Rank(0),
+    }
+}
+
+// The next rank of a class after a column, which may be of the class.
+fn passed(before: Rank, member: bool) -> Rank
+    requires { ⌜ before .0 ≤ 65535 ⌝ }
+    ensures { λ r. ⌜ r ≡ passed before member ⌝ }
+{
+    if member {
+        return Rank(before.0 + 1);
+    }
+    before
+}
+
+// The next rank of every class, after a column.
+pub(crate) fn ranks_after(dialect: Dialect, ranks: Ranks, column: Declared) -> Ranks
+    requires { ⌜ Below 65535 ranks ⌝ }
+    ensures { λ r. ⌜ r ≡ ranksAfter dialect ranks column ⌝ }
+{
+    let real = column.real;
+    Ranks {
+        sign: passed(ranks.sign, value::has_sign_bit(dialect, column.kind)),
+        character: passed(ranks.character, value::has_charset(dialect, real)),
+        choice: passed(ranks.choice, value::is_enum_or_set(real)),
+        set: passed(ranks.set, real == 248),
+        enumeration: passed(ranks.enumeration, real == 247),
+        geometry: passed(ranks.geometry, real == 255),
+        vector: passed(ranks.vector, real == 242),
+    }
 }

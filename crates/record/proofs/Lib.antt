@@ -1,4 +1,6 @@
--- The laws of the crate. `Looks`: the entry of a column, by the bytes where it stands. `Turns`: entries one by one. `Valid`: what a valid record says.
+-- The laws of the crate. `Looks`: the entry of a column, by the bytes where it stands. `Turns`: entries one by one. `Valid`: what a valid record says. `Made`: the
+-- record of columns is valid, and says them.
 pub mod Looks
 pub mod Turns
 pub mod Valid
+pub mod Made

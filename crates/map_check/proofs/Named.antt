@@ -1,0 +1,95 @@
+-- Names and fields, computed on the definitions. Assumes nothing.
+use Prim.Native.Nat.{ℕ}
+use mathlib.Core.Path.{_≡_, refl}
+use mathlib.Core.List.{List, [], _∷_}
+use Rattle.wire.specs.Outcome.{ok, refuse}
+use Rattle.wire.specs.Packed.{readPacked, formOf}
+use Rattle.wire.specs.Number.{leValue}
+use Rattle.value.specs.Columns.{familyOf, isNumeric, hasSignBit}
+use Rattle.value.specs.declared.column.Dialect.the-variants.{Document}
+use Rattle.table_map.specs.declared.field.Fields.{Fields as FieldCursor}
+use Rattle.table_map.specs.Parts.{part, within, shortPart, longPart}
+use Rattle.table_map.specs.Events.{readNames, readColumns, readEvent}
+use Rattle.table_map.specs.Lists.{step, walkSteps}
+use Rattle.table_map.specs.Fields.{signBits, countSigned, contentsHold, fieldItem}
+use Rattle.map_check.specs.Ranks.{place, noRanks}
+use Rattle.map_check.specs.Contents.{all, listHolds, exactly, keyItem, contentsFull}
+use Rattle.map_check.specs.Fields.{stood, rivalOf, isKept, keepSteps, keepFields, firstOf}
+use Rattle.map_check.specs.Names.{listOf, stringAt, columnName, nameIn, namesOf}
+
+-- ---- names: "a" and "bc" in the map, "x" and "y" in the operator's list
+abbrev names : List ℕ
+names = 1 ∷ 97 ∷ 2 ∷ 98 ∷ 99 ∷ []
+
+abbrev operator : List ℕ
+operator = 1 ∷ 120 ∷ 1 ∷ 121 ∷ []
+
+-- the map's names go first
+in-names : columnName names operator (place 1) ≡ ok (part 3 2)
+unfolding columnName listOf stringAt step longPart within readPacked formOf
+in-names = refl
+
+in-names-bytes : nameIn (listOf names operator) (columnName names operator (place 1)) ≡ 98 ∷ 99 ∷ []
+unfolding columnName listOf stringAt step longPart within readPacked formOf
+in-names-bytes = refl
+
+-- where there are none, the operator's list
+in-operator : columnName [] operator (place 1) ≡ ok (part 3 1)
+unfolding columnName listOf stringAt step longPart within readPacked formOf
+in-operator = refl
+
+in-operator-bytes : nameIn (listOf [] operator) (columnName [] operator (place 1)) ≡ 121 ∷ []
+unfolding columnName listOf stringAt step longPart within readPacked formOf
+in-operator-bytes = refl
+
+-- a list that ends first is 14 at the column asked, be it ever so large, and names that are too few are not made up for by the operator's list
+ends-first : columnName (1 ∷ 97 ∷ []) operator (place 1) ≡ refuse 14 1
+unfolding columnName listOf stringAt step longPart within readPacked formOf
+ends-first = refl
+
+far-off : columnName names operator (place 18446744073709551615) ≡ refuse 14 18446744073709551615
+unfolding columnName listOf stringAt step longPart within readPacked formOf
+far-off = refl
+
+-- a string cut short is 1 at its length, a length that is none 2, at their places in the list
+cut : columnName (1 ∷ 97 ∷ 5 ∷ 98 ∷ []) operator (place 1) ≡ refuse 1 2
+unfolding columnName listOf stringAt step longPart within readPacked formOf
+cut = refl
+
+no-length : columnName [] (1 ∷ 97 ∷ 255 ∷ []) (place 2) ≡ refuse 2 2
+unfolding columnName listOf stringAt step longPart within readPacked formOf
+no-length = refl
+
+-- but what stands behind the name is not read
+no-further : columnName (1 ∷ 97 ∷ 255 ∷ []) operator (place 0) ≡ ok (part 1 1)
+unfolding columnName listOf stringAt step longPart within readPacked formOf
+no-further = refl
+
+-- ---- the names of a map with one TINYINT column, behind other optional fields
+abbrev event : List ℕ → List ℕ
+event optional = 1 ∷ 0 ∷ 0 ∷ 0 ∷ 0 ∷ 0 ∷ 1 ∷ 0 ∷ 1 ∷ 0x74 ∷ 0 ∷ 1 ∷ 0x72 ∷ 0 ∷ 1 ∷ 1 ∷ 0 ∷ 0 ∷ optional
+
+of-map : namesOf Document (event (1 ∷ 1 ∷ 128 ∷ 4 ∷ 2 ∷ 1 ∷ 97 ∷ [])) (readEvent (event (1 ∷ 1 ∷ 128 ∷ 4 ∷ 2 ∷ 1 ∷ 97 ∷ [])) 8) ≡ 1 ∷ 97 ∷ []
+unfolding readEvent readNames readColumns leValue readPacked formOf within shortPart longPart step walkSteps signBits countSigned hasSignBit isNumeric familyOf contentsHold fieldItem firstOf
+of-map = refl
+
+-- none behind a field that is refused
+behind-a-refusal : namesOf Document (event (14 ∷ 0 ∷ 4 ∷ 2 ∷ 1 ∷ 97 ∷ [])) (readEvent (event (14 ∷ 0 ∷ 4 ∷ 2 ∷ 1 ∷ 97 ∷ [])) 8) ≡ []
+unfolding readEvent readNames readColumns leValue readPacked formOf within shortPart longPart step walkSteps signBits countSigned hasSignBit isNumeric familyOf contentsHold fieldItem firstOf
+behind-a-refusal = refl
+
+-- ---- fields of a map with no columns: two that may stand side by side, one that stands twice, and one beside its rival
+abbrev first : FieldCursor
+first = record { at = 0; numeric = 0; columns = 0 }
+
+side-by-side : keepFields noRanks first (8 ∷ 0 ∷ 12 ∷ 0 ∷ []) ≡ ok ((8, part 2 0) ∷ (12, part 4 0) ∷ [])
+unfolding keepSteps step fieldItem contentsHold longPart within readPacked formOf isKept stood rivalOf contentsFull exactly listHolds all walkSteps keyItem
+side-by-side = refl
+
+twice : keepFields noRanks first (12 ∷ 0 ∷ 8 ∷ 0 ∷ 12 ∷ 0 ∷ []) ≡ refuse 7 4
+unfolding keepSteps step fieldItem contentsHold longPart within readPacked formOf isKept stood rivalOf contentsFull exactly listHolds all walkSteps keyItem
+twice = refl
+
+rival : keepFields noRanks first (9 ∷ 0 ∷ 8 ∷ 0 ∷ []) ≡ refuse 7 2
+unfolding keepSteps step fieldItem contentsHold longPart within readPacked formOf isKept stood rivalOf contentsFull exactly listHolds all walkSteps keyItem
+rival = refl

@@ -1,0 +1,140 @@
+-- Lists judged item by item: at a place, what the step there says decides, and the rest of the list. Assumes nothing.
+use Prim.Native.Nat.{ℕ, suc, _+_, _≤_, _<_}
+use mathlib.Core.Path.{_≡_, refl, sym, ap, _∙_}
+use mathlib.Core.Bool.{Bool, true, false, _&&_}
+use mathlib.Core.List.{List}
+use native.Mathlib.Omega.{arith}
+use borrow.Author.Tests.{eqb-true}
+use lib.ListN.{length}
+use lib.Dec.{leb, ltb, eqb}
+use Rattle.wire.specs.declared.refusal.Refusal.{Refusal}
+use Rattle.wire.specs.Outcome.{ok, refused}
+use Rattle.temporal.proofs.Ranges.{and-true}
+use Rattle.table_map.specs.Lists.{Rule, end, item, step, walk, pairItem}
+use Rattle.table_map.proofs.Steps.{step-before}
+use Rattle.table_map.proofs.Items.{Moves, pair-moves}
+use Rattle.table_map.proofs.Walks.{item-moves, walk-steps}
+use Rattle.map_check.specs.Contents.{isWhole, all, listHolds, exactly, isCharset, pairsHold, pairsWhole}
+
+-- ---- tests may change places
+and-swap : (a b c : Bool) → (a && (b && c)) ≡ (b && (a && c))
+and-swap true b c = refl
+and-swap false true c = refl
+and-swap false false c = refl
+
+and-assoc : (a b c : Bool) → ((a && b) && c) ≡ (a && (b && c))
+and-assoc true b c = refl
+and-assoc false b c = refl
+
+-- ---- before the end, a step answers what the rule answers
+pub item-stepped : {A : Type 0} (rule : Rule A) (s : List ℕ) (at : ℕ) (a : A) (next : ℕ) → at < length s → rule s at ≡ ok (a, next)
+    → step rule s at ≡ ok (item a next)
+item-stepped rule s at a next h e = rw (step-before rule s at h, e)
+
+pub refusal-stepped : {A : Type 0} (rule : Rule A) (s : List ℕ) (at : ℕ) (w : Refusal) → at < length s → rule s at ≡ refused w → step rule s at ≡ refused w
+refusal-stepped rule s at w h e = rw (step-before rule s at h, e)
+
+-- ---- a list
+pub list-end : {A : Type 0} (rule : Rule A) (p : A → Bool) → Moves rule → (value : List ℕ) (at : ℕ) → step rule value at ≡ ok end
+    → listHolds rule p value at ≡ true
+unfolding listHolds all
+list-end rule p m value at e = rw (walk-steps rule m value at, e)
+
+pub list-item : {A : Type 0} (rule : Rule A) (p : A → Bool) → Moves rule → (value : List ℕ) (at : ℕ) (a : A) (next : ℕ) → step rule value at ≡ ok (item a next)
+    → listHolds rule p value at ≡ (p a && listHolds rule p value next)
+unfolding listHolds all
+list-item rule p m value at a next e = rw (walk-steps rule m value at, e) (and-swap (isWhole (walk rule value next .how)) (p a) (all p (walk rule value next .items)))
+
+pub list-broken : {A : Type 0} (rule : Rule A) (p : A → Bool) → Moves rule → (value : List ℕ) (at : ℕ) (w : Refusal) → step rule value at ≡ refused w
+    → listHolds rule p value at ≡ false
+unfolding listHolds
+list-broken rule p m value at w e = rw (walk-steps rule m value at, e)
+
+-- a list that holds: it is whole, and so does each item
+pub list-true : {A : Type 0} (rule : Rule A) (p : A → Bool) (value : List ℕ) (at : ℕ) → listHolds rule p value at ≡ true
+    → (isWhole (walk rule value at .how) ≡ true) × (all p (walk rule value at .items) ≡ true)
+unfolding listHolds
+list-true rule p value at e = and-true (isWhole (walk rule value at .how)) (all p (walk rule value at .items)) e
+
+-- ---- a list of n items, `before` of which were met
+pub tally-end : {A : Type 0} (rule : Rule A) (p : A → Bool) → Moves rule → (n before : ℕ) (value : List ℕ) (at : ℕ) → step rule value at ≡ ok end
+    → exactly rule p n before value at ≡ eqb before n
+unfolding exactly
+tally-end rule p m n before value at e =
+    let z : before + 0 ≡ before = omega arith in
+    rw (list-end rule p m value at e, walk-steps rule m value at, e, z)
+
+pub tally-item : {A : Type 0} (rule : Rule A) (p : A → Bool) → Moves rule → (n before : ℕ) (value : List ℕ) (at : ℕ) (a : A) (next : ℕ)
+    → step rule value at ≡ ok (item a next) → exactly rule p n before value at ≡ (p a && exactly rule p n (before + 1) value next)
+unfolding exactly
+tally-item rule p m n before value at a next e =
+    let k : before + suc (length (walk rule value next .items)) ≡ before + 1 + length (walk rule value next .items) = omega arith in
+    rw (list-item rule p m value at a next e, walk-steps rule m value at, e, k) (and-assoc (p a) (listHolds rule p value next) _)
+
+pub tally-broken : {A : Type 0} (rule : Rule A) (p : A → Bool) → Moves rule → (n before : ℕ) (value : List ℕ) (at : ℕ) (w : Refusal)
+    → step rule value at ≡ refused w → exactly rule p n before value at ≡ false
+unfolding exactly
+tally-broken rule p m n before value at w e = rw (list-broken rule p m value at w e)
+
+-- one that holds: it has n items in all
+pub tally-true : {A : Type 0} (rule : Rule A) (p : A → Bool) (n before : ℕ) (value : List ℕ) (at : ℕ) → exactly rule p n before value at ≡ true
+    → (listHolds rule p value at ≡ true) × (before + length (walk rule value at .items) ≡ n)
+unfolding exactly
+tally-true rule p n before value at e =
+    let x = and-true (listHolds rule p value at) (eqb (before + length (walk rule value at .items)) n) e in
+    (x .0, eqb-true _ _ (x .1))
+
+-- ---- a loop over such a list, which met `count` items: what is to come from here is what was to come from the start
+pub record Met {A : Type 0} (rule : Rule A) (p : A → Bool) (n : ℕ) (value : List ℕ) (at count : ℕ) : Type 0 where
+  pub few : count ≤ at
+  pub to-come : exactly rule p n count value at ≡ exactly rule p n 0 value 0
+
+pub none-met : {A : Type 0} {rule : Rule A} {p : A → Bool} {n : ℕ} {value : List ℕ} → Met rule p n value 0 0
+none-met = record { few = omega arith; to-come = refl }
+
+pub one-more : {A : Type 0} {rule : Rule A} {p : A → Bool} {n : ℕ} {value : List ℕ} {at count : ℕ} {a : A} {next : ℕ}
+    → Moves rule → Met rule p n value at count → step rule value at ≡ ok (item a next) → p a ≡ true → Met rule p n value next (count + 1)
+one-more {A} {rule} {p} {n} {value} {at} {count} {a} {next} m x e h =
+    let w = item-moves rule m value at a next e in
+    record {
+      few = omega (arith, x .few, w .0);
+      to-come = rw (← (x .to-come), tally-item rule p m n count value at a next e, h);
+    }
+
+pub no-more : {A : Type 0} {rule : Rule A} {p : A → Bool} {n : ℕ} {value : List ℕ} {at count : ℕ}
+    → Moves rule → Met rule p n value at count → step rule value at ≡ ok end → eqb count n ≡ exactly rule p n 0 value 0
+no-more {A} {rule} {p} {n} {value} {at} {count} m x e = sym (tally-end rule p m n count value at e) ∙ x .to-come
+
+pub one-fails : {A : Type 0} {rule : Rule A} {p : A → Bool} {n : ℕ} {value : List ℕ} {at count : ℕ} {a : A} {next : ℕ}
+    → Moves rule → Met rule p n value at count → step rule value at ≡ ok (item a next) → p a ≡ false → false ≡ exactly rule p n 0 value 0
+one-fails {A} {rule} {p} {n} {value} {at} {count} {a} {next} m x e h = rw (← (x .to-come), tally-item rule p m n count value at a next e, h)
+
+pub none-read : {A : Type 0} {rule : Rule A} {p : A → Bool} {n : ℕ} {value : List ℕ} {at count : ℕ} {w : Refusal}
+    → Moves rule → Met rule p n value at count → step rule value at ≡ refused w → false ≡ exactly rule p n 0 value 0
+none-read {A} {rule} {p} {n} {value} {at} {count} {w} m x e = sym (tally-broken rule p m n count value at w e) ∙ x .to-come
+
+-- ---- pairs (rank, charset)
+pub pairs-end : (size low : ℕ) (value : List ℕ) (at : ℕ) → step pairItem value at ≡ ok end → pairsWhole size low value at ≡ true
+unfolding pairsWhole pairsHold
+pairs-end size low value at e = rw (walk-steps pairItem pair-moves value at, e)
+
+pub pairs-item : (size low : ℕ) (value : List ℕ) (at r c next : ℕ) → step pairItem value at ≡ ok (item (r, c) next)
+    → pairsWhole size low value at ≡ (leb low r && (ltb r size && (isCharset c && pairsWhole size (r + 1) value next)))
+unfolding pairsWhole pairsHold
+pairs-item size low value at r c next e =
+    let k : r + 1 ≡ suc r = omega arith in
+    let w = isWhole (walk pairItem value next .how) in
+    let h = pairsHold size (suc r) (walk pairItem value next .items) in
+    rw (walk-steps pairItem pair-moves value at, e, k)
+    (and-swap w (leb low r) (ltb r size && (isCharset c && h))
+    ∙ ap (λ (x : Bool). leb low r && x) (and-swap w (ltb r size) (isCharset c && h) ∙ ap (λ (x : Bool). ltb r size && x) (and-swap w (isCharset c) h)))
+
+pub pairs-broken : (size low : ℕ) (value : List ℕ) (at : ℕ) (w : Refusal) → step pairItem value at ≡ refused w → pairsWhole size low value at ≡ false
+unfolding pairsWhole
+pairs-broken size low value at w e = rw (walk-steps pairItem pair-moves value at, e)
+
+-- and pairs that hold
+pub pairs-true : (size low : ℕ) (value : List ℕ) (at : ℕ) → pairsWhole size low value at ≡ true
+    → (isWhole (walk pairItem value at .how) ≡ true) × (pairsHold size low (walk pairItem value at .items) ≡ true)
+unfolding pairsWhole
+pairs-true size low value at e = and-true (isWhole (walk pairItem value at .how)) (pairsHold size low (walk pairItem value at .items)) e

@@ -1,0 +1,27 @@
+-- `map_check::entries::first_standing` meets its contract. Assumes nothing.
+use mathlib.Core.Path.{refl}
+use native.Mathlib.Omega.{arith}
+use Rattle.map_check.proofs.Counts.{below-none}
+use borrow.Author.Needs.{needs}
+use Rattle.map_check.proofs.entries.first_standing.Statement.{statement}
+use Rattle.map_check.proofs.entries.first_standing.Tie as tie
+use Rattle.map_check.proofs.entries.first_standing.Reads as reads
+use Rattle.map_check.proofs.entries.first_standing.Lts as lts
+use Rattle.map_check.proofs.charset.first_charset.Reads as first-charset-reads
+use Rattle.map_check.proofs.rank.no_ranks.Reads as no-ranks-reads
+
+no-ranks-requires : tie.Need-no-ranks-requires
+no-ranks-requires c κs = search needs
+
+first-charset-requires : tie.Need-first-charset-requires
+first-charset-requires c κs = search needs
+
+first-charset-requires-2 : tie.Need-first-charset-requires-2
+first-charset-requires-2 c κs = search needs
+
+returns : tie.Need-returns
+returns c = rw (c .before .before .no-ranks .ensures) (record { place = refl; metadata = refl; ranks = refl; ready = record { ranks = below-none; metadata = omega arith; characters = c .before .first-charset .ensures; choices = c .first-charset2 .ensures } })
+
+pub first-standing-spec : {M : Type 1} → statement M
+first-standing-spec =
+    tie.close (tie.spec no-ranks-requires first-charset-requires first-charset-requires-2 returns)

@@ -1,0 +1,245 @@
+// What the record says of each column, and the whole record, written in one pass over the columns.
+use crate::charset::CharsetCursor;
+use crate::charset::charset_if;
+use crate::charset::first_charset;
+use crate::column::Declared;
+use crate::column::declare;
+use crate::facts::Facts;
+use crate::field::Found;
+use crate::field::value_in;
+use crate::rank::Place;
+use crate::rank::Rank;
+use crate::rank::Ranks;
+use crate::rank::no_ranks;
+use crate::rank::ranks_after;
+use record::Entry;
+use value::Dialect;
+use wire::Written;
+use wire::refusal::NO_ROOM;
+ghost use mathlib.Core.Path.{_≡_};
+ghost use mathlib.Core.Bool.{cond};
+ghost use Prim.Native.Nat.{_+_, _*_, _≤_, _<_};
+ghost use lib.ListN.{length};
+ghost use Rattle.wire.specs.Bits.{bitLsb0};
+ghost use Rattle.wire.specs.Stored.{store, stored, answerOf, leftOf, writtenOf};
+ghost use Rattle.value.specs.Columns.{isCharacter};
+ghost use Rattle.table_map.specs.Parts.{lentPart};
+ghost use Rattle.record.specs.Records.{entriesBytes, recordBytes};
+ghost use Rattle.map_check.specs.Columns.{declareAll};
+ghost use Rattle.map_check.specs.Ranks.{place, noRanks};
+ghost use Rattle.map_check.specs.Profile.{stands, one, isSignKnown, isUnsigned, isVisible, flagsOf, entriesFrom};
+ghost use Rattle.map_check.specs.Standing.{ClassHolds, Takes, entryWith, Ready, Starts, Came};
+
+// Where the making of a record stands between two columns.
+pub(crate) struct Standing {
+    // of the next column
+    pub place: Place,
+    // where its metadata starts
+    pub metadata: usize,
+    pub ranks: Ranks,
+    pub characters: CharsetCursor,
+    pub choices: CharsetCursor,
+}
+
+// A column's entry, and where the making stands behind it.
+pub(crate) struct EntryTurn {
+    pub entry: Entry,
+    pub next: Standing,
+}
+
+fn stands(found: Found) -> bool
+    ensures { λ r. ⌜ r ≡ stands found ⌝ }
+{
+    match found {
+        Found::Value(_) => true,
+        Found::Nothing => false,
+    }
+}
+
+fn is_sign_known(facts: Facts, column: Declared) -> bool
+    ensures { λ r. ⌜ r ≡ isSignKnown facts column ⌝ }
+{
+    if !value::is_numeric(column.kind) {
+        return false;
+    }
+    let signs = facts.signs;
+    stands(signs)
+}
+
+// Signedness bits go by the rank among the columns that have one.
+fn is_unsigned(event: &[u8], facts: Facts, column: Declared, rank: Rank) -> bool
+    ensures { λ r. ⌜ r ≡ isUnsigned (now (event .entry)) facts column rank ⌝ }
+{
+    if !is_sign_known(facts, column) {
+        return false;
+    }
+    let signs = facts.signs;
+    table_map::flag(value_in(event, signs), rank.0)
+}
+
+// Nullable and visibility bits go by the place.
+fn is_nullable(event: &[u8], facts: Facts, column: Place) -> bool
+    ensures { λ r. ⌜ r ≡ bitLsb0 (lentPart (now (event .entry)) (facts .bits)) (column .0) ⌝ }
+{
+    wire::bit_lsb0(table_map::part_of(event, facts.bits), column.0)
+}
+
+fn is_visible(event: &[u8], facts: Facts, column: Place) -> bool
+    ensures { λ r. ⌜ r ≡ isVisible (now (event .entry)) facts column ⌝ }
+{
+    let visibility = facts.visibility;
+    if !stands(visibility) {
+        return true;
+    }
+    table_map::flag(value_in(event, visibility), column.0)
+}
+
+fn one(t: bool) -> u8
+    ensures { λ r. ⌜ (r ≡ one t) × (r ≤ 1) ⌝ }
+{
+    if t {
+        return 1;
+    }
+    0
+}
+
+fn flags_of(event: &[u8], facts: Facts, column: Declared, place: Place, ranks: Ranks) -> u8
+    ensures { λ r. ⌜ r ≡ flagsOf (now (event .entry)) facts column place ranks ⌝ }
+{
+    let rank = ranks.sign;
+    let unsigned = one(is_unsigned(event, facts, column, rank));
+    let nullable = one(is_nullable(event, facts, place));
+    let known = one(is_sign_known(facts, column));
+    let visible = one(is_visible(event, facts, place));
+    unsigned + 2 * nullable + 4 * known + 8 * visible
+}
+
+// The entry of a column, given its charset.
+fn entry_for(
+    event: &[u8],
+    facts: Facts,
+    column: Declared,
+    place: Place,
+    ranks: Ranks,
+    charset: u16,
+) -> Entry
+    ensures { λ r. ⌜ r ≡ entryWith (now (event .entry)) facts column place ranks charset ⌝ }
+{
+    Entry {
+        kind: column.real,
+        flags: flags_of(event, facts, column, place, ranks),
+        m0: column.m0,
+        m1: column.m1,
+        charset,
+    }
+}
+
+// Of the charsets by the two classes, that of the class a column is of.
+fn charset_of(real: u8, character: u16, choice: u16) -> u16
+    ensures { λ r. ⌜ r ≡ cond (isCharacter real) character choice ⌝ }
+{
+    if value::is_character(real) {
+        return character;
+    }
+    choice
+}
+
+fn first_standing(event: &[u8], facts: Facts) -> Standing
+    requires { ⌜ ClassHolds (now event) (facts .characters) × ClassHolds (now event) (facts .choices) ⌝ }
+    ensures { λ r. ⌜ Starts (now (event .entry)) facts r ⌝ }
+{
+    Standing {
+        place: Place(0),
+        metadata: 0,
+        ranks: no_ranks(),
+        characters: first_charset(event, facts.characters),
+        choices: first_charset(event, facts.choices),
+    }
+}
+
+// The next column's entry.
+fn next_entry(
+    dialect: Dialect,
+    event: &[u8],
+    types: &[u8],
+    metadata: &[u8],
+    facts: Facts,
+    standing: Standing,
+) -> EntryTurn
+    requires { ⌜ (standing .place .0 < length (now types)) × (length (now types) ≤ 255) × Ready (now event) facts standing ⌝ }
+    ensures { λ r. ⌜ Came dialect (now (event .entry)) facts (now (types .entry)) (now (metadata .entry)) standing r ⌝ }
+{
+    let place = standing.place;
+    let ranks = standing.ranks;
+    let at = place.0;
+    let kind = types[at];
+    let column = declare(kind, metadata, standing.metadata);
+    let real = column.real;
+    let counted = value::has_charset(dialect, real);
+    let characters = facts.characters;
+    let character = charset_if(
+        event,
+        counted,
+        characters,
+        standing.characters,
+        ranks.character,
+    );
+    let chosen = value::is_enum_or_set(real);
+    let choices = facts.choices;
+    let choice = charset_if(event, chosen, choices, standing.choices, ranks.choice);
+    let charset = charset_of(real, character.charset, choice.charset);
+    let entry = entry_for(event, facts, column, place, ranks, charset);
+    let characters = character.next;
+    let choices = choice.next;
+    let next = Standing {
+        place: Place(at + 1),
+        metadata: standing.metadata + value::metadata_bytes(kind),
+        ranks: ranks_after(dialect, ranks, column),
+        characters,
+        choices,
+    };
+    EntryTurn { entry, next }
+}
+
+// Writes the entries of all columns, behind the six bytes before them.
+fn write_entries(
+    dialect: Dialect,
+    event: &[u8],
+    types: &[u8],
+    metadata: &[u8],
+    facts: Facts,
+    buf: &mut [u8],
+)
+    requires { ⌜ Takes (now event) (now types) facts × (6 + 6 * length (now types) ≤ length (now buf)) ⌝ }
+    ensures { λ _. ⌜ now (buf .exit) ≡ stored (now (buf .entry)) 6 (entriesBytes (entriesFrom dialect (now (event .entry)) facts (declareAll (now (types .entry)) (now (metadata .entry))) (place 0) noRanks)) ⌝ }
+{
+    let mut standing = first_standing(event, facts);
+    while standing.place.0 < types.len() {
+        let turn = next_entry(dialect, event, types, metadata, facts, standing);
+        let at = 6 + 6 * standing.place.0;
+        record::write_entry(buf, at, turn.entry);
+        standing = turn.next;
+    }
+}
+
+// Writes the record of a map: all of it, or nothing.
+pub(crate) fn write_record(
+    dialect: Dialect,
+    event: &[u8],
+    types: &[u8],
+    metadata: &[u8],
+    facts: Facts,
+    buf: &mut [u8],
+) -> Written
+    requires { ⌜ Takes (now event) (now types) facts ⌝ }
+    ensures { λ r. ⌜ writtenOf r ≡ answerOf (store (now (buf .entry)) 0 (recordBytes (entriesFrom dialect (now (event .entry)) facts (declareAll (now (types .entry)) (now (metadata .entry))) (place 0) noRanks))) ⌝ }
+    ensures { λ _. ⌜ now (buf .exit) ≡ leftOf (now (buf .entry)) (store (now (buf .entry)) 0 (recordBytes (entriesFrom dialect (now (event .entry)) facts (declareAll (now (types .entry)) (now (metadata .entry))) (place 0) noRanks))) ⌝ }
+{
+    let size = 6 + 6 * types.len();
+    if buf.len() < size {
+        return Written::Refused(wire::refuse(NO_ROOM, 0));
+    }
+    record::write_head(buf, types.len() as u8);
+    write_entries(dialect, event, types, metadata, facts, buf);
+    Written::Done { next: size }
+}
