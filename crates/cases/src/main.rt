@@ -1,6 +1,7 @@
 // Reads cases from standard input, a line each, and prints an answer line for each.
 mod checks;
 mod fields;
+mod images;
 mod input;
 mod lists;
 mod lone;
@@ -8,6 +9,7 @@ mod maps;
 mod output;
 mod printing;
 mod room;
+mod rows;
 mod slices;
 mod values;
 mod words;

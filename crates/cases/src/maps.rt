@@ -6,6 +6,9 @@ use crate::checks::record_case;
 use crate::fields::field_case;
 use crate::fields::fields_as_case;
 use crate::fields::fields_case;
+use crate::images::first_case;
+use crate::images::image_case;
+use crate::images::step_case;
 use crate::lists::item_case;
 use crate::lists::list_case;
 use crate::output::put_bad;
@@ -14,6 +17,9 @@ use crate::output::put_hex;
 use crate::output::put_refused;
 use crate::output::put_spaced_number;
 use crate::printing::put_named;
+use crate::rows::put_case;
+use crate::rows::row_case;
+use crate::rows::start_case;
 use crate::slices::cut;
 use crate::slices::part;
 use crate::slices::same;
@@ -134,6 +140,37 @@ fn answer_check(
     }
     if same(word, b"name") {
         return name_case(line, next, arena, out, used);
+    }
+    answer_image(word, line, next, arena, room, out, used)
+}
+
+// The same for row images.
+fn answer_image(
+    word: &[u8],
+    line: &[u8],
+    next: usize,
+    arena: &mut [u8],
+    room: &mut [u8],
+    out: &mut [u8],
+    used: usize,
+) -> usize {
+    if same(word, b"first") {
+        return first_case(line, next, arena, out, used);
+    }
+    if same(word, b"step") {
+        return step_case(line, next, arena, out, used);
+    }
+    if same(word, b"image") {
+        return image_case(line, next, arena, out, used);
+    }
+    if same(word, b"start") {
+        return start_case(line, next, arena, room, out, used);
+    }
+    if same(word, b"put") {
+        return put_case(line, next, arena, room, out, used);
+    }
+    if same(word, b"row") {
+        return row_case(line, next, arena, room, out, used);
     }
     put_bad(out, used)
 }

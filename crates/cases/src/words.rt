@@ -47,6 +47,18 @@ pub(crate) enum Bytes2 {
     Bad,
 }
 
+// Two numbers, and the place of the next word.
+pub(crate) enum Number2 {
+    Found(u64, u64, usize),
+    Bad,
+}
+
+// The ends of three byte strings in the arena, and the place of the next word.
+pub(crate) enum Bytes3 {
+    Found(usize, usize, usize, usize),
+    Bad,
+}
+
 // What a text that has no spaces says, as a number.
 pub(crate) enum Decimal {
     Value(u64),
@@ -218,6 +230,17 @@ pub(crate) fn read_bytes(line: &[u8], at: usize, arena: &mut [u8], from: usize) 
     Bytes::Found(end, next)
 }
 
+// Two numbers.
+pub(crate) fn read_number2(line: &[u8], at: usize) -> Number2 {
+    let Number::Found(first, next) = read_number(line, at) else {
+        return Number2::Bad;
+    };
+    let Number::Found(second, next) = read_number(line, next) else {
+        return Number2::Bad;
+    };
+    Number2::Found(first, second, next)
+}
+
 // Two byte strings, decoded into `arena` from `from` on.
 pub(crate) fn read_bytes2(line: &[u8], at: usize, arena: &mut [u8], from: usize) -> Bytes2 {
     let Bytes::Found(first, next) = read_bytes(line, at, arena, from) else {
@@ -227,4 +250,15 @@ pub(crate) fn read_bytes2(line: &[u8], at: usize, arena: &mut [u8], from: usize)
         return Bytes2::Bad;
     };
     Bytes2::Found(first, second, next)
+}
+
+// Three byte strings, decoded into `arena` from its start on.
+pub(crate) fn read_bytes3(line: &[u8], at: usize, arena: &mut [u8]) -> Bytes3 {
+    let Bytes2::Found(first, second, next) = read_bytes2(line, at, arena, 0) else {
+        return Bytes3::Bad;
+    };
+    let Bytes::Found(third, next) = read_bytes(line, next, arena, second) else {
+        return Bytes3::Bad;
+    };
+    Bytes3::Found(first, second, third, next)
 }
