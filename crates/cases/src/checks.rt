@@ -111,6 +111,24 @@ pub(crate) fn record_case(
     }
 }
 
+// The name of a column, or the refusal.
+fn put_name<'a>(
+    out: &mut [u8],
+    used: usize,
+    names: &'a [u8],
+    operator: &'a [u8],
+    column: Place,
+) -> usize {
+    match map_check::column_name(names, operator, column) {
+        NameRead::Name(_) => {
+            let name = map_check::name_part(names, operator, column);
+            let used = put_text(out, used, b"ok ");
+            put_hex(out, used, name)
+        }
+        NameRead::Refused(refusal) => put_refused(out, used, refusal),
+    }
+}
+
 // `name NAMES OPERATOR COLUMN`
 pub(crate) fn name_case(
     line: &[u8],
@@ -128,14 +146,11 @@ pub(crate) fn name_case(
     if !is_last(next) {
         return put_bad(out, used);
     }
-    let names = part(arena, 0, split);
-    let operator = part(arena, split, end);
-    let column = Place(asked as usize);
-    match map_check::column_name(names, operator, column) {
-        NameRead::Name(_) => {
-            let used = put_text(out, used, b"ok ");
-            put_hex(out, used, map_check::name_part(names, operator, column))
-        }
-        NameRead::Refused(refusal) => put_refused(out, used, refusal),
-    }
+    put_name(
+        out,
+        used,
+        part(arena, 0, split),
+        part(arena, split, end),
+        Place(asked as usize),
+    )
 }

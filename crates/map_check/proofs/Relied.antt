@@ -68,9 +68,10 @@ pub classes : {d : Dialect} {s : List ℕ} {e : Event} {es : List Entry} (p : Pa
 unfolding contentsFull
 classes {d} {s} {e} p =
     let k = sizesOf d (p .columns) in
-    let full = kept-first k (fieldsAt d (lentPart s (e .types)) (e .optional .start)) s (p .fields) (p .kept) in
-    (record { size = k .character .0; list = λ q v. full 3 q v; default = λ q v. full 2 q v },
-    record { size = k .choice .0; list = λ q v. full 11 q v; default = λ q v. full 10 q v })
+    let full = kept-first k (fieldsAt d (lentPart s (e .types)) (e .optional .start)) s (p .fields) (p .kept) in (
+      record { size = k .character .0; list = λ q v. full 3 q v; default = λ q v. full 2 q v },
+      record { size = k .choice .0; list = λ q v. full 11 q v; default = λ q v. full 10 q v },
+    )
 
 -- ---- each entry is one that a record may have
 entry-kept : (s : List ℕ) (x : Facts) (kind : ℕ) (meta : List ℕ) (j : Place) (k : Ranks) → ClassHolds s (x .characters) → ClassHolds s (x .choices)
