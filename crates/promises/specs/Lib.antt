@@ -1,5 +1,6 @@
 -- The statements that the port is to be judged by. `Readings`: the worked readings of document 01. `Values`: one stored value of a column. `Events`: the
--- event's two round trips.
+-- event's two round trips. `Checks`: the check of a map.
 pub mod Readings
 pub mod Values
 pub mod Events
+pub mod Checks

@@ -4,7 +4,7 @@ use mathlib.Core.Bool.{true, false}
 use mathlib.Core.List.{List, [], _∷_}
 use mathlib.Core.Path.{_≡_, refl}
 use lib.ListN.{length}
-use Rattle.wire.specs.Outcome.{Outcome, ok, refused, refuse}
+use Rattle.wire.specs.Outcome.{Outcome, ok, refused, refuse, after}
 use Rattle.wire.specs.Number.{leValue, leBytes}
 use Rattle.wire.specs.Packed.{readPacked, formOf, longForm, packedBytes}
 use Rattle.temporal.specs.declared.kind.Kind.{Kind}
@@ -14,13 +14,29 @@ use Rattle.temporal.specs.declared.parts.Temporal.the-variants.{At, Lasts}
 use Rattle.temporal.specs.Ranges.{clockFault, dayFault}
 use Rattle.temporal.specs.Reading.{readTemporal}
 use Rattle.value.specs.declared.shape.Shape.the-variants.{Counted}
-use Rattle.value.specs.Columns.{charLength, shapeOf}
+use Rattle.value.specs.Columns.{charLength, shapeOf, familyOf, isKnown, metadataBytes, realType, leftoverBytes, decimalBytes, shapeIn, isTaken, isNumeric, hasSignBit, isCharacter, hasCharset, isEnumOrSet}
+use Rattle.value.specs.declared.column.Dialect.the-variants.{Document}
+use Rattle.wire.specs.Bits.{digit, bitLsb0, bitMsb0}
+use Rattle.table_map.specs.Parts.{within, shortPart, longPart}
+use Rattle.table_map.specs.Events.{readNames, readColumns, readEvent}
+use Rattle.table_map.specs.Lists.{step, walkSteps, pairItem, strings, groupItem}
+use Rattle.table_map.specs.Fields.{signBits, countSigned, contentsHold, fieldItem, fieldStep}
+use Rattle.record.specs.Entries.{entryBytes}
+use Rattle.record.specs.Records.{headBytes, entriesBytes, recordBytes}
+use Rattle.map_check.specs.Columns.{metaByte, declared, isReal, isAccepted, takeColumn, takeColumns}
+use Rattle.map_check.specs.Ranks.{ranksAfter, ranksFrom}
+use Rattle.map_check.specs.Contents.{all, listHolds, exactly, isCharset, integerHolds, pairsHold, pairsWhole, defaultHolds, keyItem, contentsFull}
+use Rattle.map_check.specs.Fields.{stood, rivalOf, isKept, keepSteps, firstOf}
+use Rattle.map_check.specs.Keys.{placed, keysOnce, keysHold}
+use Rattle.map_check.specs.Profile.{pairOr, charsetBy, charsetOf, flagsOf, entriesFrom}
+use Rattle.map_check.specs.Check.{fewEnough, checkEvent, checkMap}
 
 -- a reading: what is read, and the bytes that say it
 pub data Reading : Type 0 where
   packed : ℕ → List ℕ → Reading
   temporal : Kind → List ℕ → Outcome Temporal → Reading
   char : ℕ → ℕ → ℕ → ℕ → Reading
+  map : List ℕ → List ℕ → Reading
 
 -- a temporal, read to the end of its bytes, or a refusal
 abbrev pub whole : List ℕ → Outcome Temporal → Outcome (Temporal × ℕ)
@@ -35,6 +51,8 @@ Holds (packed number bytes) = (packedBytes number ≡ bytes) × (readPacked byte
 Holds (temporal kind bytes answer) = readTemporal kind 0 bytes 0 ≡ whole bytes answer
 -- a CHAR column with this metadata has this declared length, and its values so many length bytes
 Holds (char m0 m1 declared lengthBytes) = (charLength m0 m1 ≡ declared) × (shapeOf (record { kind = 254; m0 = m0; m1 = m1; unsigned = false }) ≡ Counted lengthBytes)
+-- the check of this event (post-header length 8), to document 01's letter, gives this record
+Holds (map event profile) = after (checkMap Document event 8) (λ es. ok (recordBytes es)) ≡ ok profile
 
 abbrev pub Each : {A : Type 0} → (A → Type 0) → List A → Type 0
 Each P [] = Unit {0}
@@ -57,8 +75,11 @@ table =
     (ok (At record { year = 2000; month = 1; day = 1; hour = 0; minute = 0; second = 0; micros = 0 }))
     ∷ char 0xfe 0xff 255 1
     ∷ char 0xee 0x00 256 2
+    ∷ map
+    (0x2a ∷ 0x00 ∷ 0x00 ∷ 0x00 ∷ 0x00 ∷ 0x00 ∷ 0x01 ∷ 0x00 ∷ 0x01 ∷ 0x74 ∷ 0x00 ∷ 0x01 ∷ 0x72 ∷ 0x00 ∷ 0x03 ∷ 0x03 ∷ 0x0f ∷ 0x01 ∷ 0x02 ∷ 0x14 ∷ 0x00 ∷ 0x02 ∷ 0x01 ∷ 0x01 ∷ 0x40 ∷ [])
+    (0x18 ∷ 0x00 ∷ 0x01 ∷ 0x00 ∷ 0x03 ∷ 0x00 ∷ 0x03 ∷ 0x0c ∷ 0x00 ∷ 0x00 ∷ 0x00 ∷ 0x00 ∷ 0x0f ∷ 0x0a ∷ 0x14 ∷ 0x00 ∷ 0x00 ∷ 0x00 ∷ 0x01 ∷ 0x0d ∷ 0x00 ∷ 0x00 ∷ 0x00 ∷ 0x00 ∷ [])
     ∷ []
 
 pub readings : Each Holds table
-unfolding table packedBytes leBytes readPacked formOf longForm leValue readTemporal clockFault dayFault shapeOf
-readings = ((refl, refl), ((refl, refl), ((refl, refl), (refl, (refl, (refl, (refl, ((refl, refl), ((refl, refl), tt)))))))))
+unfolding table packedBytes leBytes readPacked formOf longForm leValue readTemporal clockFault dayFault shapeOf digit bitLsb0 bitMsb0 familyOf isKnown metadataBytes realType leftoverBytes decimalBytes shapeIn isTaken isNumeric hasSignBit isCharacter hasCharset isEnumOrSet within shortPart longPart readNames readColumns readEvent step walkSteps pairItem strings groupItem signBits countSigned contentsHold fieldItem fieldStep entryBytes headBytes entriesBytes recordBytes metaByte declared isReal isAccepted takeColumn takeColumns ranksAfter ranksFrom all listHolds exactly isCharset integerHolds pairsHold pairsWhole defaultHolds keyItem contentsFull stood rivalOf isKept keepSteps firstOf placed keysOnce keysHold pairOr charsetBy charsetOf flagsOf entriesFrom fewEnough checkEvent checkMap
+readings = ((refl, refl), ((refl, refl), ((refl, refl), (refl, (refl, (refl, (refl, ((refl, refl), ((refl, refl), (refl, tt))))))))))
