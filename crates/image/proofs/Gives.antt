@@ -28,7 +28,7 @@ use Rattle.image.specs.Split.{Slot, slots, slotsAt, cursor, head}
 use Rattle.image.specs.Walk.{walk}
 use Rattle.image.specs.Rows.{Row, isNull, inDomains, rowBytes, answersOf, Marks}
 use Rattle.image.specs.Puts.{filled, headNulls, startImage, slotBytes, putOver, putFrom}
-use Rattle.image.specs.Given.{Given, rowOf, areLent, Fit, putRow, writeRow}
+use Rattle.image.specs.Given.{Given, rowOf, areLent, Fit, putRow, writeRow, imageSize, Wrote}
 use Rattle.image.proofs.Firsts.{first-is, present-end, present-first, count-set, count-none}
 use Rattle.image.proofs.Slots.{inCell, cell}
 use Rattle.image.proofs.Presents.{present-length}
@@ -191,25 +191,12 @@ flat : (nulls bs buf : List ℕ) → stored buf 0 (nulls ++ bs) ≡ nulls ++ (bs
 unfolding stored
 flat nulls bs buf = rw (zero-add (length (nulls ++ bs))) (append-assoc nulls bs (drop (length (nulls ++ bs)) buf))
 
--- how many bytes the image of a row is
-abbrev pub imageSize : List ℕ → List ℕ → List ℕ → Row → ℕ
-imageSize r p nulls ds = length nulls + length (rowBytes (present r p) ds)
-
 image-size : (r p nulls : List ℕ) (gs : List Given) → Fit r p nulls gs
     → 0 + length (filled (length (rowOf gs)) nulls ++ rowBytes (present r p) (rowOf gs)) ≡ imageSize r p nulls (rowOf gs)
 image-size r p nulls gs w =
     let f = filled (length (rowOf gs)) nulls in
     let l = fill-length (length (rowOf gs)) nulls (w .size) in
     omega (arith, length-append f (rowBytes (present r p) (rowOf gs)))
-
--- the last cursor tells the bytes used, the buffer begins with the image, and the walk over it gives the row
-pub record Wrote (r p nulls : List ℕ) (ds : Row) (buf : List ℕ) (w : Outcome (Cursor × List ℕ)) : Type 0 where
-  pub last : Cursor
-  pub left : List ℕ
-  pub is : w ≡ ok (last, left)
-  pub offset : last .offset ≡ imageSize r p nulls ds
-  pub buffer : left ≡ stored buf 0 (filled (length ds) nulls ++ rowBytes (present r p) ds)
-  pub walked : walk r p left ≡ record { answers = answersOf (present r p) ds; how = ok (last .offset) }
 
 pub written : (r p nulls : List ℕ) (gs : List Given) (buf : List ℕ) → Fit r p nulls gs → imageSize r p nulls (rowOf gs) ≤ length buf
     → Wrote r p nulls (rowOf gs) buf (writeRow r p nulls gs buf)

@@ -25,10 +25,10 @@ use Rattle.image.specs.declared.cursor.Cursor.{Cursor}
 use Rattle.image.specs.Present.{Present, countBits, presentFrom, present}
 use Rattle.image.specs.Split.{Slot, slots, slotsAt, cursor, firstCursor, stepFrom}
 use Rattle.image.specs.Walk.{Walked, walkSteps, walkFrom, walk}
-use Rattle.image.specs.Rows.{Row, inDomains, rowBytes, answersOf, Marks, Says, read, short, broken}
+use Rattle.image.specs.Rows.{Row, inDomains, rowBytes, answersOf, Marks, Says, read, short, broken, Among, Refusals, in-nulls, at-column}
 use Rattle.image.proofs.Slots.{inCell}
 use Rattle.image.proofs.Splits.{readSlots, Split, all, stops, Each, each-at, split, split-back}
-use Rattle.image.proofs.Presents.{present-length, good-from, good-present, Among, among-present, present-same, slots-same, slots-front, slots-all}
+use Rattle.image.proofs.Presents.{present-length, good-from, good-present, among-present, present-same, slots-same, slots-front, slots-all}
 use Rattle.image.proofs.Walks.{Over, nullBytes, head-is, steps-read}
 
 -- ---- the walk, without steps
@@ -112,11 +112,6 @@ pub every-row : (r p nulls rest : List ℕ) (ds : Row) → recordValid r ≡ tru
     ≡ record { answers = answersOf (present r p) ds; how = ok (length nulls + length (rowBytes (present r p) ds)) }
 every-row r p nulls rest ds v b d m l =
     only-says r p _ _ v b (read nulls rest ds (l ∙ ap bytesFor (row-length (present r p) ds d)) d m refl)
-
--- ---- every refusal: 9 at 0, for null bits that are not whole; or 9 or 10 at a present column
-pub data Refusals (r p im : List ℕ) : Refusal → Type 0 where
-  in-nulls : length im < bytesFor (length (present r p)) → Refusals r p im (why 9 0)
-  at-column : (n j : ℕ) → (n ≡ 9) ⊎ (n ≡ 10) → Among r p j → Refusals r p im (why n j)
 
 fails-number : {sh : Shape} {s : List ℕ} {n : ℕ} → Fails sh s n → (n ≡ 9) ⊎ (n ≡ 10)
 fails-number (cut l) = inl refl

@@ -18,8 +18,8 @@ use Rattle.value.specs.Storing.{startOf, lenOf, isLent}
 use Rattle.record.specs.Records.{countOf, recordValid}
 use Rattle.image.specs.Present.{present}
 use Rattle.image.specs.Rows.{Row, isNull, inDomains, Marks}
-use Rattle.image.specs.Given.{Given, rowOf, areLent, writeRow}
-use Rattle.image.proofs.Gives.{marks-same, imageSize, Wrote, written}
+use Rattle.image.specs.Given.{Given, rowOf, areLent, writeRow, imageSize, Wrote}
+use Rattle.image.proofs.Gives.{marks-same, written}
 
 -- ---- a value, with just its bytes beside it
 unfoldable pub give : Datum → Given

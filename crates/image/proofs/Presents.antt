@@ -13,6 +13,7 @@ use Rattle.record.specs.Records.{countOf, entryIn, recordValid}
 use Rattle.record.proofs.Valid.{valid-column}
 use Rattle.image.specs.Present.{Present, countBits, shapeAt, presentFrom, present}
 use Rattle.image.specs.Split.{slots, slotsAt}
+use Rattle.image.specs.Rows.{Among}
 use Rattle.image.proofs.Firsts.{presentAt, count-set, count-not, count-none}
 use Rattle.image.proofs.Splits.{Each, Good}
 
@@ -57,11 +58,7 @@ good-from m r p j v h = each-from Good m r p j (λ i a b. record { sized = sized
 pub good-present : (r p : List ℕ) → recordValid r ≡ true → Each Good (present r p)
 good-present r p v = good-from (countOf r) r p 0 v (omega arith)
 
--- a present column of the record: there is such a column, and its bit is set
-pub record Among (r p : List ℕ) (j : ℕ) : Type 0 where
-  pub column : j < countOf r
-  pub bit : bitLsb0 p j ≡ true
-
+-- a present column is one of the record's, and its bit is set
 pub among-present : (r p : List ℕ) → Each (λ c. Among r p (c .column)) (present r p)
 among-present r p = each-from (λ c. Among r p (c .column)) (countOf r) r p 0 (λ i a b. record { column = omega arith; bit = b })
 

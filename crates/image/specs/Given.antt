@@ -1,19 +1,21 @@
 -- A whole row written: a start, and then a step for each value given. Assumes nothing.
-use Prim.Native.Nat.{ℕ}
+use Prim.Native.Nat.{ℕ, _+_}
 use mathlib.Core.Path.{_≡_}
 use mathlib.Core.Bool.{Bool, true, _&&_}
-use mathlib.Core.List.{List, [], _∷_}
+use mathlib.Core.List.{List, [], _∷_, _++_}
 use lib.ListN.{length}
 use Rattle.wire.specs.Outcome.{Outcome, ok, after}
 use Rattle.wire.specs.Bits.{bytesFor}
+use Rattle.wire.specs.Stored.{stored}
 use Rattle.value.specs.declared.datum.Value.{Value}
 use Rattle.value.specs.Reading.{datumOf}
 use Rattle.value.specs.Storing.{isLent}
 use Rattle.record.specs.Records.{countOf, recordValid}
 use Rattle.image.specs.declared.cursor.Cursor.{Cursor}
 use Rattle.image.specs.Present.{present}
-use Rattle.image.specs.Rows.{Row, inDomains, Marks}
-use Rattle.image.specs.Puts.{startImage, putFrom}
+use Rattle.image.specs.Walk.{walk}
+use Rattle.image.specs.Rows.{Row, inDomains, rowBytes, answersOf, Marks}
+use Rattle.image.specs.Puts.{filled, startImage, putFrom}
 
 -- a value as a step takes it, with the bytes lent beside it
 pub record Given : Type 0 where
@@ -51,3 +53,17 @@ putRow r p nulls (g ∷ gs) c buf = after (putFrom r p nulls c (g .lent) (g .val
 unfoldable pub writeRow : List ℕ → List ℕ → List ℕ → List Given → List ℕ → Outcome (Cursor × List ℕ)
 unfolding startImage putRow
 writeRow r p nulls gs buf = after (startImage r p nulls buf) (λ x. putRow r p nulls gs (x .0) (x .1))
+
+-- ---- what a row that was written is
+-- how many bytes the image of a row is
+abbrev pub imageSize : List ℕ → List ℕ → List ℕ → Row → ℕ
+imageSize r p nulls ds = length nulls + length (rowBytes (present r p) ds)
+
+-- the last cursor tells the bytes used, the buffer begins with the image, and the walk over it gives the row
+pub record Wrote (r p nulls : List ℕ) (ds : Row) (buf : List ℕ) (w : Outcome (Cursor × List ℕ)) : Type 0 where
+  pub last : Cursor
+  pub left : List ℕ
+  pub is : w ≡ ok (last, left)
+  pub offset : last .offset ≡ imageSize r p nulls ds
+  pub buffer : left ≡ stored buf 0 (filled (length ds) nulls ++ rowBytes (present r p) ds)
+  pub walked : walk r p left ≡ record { answers = answersOf (present r p) ds; how = ok (last .offset) }

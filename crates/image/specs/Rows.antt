@@ -2,16 +2,19 @@
 use Prim.Native.Nat.{ℕ, suc, _+_, _<_}
 use mathlib.Core.Path.{_≡_}
 use mathlib.Core.Bool.{Bool, true, false, cond, _&&_}
+use mathlib.Core.Logic.{_⊎_}
 use mathlib.Core.List.{List, [], _∷_, _++_}
 use lib.ListN.{length}
 use lib.Dec.{eqb}
-use Rattle.wire.specs.Outcome.{Outcome, ok, refuse}
+use Rattle.wire.specs.declared.refusal.Refusal.{Refusal}
+use Rattle.wire.specs.Outcome.{ok, refuse, why}
 use Rattle.wire.specs.Bits.{bytesFor, bitLsb0}
 use Rattle.value.specs.Data.{Datum, tag}
 use Rattle.value.specs.Shapes.{bytesOf}
 use Rattle.value.specs.Domains.{domain}
 use Rattle.value.specs.Reading.{Fails}
-use Rattle.image.specs.Present.{Present}
+use Rattle.record.specs.Records.{countOf}
+use Rattle.image.specs.Present.{Present, presentFrom, present}
 use Rattle.image.specs.Walk.{Walked}
 
 -- NULL is the datum `null`, which is in no column's domain
@@ -62,3 +65,13 @@ pub data Says (cs : List Present) (im : List ℕ) : Walked → Type 0 where
       → length nulls ≡ bytesFor (length cs) → inDomains before ds ≡ true → Marks nulls 0 ds → bitLsb0 nulls (length before) ≡ false
       → im ≡ nulls ++ (rowBytes before ds ++ rest) → Fails (c .shape) rest n
       → Says cs im (record { answers = answersOf before ds; how = refuse n (c .column) })
+
+-- ---- no other refusal: short null bits, or a present column whose value ends early or has a part out of range
+-- a present column of the record: there is such a column, and its bit is set
+pub record Among (r p : List ℕ) (j : ℕ) : Type 0 where
+  pub column : j < countOf r
+  pub bit : bitLsb0 p j ≡ true
+
+pub data Refusals (r p im : List ℕ) : Refusal → Type 0 where
+  in-nulls : length im < bytesFor (length (present r p)) → Refusals r p im (why 9 0)
+  at-column : (n j : ℕ) → (n ≡ 9) ⊎ (n ≡ 10) → Among r p j → Refusals r p im (why n j)

@@ -1,6 +1,7 @@
 -- The statements that the port is to be judged by. `Readings`: the worked readings of document 01. `Values`: one stored value of a column. `Events`: the
--- event's two round trips. `Checks`: the check of a map.
+-- event's two round trips. `Checks`: the check of a map. `Images`: demand 3.
 pub mod Readings
 pub mod Values
 pub mod Events
 pub mod Checks
+pub mod Images

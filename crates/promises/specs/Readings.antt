@@ -3,6 +3,7 @@ use Prim.Native.Nat.{ℕ}
 use mathlib.Core.Bool.{true, false}
 use mathlib.Core.List.{List, [], _∷_}
 use mathlib.Core.Path.{_≡_, refl}
+use lib.IntN.{negsuc}
 use lib.ListN.{length}
 use Rattle.wire.specs.Outcome.{Outcome, ok, refused, refuse, after}
 use Rattle.wire.specs.Number.{leValue, leBytes}
@@ -21,8 +22,8 @@ use Rattle.table_map.specs.Parts.{within, shortPart, longPart}
 use Rattle.table_map.specs.Events.{readNames, readColumns, readEvent}
 use Rattle.table_map.specs.Lists.{step, walkSteps, pairItem, strings, groupItem}
 use Rattle.table_map.specs.Fields.{signBits, countSigned, contentsHold, fieldItem, fieldStep}
-use Rattle.record.specs.Entries.{entryBytes}
-use Rattle.record.specs.Records.{headBytes, entriesBytes, recordBytes}
+use Rattle.record.specs.Entries.{entryBytes, flagsHold, charsetHolds, entryHolds, entryOf}
+use Rattle.record.specs.Records.{headBytes, entriesBytes, recordBytes, entryIn, entriesHold, headHolds, recordValid, readRecord}
 use Rattle.map_check.specs.Columns.{metaByte, declared, isReal, isAccepted, takeColumn, takeColumns}
 use Rattle.map_check.specs.Ranks.{ranksAfter, ranksFrom}
 use Rattle.map_check.specs.Contents.{all, listHolds, exactly, isCharset, integerHolds, pairsHold, pairsWhole, defaultHolds, keyItem, contentsFull}
@@ -30,6 +31,13 @@ use Rattle.map_check.specs.Fields.{stood, rivalOf, isKept, keepSteps, firstOf}
 use Rattle.map_check.specs.Keys.{placed, keysOnce, keysHold}
 use Rattle.map_check.specs.Profile.{pairOr, charsetBy, charsetOf, flagsOf, entriesFrom}
 use Rattle.map_check.specs.Check.{fewEnough, checkEvent, checkMap}
+use Rattle.wire.specs.Signed.{signedOf}
+use Rattle.value.specs.Shapes.{need, decode, fault}
+use Rattle.value.specs.Reading.{taken, cut, judged, readDatum, readValue, datumOf}
+use Rattle.image.specs.Present.{countBits, shapeAt, presentFrom}
+use Rattle.image.specs.Split.{slots, slotsAt, headOf, firstCursor, stepOver, stepFrom}
+use Rattle.image.specs.Walk.{walkSteps as imageSteps, walk as walkImage}
+use Rattle.value.specs.Data.{Datum, int, uint, bytes as raw}
 
 -- a reading: what is read, and the bytes that say it
 pub data Reading : Type 0 where
@@ -37,6 +45,7 @@ pub data Reading : Type 0 where
   temporal : Kind → List ℕ → Outcome Temporal → Reading
   char : ℕ → ℕ → ℕ → ℕ → Reading
   map : List ℕ → List ℕ → Reading
+  image : List ℕ → List ℕ → List ℕ → List (ℕ × Datum) → ℕ → Reading
 
 -- a temporal, read to the end of its bytes, or a refusal
 abbrev pub whole : List ℕ → Outcome Temporal → Outcome (Temporal × ℕ)
@@ -53,6 +62,8 @@ Holds (temporal kind bytes answer) = readTemporal kind 0 bytes 0 ≡ whole bytes
 Holds (char m0 m1 declared lengthBytes) = (charLength m0 m1 ≡ declared) × (shapeOf (record { kind = 254; m0 = m0; m1 = m1; unsigned = false }) ≡ Counted lengthBytes)
 -- the check of this event (post-header length 8), to document 01's letter, gives this record
 Holds (map event profile) = after (checkMap Document event 8) (λ es. ok (recordBytes es)) ≡ ok profile
+-- under this record and these presence bits the walk over this image gives these answers, and so many bytes used
+Holds (image profile presence im answers used) = walkImage profile presence im ≡ record { answers = answers; how = ok used }
 
 abbrev pub Each : {A : Type 0} → (A → Type 0) → List A → Type 0
 Each P [] = Unit {0}
@@ -78,8 +89,15 @@ table =
     ∷ map
     (0x2a ∷ 0x00 ∷ 0x00 ∷ 0x00 ∷ 0x00 ∷ 0x00 ∷ 0x01 ∷ 0x00 ∷ 0x01 ∷ 0x74 ∷ 0x00 ∷ 0x01 ∷ 0x72 ∷ 0x00 ∷ 0x03 ∷ 0x03 ∷ 0x0f ∷ 0x01 ∷ 0x02 ∷ 0x14 ∷ 0x00 ∷ 0x02 ∷ 0x01 ∷ 0x01 ∷ 0x40 ∷ [])
     (0x18 ∷ 0x00 ∷ 0x01 ∷ 0x00 ∷ 0x03 ∷ 0x00 ∷ 0x03 ∷ 0x0c ∷ 0x00 ∷ 0x00 ∷ 0x00 ∷ 0x00 ∷ 0x0f ∷ 0x0a ∷ 0x14 ∷ 0x00 ∷ 0x00 ∷ 0x00 ∷ 0x01 ∷ 0x0d ∷ 0x00 ∷ 0x00 ∷ 0x00 ∷ 0x00 ∷ [])
+    -- -2, "ab", 200
+    ∷ image
+    (0x18 ∷ 0x00 ∷ 0x01 ∷ 0x00 ∷ 0x03 ∷ 0x00 ∷ 0x03 ∷ 0x0c ∷ 0x00 ∷ 0x00 ∷ 0x00 ∷ 0x00 ∷ 0x0f ∷ 0x0a ∷ 0x14 ∷ 0x00 ∷ 0x00 ∷ 0x00 ∷ 0x01 ∷ 0x0d ∷ 0x00 ∷ 0x00 ∷ 0x00 ∷ 0x00 ∷ [])
+    (0x07 ∷ [])
+    (0xf8 ∷ 0xfe ∷ 0xff ∷ 0xff ∷ 0xff ∷ 0x02 ∷ 0x61 ∷ 0x62 ∷ 0xc8 ∷ [])
+    ((0, int (negsuc 1)) ∷ (1, raw (0x61 ∷ 0x62 ∷ [])) ∷ (2, uint 200) ∷ [])
+    9
     ∷ []
 
 pub readings : Each Holds table
-unfolding table packedBytes leBytes readPacked formOf longForm leValue readTemporal clockFault dayFault shapeOf digit bitLsb0 bitMsb0 familyOf isKnown metadataBytes realType leftoverBytes decimalBytes shapeIn isTaken isNumeric hasSignBit isCharacter hasCharset isEnumOrSet within shortPart longPart readNames readColumns readEvent step walkSteps pairItem strings groupItem signBits countSigned contentsHold fieldItem fieldStep entryBytes headBytes entriesBytes recordBytes metaByte declared isReal isAccepted takeColumn takeColumns ranksAfter ranksFrom all listHolds exactly isCharset integerHolds pairsHold pairsWhole defaultHolds keyItem contentsFull stood rivalOf isKept keepSteps firstOf placed keysOnce keysHold pairOr charsetBy charsetOf flagsOf entriesFrom fewEnough checkEvent checkMap
-readings = ((refl, refl), ((refl, refl), ((refl, refl), (refl, (refl, (refl, (refl, ((refl, refl), ((refl, refl), (refl, tt))))))))))
+unfolding table packedBytes leBytes readPacked formOf longForm leValue readTemporal clockFault dayFault shapeOf digit bitLsb0 bitMsb0 familyOf isKnown metadataBytes realType leftoverBytes decimalBytes shapeIn isTaken isNumeric hasSignBit isCharacter hasCharset isEnumOrSet within shortPart longPart readNames readColumns readEvent step walkSteps pairItem strings groupItem signBits countSigned contentsHold fieldItem fieldStep entryBytes headBytes entriesBytes recordBytes metaByte declared isReal isAccepted takeColumn takeColumns ranksAfter ranksFrom all listHolds exactly isCharset integerHolds pairsHold pairsWhole defaultHolds keyItem contentsFull stood rivalOf isKept keepSteps firstOf placed keysOnce keysHold pairOr charsetBy charsetOf flagsOf entriesFrom fewEnough checkEvent checkMap signedOf need decode fault taken cut judged readDatum readValue datumOf flagsHold charsetHolds entryHolds entryOf entryIn entriesHold headHolds recordValid readRecord countBits shapeAt presentFrom slots slotsAt headOf firstCursor stepOver stepFrom imageSteps walkImage
+readings = ((refl, refl), ((refl, refl), ((refl, refl), (refl, (refl, (refl, (refl, ((refl, refl), ((refl, refl), (refl, (refl, tt)))))))))))
