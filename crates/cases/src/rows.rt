@@ -23,6 +23,7 @@ use image::Put;
 use record::RecordRead;
 use value::Value;
 use wire::Refusal;
+ghost use Prim.Native.Nat.{_≤_};
 
 // Where the record, the presence bits and the null bits of a line end in the arena. They stand behind each other, from its start.
 struct Ends {
@@ -114,14 +115,14 @@ fn put_put(
     }
 }
 
-// A cursor and a room, and the place of the next word.
+// A cursor and a room.
 enum Placing {
-    Found(Cursor, usize, usize),
+    Found(Cursor, usize),
     Bad,
 }
 
-// `COLUMN OFFSET ROOM`
-fn read_placing(line: &[u8], at: usize) -> Placing {
+// `COLUMN OFFSET ROOM`, the last words of a line
+fn read_placing(line: &[u8], at: usize, most: usize) -> Placing {
     let Number2::Found(column, offset, next) = read_number2(line, at) else {
         return Placing::Bad;
     };
@@ -131,7 +132,13 @@ fn read_placing(line: &[u8], at: usize) -> Placing {
     let column = column as usize;
     let offset = offset as usize;
     let size = size as usize;
-    Placing::Found(Cursor { column, offset }, size, next)
+    if !is_last(next) {
+        return Placing::Bad;
+    }
+    if size > most {
+        return Placing::Bad;
+    }
+    Placing::Found(Cursor { column, offset }, size)
 }
 
 // `put RECORD PRESENCE NULLS VALUE COLUMN OFFSET ROOM`
@@ -149,12 +156,9 @@ pub(crate) fn put_case(
     let ValueWord::Found(value, _, next) = read_value_word(line, next, arena, nulls) else {
         return put_bad(out, used);
     };
-    let Placing::Found(cursor, size, next) = read_placing(line, next) else {
+    let Placing::Found(cursor, size) = read_placing(line, next, room.len()) else {
         return put_bad(out, used);
     };
-    if !is_last(next) {
-        return put_bad(out, used);
-    }
     if size > room.len() {
         return put_bad(out, used);
     }
@@ -189,6 +193,15 @@ fn count_values(line: &[u8], at: usize, arena: &mut [u8], from: usize) -> Count 
     Count::Bad
 }
 
+fn weight(presence: &[u8], column: usize) -> usize
+    ensures { λ r. ⌜ r ≤ 1 ⌝ }
+{
+    if wire::bit_lsb0(presence, column) {
+        return 1;
+    }
+    0
+}
+
 // How many columns of a record are present.
 fn count_present(profile: &[u8], presence: &[u8]) -> usize {
     let RecordRead::Valid { columns } = record::read_record(profile) else {
@@ -197,9 +210,7 @@ fn count_present(profile: &[u8], presence: &[u8]) -> usize {
     let mut present: usize = 0;
     let mut j: usize = 0;
     while j < columns {
-        if wire::bit_lsb0(presence, j) {
-            present += 1;
-        }
+        present += weight(presence, j);
         j += 1;
     }
     present
@@ -212,12 +223,16 @@ enum Stored {
     Spoiled,
 }
 
+fn wide(x: u8) -> u64 {
+    x as u64
+}
+
 // A number that changes with the bytes.
 fn digest(s: &[u8]) -> u64 {
     let mut sum: u64 = 0;
     let mut i: usize = 0;
     while i < s.len() {
-        sum = (sum % 4294967291) * 257 + s[i] as u64;
+        sum = sum % 4294967291 * 257 + wide(s[i]) % 256;
         i += 1;
     }
     sum
@@ -303,7 +318,51 @@ fn put_row(
     }
 }
 
-// `row RECORD PRESENCE NULLS ROOM VALUE...`; another number of values than present columns is told behind 11 and 12 for the presence bits.
+// The words of a row: its byte strings, the room, where the values start and how many there are.
+enum RowWords {
+    Found(Ends, usize, usize, usize),
+    Bad,
+}
+
+// `RECORD PRESENCE NULLS ROOM VALUE...`
+fn read_row(line: &[u8], at: usize, arena: &mut [u8]) -> RowWords {
+    let Bytes3::Found(profile, presence, nulls, next) = read_bytes3(line, at, arena) else {
+        return RowWords::Bad;
+    };
+    let Number::Found(size, next) = read_number(line, next) else {
+        return RowWords::Bad;
+    };
+    let Count::Found(values) = count_values(line, next, arena, nulls) else {
+        return RowWords::Bad;
+    };
+    let ends = Ends {
+        profile,
+        presence,
+        nulls,
+    };
+    RowWords::Found(ends, size as usize, next, values)
+}
+
+// Whether there is a value for each present column; 11 and 12 for the presence bits are told before that.
+enum Fitting {
+    Yes,
+    No,
+    Refused(Refusal),
+}
+
+fn fits(profile: &[u8], presence: &[u8], values: usize) -> Fitting {
+    match image::first_cursor(profile, presence) {
+        First::At(_) => {
+            if values == count_present(profile, presence) {
+                return Fitting::Yes;
+            }
+            Fitting::No
+        }
+        First::Refused(refusal) => Fitting::Refused(refusal),
+    }
+}
+
+// `row RECORD PRESENCE NULLS ROOM VALUE...`
 pub(crate) fn row_case(
     line: &[u8],
     at: usize,
@@ -312,32 +371,17 @@ pub(crate) fn row_case(
     out: &mut [u8],
     used: usize,
 ) -> usize {
-    let Bytes3::Found(profile, presence, nulls, next) = read_bytes3(line, at, arena) else {
+    let RowWords::Found(ends, size, next, values) = read_row(line, at, arena) else {
         return put_bad(out, used);
     };
-    let Number::Found(size, next) = read_number(line, next) else {
-        return put_bad(out, used);
-    };
-    let Count::Found(values) = count_values(line, next, arena, nulls) else {
-        return put_bad(out, used);
-    };
-    let size = size as usize;
     if size > room.len() {
         return put_bad(out, used);
     }
-    if let First::Refused(refusal) = image::first_cursor(
-        part(arena, 0, profile),
-        part(arena, profile, presence),
-    ) {
-        return put_refused(out, used, refusal);
+    let profile = part(arena, 0, ends.profile);
+    let presence = part(arena, ends.profile, ends.presence);
+    match fits(profile, presence, values) {
+        Fitting::Yes => put_row(&mut room[0..size], line, next, arena, ends, out, used),
+        Fitting::No => put_bad(out, used),
+        Fitting::Refused(refusal) => put_refused(out, used, refusal),
     }
-    if values != count_present(part(arena, 0, profile), part(arena, profile, presence)) {
-        return put_bad(out, used);
-    }
-    let ends = Ends {
-        profile,
-        presence,
-        nulls,
-    };
-    put_row(&mut room[0..size], line, next, arena, ends, out, used)
 }
