@@ -1,11 +1,12 @@
 -- What a valid record says: as many columns as its length has room for, each accepted. Assumes nothing.
 use Prim.Native.Nat.{ℕ, zero, suc, _+_, _<_}
 use mathlib.Core.Path.{_≡_, sym, subst}
-use mathlib.Core.Bool.{true}
+use mathlib.Core.Bool.{true, false}
 use mathlib.Core.List.{List}
 use native.Mathlib.Omega.{arith}
-use Rattle.wire.specs.Outcome.{ok, why}
-use Rattle.wire.proofs.Outcomes.{test-is-ok}
+use Rattle.wire.specs.declared.refusal.Refusal.{Refusal}
+use Rattle.wire.specs.Outcome.{ok, refused, why}
+use Rattle.wire.proofs.Outcomes.{test-is-ok, test-refuses}
 use Rattle.temporal.proofs.Ranges.{and-true}
 use Rattle.value.specs.Columns.{shapeOf, isTaken}
 use Rattle.record.specs.Entries.{columnOf, entryHolds}
@@ -40,3 +41,11 @@ unfolding readRecord
 read-valid r n e =
     let t = test-is-ok (recordValid r) (countOf r) (why 11 0) n e in
     (t .0, sym (t .1))
+
+-- the call's answer tells whether the record is valid
+pub read-is : (r : List ℕ) (n : ℕ) → readRecord r ≡ ok n → true ≡ recordValid r
+read-is r n e = sym (read-valid r n e .0)
+
+pub read-not : (r : List ℕ) (w : Refusal) → readRecord r ≡ refused w → false ≡ recordValid r
+unfolding readRecord
+read-not r w e = sym (test-refuses (recordValid r) (countOf r) (why 11 0) w e .0)

@@ -9,4 +9,5 @@ pub use entry::write_entry;
 pub use profile::RecordRead;
 pub use profile::entry_in;
 pub use profile::read_record;
+pub use profile::record_valid;
 pub use profile::write_head;

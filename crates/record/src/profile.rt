@@ -7,7 +7,7 @@ use wire::refusal::BAD_RECORD;
 ghost use mathlib.Core.Path.{_≡_};
 ghost use lib.ListN.{getD};
 ghost use Rattle.wire.specs.Stored.{store, answerOf, leftOf, writtenOf};
-ghost use Rattle.record.specs.Records.{entryIn, entriesHold, headHolds, readRecord, recordOf, headBytes};
+ghost use Rattle.record.specs.Records.{entryIn, entriesHold, headHolds, recordValid, readRecord, recordOf, headBytes};
 
 // How many columns a valid record has.
 pub enum RecordRead {
@@ -99,6 +99,16 @@ pub fn read_record(profile: &[u8]) -> RecordRead
         return RecordRead::Refused(wire::refuse(BAD_RECORD, 0));
     }
     RecordRead::Valid { columns }
+}
+
+// Whether the bytes are a record with nothing after it.
+pub fn record_valid(profile: &[u8]) -> bool
+    ensures { λ r. ⌜ r ≡ recordValid (now (profile .entry)) ⌝ }
+{
+    match read_record(profile) {
+        RecordRead::Valid { columns: _ } => true,
+        RecordRead::Refused(_) => false,
+    }
 }
 
 // Writes the six bytes before the columns, at the buffer's start.
