@@ -193,12 +193,43 @@ fn list(kind: u8, value: &[u8]) -> String {
     })
 }
 
-// What the Rust says of the columns of a map, by their place in the table.
+// What the fields of a map say of its columns, by their rank in a class, and of their visibility by place.
 struct Columns {
     signs: Option<Vec<bool>>,
     visible: Option<Vec<bool>>,
     charsets: Vec<u16>,
     enum_charsets: Vec<u16>,
+}
+
+// How many columns of each class went before.
+#[derive(Default)]
+struct Ranks {
+    numeric: usize,
+    character: usize,
+    enum_or_set: usize,
+}
+
+impl Columns {
+    // Flags 1 and 4. The record has no room for the sign of a YEAR, nor of a DECIMAL of old.
+    fn sign_flags(&self, kind: ColumnType, ranks: &Ranks) -> u8 {
+        match &self.signs {
+            Some(signs) if kind.is_numeric_type() && !matches!(kind as u8, 0 | 13) => {
+                4 | signs[ranks.numeric] as u8
+            }
+            _ => 0,
+        }
+    }
+
+    fn charset(&self, kind: ColumnType, ranks: &Ranks) -> u16 {
+        let found = if kind.is_character_type() {
+            self.charsets.get(ranks.character)
+        } else if kind.is_enum_or_set_type() {
+            self.enum_charsets.get(ranks.enum_or_set)
+        } else {
+            None
+        };
+        found.copied().unwrap_or(0)
+    }
 }
 
 // The charset of each column of a class, by rank.
@@ -247,59 +278,49 @@ fn columns_of(event: &TableMapEvent<'_>, real: &[ColumnType]) -> std::io::Result
     Ok(columns)
 }
 
+fn entry(
+    event: &TableMapEvent<'_>,
+    columns: &Columns,
+    ranks: &Ranks,
+    j: usize,
+    kind: ColumnType,
+) -> Option<[u8; 6]> {
+    let metadata = event.get_column_metadata(j)?;
+    let mut flags = columns.sign_flags(kind, ranks);
+    if event.null_bitmask()[j] {
+        flags |= 2;
+    }
+    if columns.visible.as_ref().is_none_or(|bits| bits[j]) {
+        flags |= 8;
+    }
+    let byte = |at: usize| metadata.get(at).copied().unwrap_or(0);
+    let [low, high] = columns.charset(kind, ranks).to_le_bytes();
+    Some([kind as u8, flags, byte(0), byte(1), low, high])
+}
+
+fn record_of(event: &TableMapEvent<'_>) -> Option<Vec<u8>> {
+    let n = u8::try_from(event.columns_count()).ok()?;
+    let real: Option<Vec<ColumnType>> = (0..n as usize)
+        .map(|j| event.get_column_type(j).ok().flatten())
+        .collect();
+    let real = real?;
+    let columns = columns_of(event, &real).ok()?;
+    let [low, high] = (6 + 6 * n as u16).to_le_bytes();
+    let mut record = vec![low, high, 1, 0, n, 0];
+    let mut ranks = Ranks::default();
+    for (j, kind) in real.into_iter().enumerate() {
+        record.extend_from_slice(&entry(event, &columns, &ranks, j, kind)?);
+        ranks.numeric += kind.is_numeric_type() as usize;
+        ranks.character += kind.is_character_type() as usize;
+        ranks.enum_or_set += kind.is_enum_or_set_type() as usize;
+    }
+    Some(record)
+}
+
 // The record that a user of the Rust would make of a map, by its own classes of columns and its own real types.
 pub fn record(post_header: u8, bytes: &[u8]) -> String {
-    with_event(post_header, bytes, |event| {
-        let n = event.columns_count() as usize;
-        let real: Vec<ColumnType> = (0..n)
-            .map_while(|j| event.get_column_type(j).ok().flatten())
-            .collect();
-        let Ok(columns) = columns_of(event, &real) else {
-            return ERROR.into();
-        };
-        if n > 255 || real.len() != n {
-            return ERROR.into();
-        }
-        let mut record = vec![
-            ((6 + 6 * n) % 256) as u8,
-            ((6 + 6 * n) / 256) as u8,
-            1,
-            0,
-            n as u8,
-            0,
-        ];
-        let (mut numeric, mut character, mut listed) = (0, 0, 0);
-        for (j, kind) in real.iter().enumerate() {
-            let Some(metadata) = event.get_column_metadata(j) else {
-                return ERROR.into();
-            };
-            let mut flags = 0;
-            if event.null_bitmask()[j] {
-                flags |= 2;
-            }
-            if columns.visible.as_ref().is_none_or(|bits| bits[j]) {
-                flags |= 8;
-            }
-            if kind.is_numeric_type() {
-                // the record has no room for the sign of a YEAR, nor of a DECIMAL of old
-                if let (Some(signs), false) = (&columns.signs, matches!(*kind as u8, 0 | 13)) {
-                    flags |= 4 | signs[numeric] as u8;
-                }
-                numeric += 1;
-            }
-            let mut charset = 0;
-            if kind.is_character_type() {
-                charset = columns.charsets.get(character).copied().unwrap_or(0);
-                character += 1;
-            }
-            if kind.is_enum_or_set_type() {
-                charset = columns.enum_charsets.get(listed).copied().unwrap_or(0);
-                listed += 1;
-            }
-            let byte = |at: usize| metadata.get(at).copied().unwrap_or(0);
-            record.extend_from_slice(&[*kind as u8, flags, byte(0), byte(1)]);
-            record.extend_from_slice(&charset.to_le_bytes());
-        }
-        format!("ok {}", hex(&record))
+    with_event(post_header, bytes, |event| match record_of(event) {
+        Some(record) => format!("ok {}", hex(&record)),
+        None => ERROR.into(),
     })
 }
