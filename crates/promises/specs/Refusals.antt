@@ -71,7 +71,7 @@ pub record Only {A : Type 0} (answer : Outcome A) (ls : List Line) : Type 0 wher
 
 -- ---- demand 1
 pub record Refusals : Type 1 where
-  -- ---- `wire`. Its other calls answer a number or a bit, whatever they are lent
+  -- ---- `wire`. `refuse` makes a refusal; the other calls answer a number or a truth value, whatever they are lent
   -- `read_packed`: the offset asked
   pub read-packed : (s : List ℕ) (o : ℕ) → Only (readPacked s o) (1 at o ∷ 2 at o ∷ [])
   -- `write_packed`, `write_le`, `write_be`, `write_bytes`, and of `record` `write_entry` and `write_head`: each stores some bytes, from an offset on
@@ -91,7 +91,7 @@ pub record Refusals : Type 1 where
   pub value-size : (c : Column) (place : ℕ) (lent : List ℕ) (v : Value) → Only (sizeOf (shapeOf c) place lent v) (4 at place ∷ 5 at place ∷ 13 at place ∷ [])
   -- `shape_of` answers a number alone for a column that there is not; the other calls on types and classes refuse nothing
   pub shape-of : (c : Column) (n : ℕ) → shapeOf c ≡ NotTaken n → (n ≡ 4) ⊎ (n ≡ 5)
-  -- ---- `table_map`. The calls for a part answer no bytes where the event is refused; `part_of`, `Fields::new` and `flag` refuse nothing
+  -- ---- `table_map`. The calls for a part answer an empty one where the event is refused; `part_of`, `Fields::new` and `flag` refuse nothing
   -- an offset of the event
   pub read-event : (event : List ℕ) (postHeader : ℕ) → Only (readEvent event postHeader) (1 upTo length event ∷ 2 upTo length event ∷ [])
   pub write-event : (p : Parts) (buf : List ℕ) → Only (writeEvent p buf) (13 at 0 ∷ 8 at 0 ∷ [])
@@ -107,7 +107,7 @@ pub record Refusals : Type 1 where
   pub default-charset : (value : List ℕ) → Only (defaultCharset value) (1 at 0 ∷ 2 at 0 ∷ [])
   -- ---- `record`. `record_valid`, `entry_in`, `entry_holds` and `column_of` refuse nothing
   pub read-record : (r : List ℕ) → Only (readRecord r) (11 at 0 ∷ [])
-  -- ---- `map_check`. `name_part` and `names_field` answer no bytes where there is a refusal
+  -- ---- `map_check`. `name_part` and the calls for the names field answer an empty part where there is a refusal
   -- 1, 2, 6 and 7 at an offset of the event; 4 at a column, 5 too, or at n for metadata left over, n being how many type bytes the event has
   pub check-map : (d : Dialect) (event : List ℕ) (postHeader : ℕ) (buf : List ℕ) (n : ℕ) → n ≡ length (partIn (λ e. e .types) event (readEvent event postHeader))
       → Only (check d event postHeader buf)
