@@ -164,11 +164,11 @@ field-stepped c s past one two six seven =
 
 -- ---- the check
 -- the columns from p on, of n: 4 and 5 at one of them, 5 at n for metadata left over
-taken : {ls : List Line} (n : ℕ) → ((p : ℕ) → p < n → OneOf ls (why 4 p)) → ((p : ℕ) → p ≤ n → OneOf ls (why 5 p)) → (types meta : List ℕ) (p : ℕ) → p + length types ≡ n
+columns-taken : {ls : List Line} (n : ℕ) → ((p : ℕ) → p < n → OneOf ls (why 4 p)) → ((p : ℕ) → p ≤ n → OneOf ls (why 5 p)) → (types meta : List ℕ) (p : ℕ) → p + length types ≡ n
     → Listed ls (takeColumns types meta p)
 unfolding takeColumns takeColumn
-taken n four five [] meta p h = test (eqb (length meta) 0) (λ u. done _) (λ u. stop (five p (omega arith)))
-taken n four five (kind ∷ types) meta p h =
+columns-taken n four five [] meta p h = test (eqb (length meta) 0) (λ u. done _) (λ u. stop (five p (omega arith)))
+columns-taken n four five (kind ∷ types) meta p h =
     chain (takeColumn kind meta p) _
     (test (isKnown (familyOf kind))
     (λ u. test (leb (metaBytes kind) (length meta))
@@ -176,7 +176,7 @@ taken n four five (kind ∷ types) meta p h =
     (λ u. stop (five p (omega arith))))
     (λ u. stop (four p (omega arith))))
     (λ c e.
-    chain (takeColumns types (drop (metaBytes kind) meta) (suc p)) _ (taken n four five types (drop (metaBytes kind) meta) (suc p) (omega arith)) (λ cs f. done _))
+    chain (takeColumns types (drop (metaBytes kind) meta) (suc p)) _ (columns-taken n four five types (drop (metaBytes kind) meta) (suc p) (omega arith)) (λ cs f. done _))
 
 -- the fields, from an offset on
 module _ {ls : List Line} (s : List ℕ) (one : (p : ℕ) → p ≤ length s → OneOf ls (why 1 p)) (two : (p : ℕ) → p ≤ length s → OneOf ls (why 2 p))
@@ -224,7 +224,7 @@ module _ {ls : List Line} (s : List ℕ) (one : (p : ℕ) → p ≤ length s →
       let t : types ≡ partOf s (e .types) = rw (le-leb (e .types .start + e .types .len) (length s) (b .types)) in
       let l : length types ≡ n = ap length t ∙ sym (q ∙ ap (λ (x : Outcome Event). length (partIn (λ e. e .types) s x)) r) in
       chain (fewEnough types) _ (test (leb (length types) 255) (λ u. done _) (λ u. stop three)) (λ few f.
-      chain (takeColumns types meta 0) _ (taken n four five types meta 0 (omega arith)) (λ cs g.
+      chain (takeColumns types meta 0) _ (columns-taken n four five types meta 0 (omega arith)) (λ cs g.
       chain (keepFields (sizesOf d cs) (fieldsAt d types (e .optional .start)) s) _
       (kept (suc (length s - e .optional .start)) (sizesOf d cs) (fieldsAt d types (e .optional .start)) [] (e .optional .start) (omega (arith, b .optional))) (λ fs i.
       chain (keysHold s fs) _ (once fs) (λ o j. done _))))))

@@ -50,9 +50,9 @@ Numbered (Fixed n) = Unit {0}
 Numbered (Counted k) = Unit {0}
 Numbered (NotTaken n) = (n ≡ 4) ⊎ (n ≡ 5)
 
-if : (t : Bool) (sh : Shape) → Numbered sh → Numbered (given t sh)
-if true sh h = h
-if false sh h = inr refl
+if-given : (t : Bool) (sh : Shape) → Numbered sh → Numbered (given t sh)
+if-given true sh h = h
+if-given false sh h = inr refl
 
 either : (t : Bool) (x y : Shape) → Numbered x → Numbered y → Numbered (cond t x y)
 either true x y h k = h
@@ -60,25 +60,25 @@ either false x y h k = k
 
 in-family : (f : Family) (m0 m1 : ℕ) (u : Bool) → Numbered (shapeIn f m0 m1 u)
 unfolding shapeIn
-in-family (Integer k) m0 m1 u = if (eqb m0 0 && eqb m1 0) (cond u (Unsigned k) (Signed k)) (either u (Unsigned k) (Signed k) tt tt)
-in-family Float m0 m1 u = if (eqb m0 4 && eqb m1 0) _ tt
-in-family Double m0 m1 u = if (eqb m0 8 && eqb m1 0) _ tt
-in-family Year m0 m1 u = if (eqb m0 0 && eqb m1 0) _ tt
-in-family Timestamp m0 m1 u = if (eqb m0 0 && eqb m1 0) _ tt
-in-family Date m0 m1 u = if (eqb m0 0 && eqb m1 0) _ tt
-in-family Time m0 m1 u = if (eqb m0 0 && eqb m1 0) _ tt
-in-family Datetime m0 m1 u = if (eqb m0 0 && eqb m1 0) _ tt
-in-family Timestamp2 m0 m1 u = if (leb m0 6 && eqb m1 0) _ tt
-in-family Datetime2 m0 m1 u = if (leb m0 6 && eqb m1 0) _ tt
-in-family Time2 m0 m1 u = if (leb m0 6 && eqb m1 0) _ tt
+in-family (Integer k) m0 m1 u = if-given (eqb m0 0 && eqb m1 0) (cond u (Unsigned k) (Signed k)) (either u (Unsigned k) (Signed k) tt tt)
+in-family Float m0 m1 u = if-given (eqb m0 4 && eqb m1 0) _ tt
+in-family Double m0 m1 u = if-given (eqb m0 8 && eqb m1 0) _ tt
+in-family Year m0 m1 u = if-given (eqb m0 0 && eqb m1 0) _ tt
+in-family Timestamp m0 m1 u = if-given (eqb m0 0 && eqb m1 0) _ tt
+in-family Date m0 m1 u = if-given (eqb m0 0 && eqb m1 0) _ tt
+in-family Time m0 m1 u = if-given (eqb m0 0 && eqb m1 0) _ tt
+in-family Datetime m0 m1 u = if-given (eqb m0 0 && eqb m1 0) _ tt
+in-family Timestamp2 m0 m1 u = if-given (leb m0 6 && eqb m1 0) _ tt
+in-family Datetime2 m0 m1 u = if-given (leb m0 6 && eqb m1 0) _ tt
+in-family Time2 m0 m1 u = if-given (leb m0 6 && eqb m1 0) _ tt
 in-family Varchar m0 m1 u = tt
-in-family Char m0 m1 u = if (eqb (or30 m0) 254) _ tt
-in-family Blob m0 m1 u = if (leb 1 m0 && (leb m0 4 && eqb m1 0)) _ tt
-in-family Json m0 m1 u = if (eqb m0 4 && eqb m1 0) _ tt
-in-family Bit m0 m1 u = if (leb m0 7 && (leb 1 (8 * m1 + m0) && leb (8 * m1 + m0) 64)) _ tt
-in-family Decimal m0 m1 u = if (leb 1 m0 && (leb m0 65 && (leb m1 30 && leb m1 m0))) _ tt
-in-family Enum m0 m1 u = if (leb 1 m1 && leb m1 2) _ tt
-in-family Set m0 m1 u = if (leb 1 m1 && (leb m1 4 || eqb m1 8)) _ tt
+in-family Char m0 m1 u = if-given (eqb (or30 m0) 254) _ tt
+in-family Blob m0 m1 u = if-given (leb 1 m0 && (leb m0 4 && eqb m1 0)) _ tt
+in-family Json m0 m1 u = if-given (eqb m0 4 && eqb m1 0) _ tt
+in-family Bit m0 m1 u = if-given (leb m0 7 && (leb 1 (8 * m1 + m0) && leb (8 * m1 + m0) 64)) _ tt
+in-family Decimal m0 m1 u = if-given (leb 1 m0 && (leb m0 65 && (leb m1 30 && leb m1 m0))) _ tt
+in-family Enum m0 m1 u = if-given (leb 1 m1 && leb m1 2) _ tt
+in-family Set m0 m1 u = if-given (leb 1 m1 && (leb m1 4 || eqb m1 8)) _ tt
 in-family Unknown m0 m1 u = inl refl
 
 numbered : (c : Column) → Numbered (shapeOf c)

@@ -71,17 +71,19 @@ pub record Only {A : Type 0} (answer : Outcome A) (ls : List Line) : Type 0 wher
 
 -- ---- demand 1
 pub record Refusals : Type 1 where
-  -- ---- `wire`. `refuse` makes a refusal; the other calls answer a number or a truth value, whatever they are lent
+  -- ---- `wire`. `read_le`, `read_be`, `packed_size`, `bytes_for`, `bit_lsb0`, `bit_msb0` and `has_room` refuse nothing; `refuse` makes a refusal
   -- `read_packed`: the offset asked
   pub read-packed : (s : List ℕ) (o : ℕ) → Only (readPacked s o) (1 at o ∷ 2 at o ∷ [])
   -- `write_packed`, `write_le`, `write_be`, `write_bytes`, and of `record` `write_entry` and `write_head`: each stores some bytes, from an offset on
   pub write-bytes : (buf : List ℕ) (o : ℕ) (bytes : List ℕ) → Only (store buf o bytes) (8 at 0 ∷ [])
   -- `write_bit_lsb0`, `write_bit_msb0`
   pub write-bit : (buf : List ℕ) (o digit : ℕ) (on : Bool) → Only (storeDigit buf o digit on) (8 at 0 ∷ [])
-  -- ---- `temporal`; the place is the one that the caller names. `temporal_size` and `in_domain` refuse nothing
+  -- ---- `temporal`. The place is the one that the caller names. `temporal_size` and `in_domain` refuse nothing
+  -- `read_temporal`, `write_temporal`
   pub read-temporal : (k : Kind) (place : ℕ) (s : List ℕ) (o : ℕ) → Only (readTemporal k place s o) (9 at place ∷ 10 at place ∷ [])
   pub write-temporal : (k : Kind) (place : ℕ) (buf : List ℕ) (o : ℕ) (t : Temporal) → Only (writeTemporal k place buf o t) (13 at place ∷ 8 at 0 ∷ [])
-  -- ---- `value`; likewise, and the place of a lone value is 0
+  -- ---- `value`. The place is the one that the caller names, and 0 for a lone value. `is_accepted`, `family_of`, `is_known`, `metadata_bytes`, `real_type`, `is_numeric`, `has_sign_bit`,
+  -- `is_character`, `has_charset` and `is_enum_or_set` refuse nothing
   -- `read_value`, `read_lone`
   pub read-value : (c : Column) (place : ℕ) (s : List ℕ) (o : ℕ) → Only (readValue (shapeOf c) place s o) (4 at place ∷ 5 at place ∷ 9 at place ∷ 10 at place ∷ [])
   -- `write_value`, `write_lone`
@@ -89,11 +91,13 @@ pub record Refusals : Type 1 where
       → Only (writeValue (shapeOf c) place lent v buf o) (4 at place ∷ 5 at place ∷ 13 at place ∷ 8 at 0 ∷ [])
   -- `value_size`, `lone_size`
   pub value-size : (c : Column) (place : ℕ) (lent : List ℕ) (v : Value) → Only (sizeOf (shapeOf c) place lent v) (4 at place ∷ 5 at place ∷ 13 at place ∷ [])
-  -- `shape_of` answers a number alone for a column that there is not; the other calls on types and classes refuse nothing
+  -- `shape_of`: the number, without a place, for a column that there is not
   pub shape-of : (c : Column) (n : ℕ) → shapeOf c ≡ NotTaken n → (n ≡ 4) ⊎ (n ≡ 5)
-  -- ---- `table_map`. The calls for a part answer an empty one where the event is refused; `part_of`, `Fields::new` and `flag` refuse nothing
-  -- an offset of the event
+  -- ---- `table_map`. `part_of`, `Fields::new` and `flag` refuse nothing; `database_name`, `table_name`, `column_types`, `column_metadata`, `nullable_bits` and `optional_metadata` hand back an
+  -- empty part where the event is refused
+  -- `read_event`: an offset of the event, or its end
   pub read-event : (event : List ℕ) (postHeader : ℕ) → Only (readEvent event postHeader) (1 upTo length event ∷ 2 upTo length event ∷ [])
+  -- `write_event`, `event_size`
   pub write-event : (p : Parts) (buf : List ℕ) → Only (writeEvent p buf) (13 at 0 ∷ 8 at 0 ∷ [])
   pub event-size : (p : Parts) → Only (eventSize p) (13 at 0 ∷ 8 at 0 ∷ [])
   -- `Fields::next`: the field's type byte, or its length's first byte behind it; a cursor past the bytes is 1 where it stands
@@ -101,21 +105,24 @@ pub record Refusals : Type 1 where
   -- `next` of `Integers` and `Strings`: where the cursor stands
   pub next-integer : (s : List ℕ) (o : ℕ) → Only (step integerItem s o) (1 at o ∷ 2 at o ∷ [])
   pub next-string : (s : List ℕ) (o : ℕ) → Only (step stringItem s o) (1 at o ∷ 2 at o ∷ [])
-  -- `next` of `Pairs` and `Groups`: an offset of the bytes, where an integer or a string of the item starts; a cursor past them is 1 where it stands
+  -- `next` of `Pairs` and `Groups`: where an integer or a string of the item starts, or would start at the end of the bytes; a cursor past them is 1 where it stands
   pub next-pair : (s : List ℕ) (o : ℕ) → Only (step pairItem s o) (1 at o ∷ 1 upTo length s ∷ 2 upTo length s ∷ [])
   pub next-group : (s : List ℕ) (o : ℕ) → Only (step groupItem s o) (1 at o ∷ 1 upTo length s ∷ 2 upTo length s ∷ [])
+  -- `default_charset`: the start of the value
   pub default-charset : (value : List ℕ) → Only (defaultCharset value) (1 at 0 ∷ 2 at 0 ∷ [])
   -- ---- `record`. `record_valid`, `entry_in`, `entry_holds` and `column_of` refuse nothing
+  -- `read_record`
   pub read-record : (r : List ℕ) → Only (readRecord r) (11 at 0 ∷ [])
-  -- ---- `map_check`. `name_part` and the calls for the names field answer an empty part where there is a refusal
-  -- 1, 2, 6 and 7 at an offset of the event; 4 at a column, 5 too, or at n for metadata left over, n being how many type bytes the event has
+  -- ---- `map_check`. `name_part` and the calls for the names field (`names_field`) hand back an empty part where there is a refusal
+  -- `check`: 1, 2, 6 and 7 at an offset of the event; 4 at a column, and 5 too, or at n for metadata left over, n being how many type bytes the event has
   pub check-map : (d : Dialect) (event : List ℕ) (postHeader : ℕ) (buf : List ℕ) (n : ℕ) → n ≡ length (partIn (λ e. e .types) event (readEvent event postHeader))
       → Only (check d event postHeader buf)
       (1 upTo length event ∷ 2 upTo length event ∷ 3 at 0 ∷ 4 below n ∷ 5 upTo n ∷ 6 below length event ∷ 7 below length event ∷ 8 at 0 ∷ [])
-  -- the column asked, or an offset of the list that is looked at
+  -- `column_name`: the column asked, or an offset of the list that is looked at
   pub column-name : (names operator : List ℕ) (c : Place)
       → Only (columnName names operator c) (14 at c .0 ∷ 1 below length (listOf names operator) ∷ 2 below length (listOf names operator) ∷ [])
   -- ---- `image`; r is the record, p the presence bits. `value_bytes` refuses nothing
+  -- `first_cursor`
   pub first-cursor : (r p : List ℕ) → Only (firstCursor r p) (11 at 0 ∷ 12 at 0 ∷ [])
   -- `Cursor::step`: 14 at the cursor's column; 9 at 0 in the null bits, at the cursor's column for an offset past the image, and else, as 10, at one of the record's columns
   pub step-image : (r p im : List ℕ) (c : Cursor)
