@@ -16,7 +16,7 @@ use Rattle.temporal.proofs.Ranges.{and-true}
 use Rattle.value.specs.Columns.{shapeOf}
 use Rattle.table_map.specs.Lists.{integerItem, pairItem, stringItem, groupItem}
 use Rattle.map_check.specs.Names.{listOf, columnName}
-use Rattle.promises.specs.Refusals.{Line, _at_, _below_, _upTo_, OneOf, just, under, most, later, numberOf, inTable, Only, Refusals}
+use Rattle.promises.specs.Refusals.{Line, _at_, _below_, _upTo_, OneOf, just, under, most, later, numberOf, inTable, Only, EveryCall}
 use Rattle.promises.proofs.Only.{Listed, packed, room}
 use Rattle.promises.proofs.Values.{temporal-read, temporal-written, four-or-five, column-taken, value-read, value-written, value-sized}
 use Rattle.promises.proofs.Maps.{long-part, event-read, event-written, event-sized, pair, group, stepped, field-stepped, checked, string-found}
@@ -71,7 +71,7 @@ seventh o = later (sixth o)
 eighth : {a b c d e f g : Line} {ls : List Line} {w : Refusal} → OneOf ls w → OneOf (a ∷ b ∷ c ∷ d ∷ e ∷ f ∷ g ∷ ls) w
 eighth o = later (seventh o)
 
-pub refusals : Refusals
+pub refusals : EveryCall
 unfolding inTable columnName
 refusals = record {
   read-packed = λ s o. only refl (packed s o just (second just));

@@ -70,7 +70,7 @@ pub record Only {A : Type 0} (answer : Outcome A) (ls : List Line) : Type 0 wher
   pub listed : (w : Refusal) → answer ≡ refused w → OneOf ls w
 
 -- ---- demand 1
-pub record Refusals : Type 1 where
+pub record EveryCall : Type 1 where
   -- ---- `wire`. `read_le`, `read_be`, `packed_size`, `bytes_for`, `bit_lsb0`, `bit_msb0` and `has_room` refuse nothing; `refuse` makes a refusal
   -- `read_packed`: the offset asked
   pub read-packed : (s : List ℕ) (o : ℕ) → Only (readPacked s o) (1 at o ∷ 2 at o ∷ [])
