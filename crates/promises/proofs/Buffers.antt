@@ -1,0 +1,126 @@
+-- Every writer's success is one store, so it touches only the bytes reported. Assumes nothing.
+use Prim.Native.Nat.{ℕ, _+_, _≤_}
+use mathlib.Core.Path.{_≡_, refl, sym, ap, subst, _∙_}
+use mathlib.Core.List.{List, [], _∷_}
+use native.Mathlib.Omega.{arith}
+use borrow.Author.Tests.{leb-true}
+use lib.ListN.{length, drop, getD}
+use lib.Seq.{drop-drop, drop-append-seam}
+use lib.Dec.{leb, ltb}
+use Rattle.wire.specs.Outcome.{ok, why}
+use Rattle.wire.specs.Bits.{withDigit}
+use Rattle.wire.specs.Stored.{stored, store}
+use Rattle.wire.proofs.Outcomes.{after-is-ok, test-is-ok, by-test, ok-not-refused, same-ok}
+use Rattle.wire.proofs.Stores.{length-stored, stored-front, stored-from}
+use Rattle.temporal.specs.declared.kind.Kind.{Kind}
+use Rattle.temporal.specs.declared.parts.Temporal.{Temporal}
+use Rattle.temporal.specs.Domains.{domain}
+use Rattle.temporal.specs.Reading.{bytesOf, writeTemporal}
+use Rattle.value.specs.declared.column.Column.{Column}
+use Rattle.value.specs.declared.column.Dialect.{Dialect}
+use Rattle.value.specs.declared.datum.Value.{Value}
+use Rattle.value.specs.Columns.{shapeOf}
+use Rattle.value.specs.Storing.{storedBytes, writeValue}
+use Rattle.table_map.specs.Writes.{Parts, isEvent, eventBytes, writeEvent}
+use Rattle.record.specs.Records.{recordBytes}
+use Rattle.map_check.specs.Check.{checkMap, check}
+use Rattle.image.specs.declared.cursor.Cursor.{Cursor}
+use Rattle.image.specs.Present.{countBits}
+use Rattle.image.specs.Split.{Slot, slotsAt}
+use Rattle.image.specs.Puts.{filled, headNulls, startImage, slotBytes, putOver, putFrom}
+use Rattle.image.proofs.Fills.{fill-length}
+use Rattle.image.proofs.Heads.{nulls-tested}
+use Rattle.image.proofs.Puts.{nulls-size}
+use Rattle.promises.specs.Buffers.{Touched, Buffers}
+
+-- a store that went well: where it ended
+store-ends : (buf : List ℕ) (o : ℕ) (bytes : List ℕ) (n : ℕ) (left : List ℕ) → store buf o bytes ≡ ok (n, left) → n ≡ o + length bytes
+unfolding store
+store-ends buf o bytes n left e =
+    let t = test-is-ok (leb (o + length bytes) (length buf)) (o + length bytes, stored buf o bytes) (why 8 0) (n, left) e in
+    ap (λ (x : ℕ × List ℕ). x .0) (sym (t .1))
+
+-- and what it touched
+stores : (buf : List ℕ) (o : ℕ) (bytes : List ℕ) (n : ℕ) (left : List ℕ) → store buf o bytes ≡ ok (n, left) → Touched buf o n left
+unfolding store
+stores buf o bytes n left e =
+    let t = test-is-ok (leb (o + length bytes) (length buf)) (o + length bytes, stored buf o bytes) (why 8 0) (n, left) e in
+    let h = leb-true (o + length bytes) (length buf) (t .0) in
+    let l : o ≤ length buf = omega arith in
+    let d : drop (o + length bytes) (stored buf o bytes) ≡ drop (o + length bytes) buf =
+    sym (drop-drop (length bytes) o (stored buf o bytes)) ∙ ap (drop (length bytes)) (stored-from buf o bytes l) ∙ drop-append-seam bytes (drop (o + length bytes) buf) in
+    subst (λ (x : ℕ × List ℕ). Touched buf o (x .0) (x .1)) (t .1) (record { size = length-stored buf o bytes h; before = stored-front buf o bytes l; behind = d })
+
+temporals : (k : Kind) (place : ℕ) (buf : List ℕ) (o : ℕ) (t : Temporal) (n : ℕ) (left : List ℕ) → writeTemporal k place buf o t ≡ ok (n, left) → Touched buf o n left
+unfolding writeTemporal
+temporals k place buf o t n left e =
+    by-test (domain k t) _ _ _ e (λ u f. stores buf o (bytesOf k t) n left f) (λ u f. absurd (ok-not-refused (sym f)))
+
+values : (c : Column) (place : ℕ) (lent : List ℕ) (v : Value) (buf : List ℕ) (o n : ℕ) (left : List ℕ) → writeValue (shapeOf c) place lent v buf o ≡ ok (n, left) → Touched buf o n left
+unfolding writeValue
+values c place lent v buf o n left e =
+    let x = after-is-ok (storedBytes (shapeOf c) place lent v) (λ b. store buf o b) (n, left) e in
+    stores buf o (x .0) n left (x .2)
+
+events : (p : Parts) (buf : List ℕ) (n : ℕ) (left : List ℕ) → writeEvent p buf ≡ ok (n, left) → Touched buf 0 n left
+unfolding writeEvent
+events p buf n left e = by-test (isEvent p) _ _ _ e (λ u f. stores buf 0 (eventBytes p) n left f) (λ u f. absurd (ok-not-refused (sym f)))
+
+maps : (d : Dialect) (event : List ℕ) (postHeader : ℕ) (buf : List ℕ) (n : ℕ) (left : List ℕ) → check d event postHeader buf ≡ ok (n, left) → Touched buf 0 n left
+unfolding check
+maps d event postHeader buf n left e =
+    let x = after-is-ok (checkMap d event postHeader) (λ es. store buf 0 (recordBytes es)) (n, left) e in
+    stores buf 0 (recordBytes (x .0)) n left (x .2)
+
+-- the first cursor stands behind the null bits
+starts : (r p nulls buf : List ℕ) (next : Cursor) (left : List ℕ) → startImage r p nulls buf ≡ ok (next, left) → Touched buf 0 (next .offset) left
+unfolding startImage
+starts r p nulls buf next left e =
+    let a = after-is-ok (headNulls r p nulls) _ (next, left) e in
+    let h = a .0 in
+    let c = countBits p (h .columns) in
+    let b = after-is-ok (store buf 0 (filled c nulls)) _ (next, left) (a .2) in
+    let x = b .0 in
+    let m = nulls-tested r p nulls (a .1) .1 in
+    let f = fill-length c nulls (nulls-size r p nulls buf (a .1) c refl) in
+    let z = store-ends buf 0 (filled c nulls) (x .0) (x .1) (b .1) in
+    let q = same-ok (b .2) in
+    let i : h .nulls ≡ next .offset = ap (λ (y : Cursor × List ℕ). y .0 .offset) q in
+    let j : x .1 ≡ left = ap (λ (y : Cursor × List ℕ). y .1) q in
+    let k : x .0 ≡ next .offset = omega arith in
+    subst (λ (y : List ℕ). Touched buf 0 (next .offset) y) j (subst (λ (y : ℕ). Touched buf 0 y (x .1)) k (stores buf 0 (filled c nulls) (x .0) (x .1) (b .1)))
+
+-- a step's cursor stands behind its value
+put-over : (is : List Slot) (c : Cursor) (lent : List ℕ) (v : Value) (buf : List ℕ) (next : Cursor) (left : List ℕ) → putOver is c lent v buf ≡ ok (next, left)
+    → Touched buf (c .offset) (next .offset) left
+unfolding putOver
+put-over [] c lent v buf next left e = absurd (ok-not-refused (sym e))
+put-over (i ∷ is) c lent v buf next left e =
+    let a = after-is-ok (slotBytes i lent v) _ (next, left) e in
+    let b = after-is-ok (store buf (c .offset) (a .0)) _ (next, left) (a .2) in
+    let x = b .0 in
+    let q = same-ok (b .2) in
+    let k : x .0 ≡ next .offset = ap (λ (y : Cursor × List ℕ). y .0 .offset) q in
+    let j : x .1 ≡ left = ap (λ (y : Cursor × List ℕ). y .1) q in
+    subst (λ (y : List ℕ). Touched buf (c .offset) (next .offset) y) j
+    (subst (λ (y : ℕ). Touched buf (c .offset) y (x .1)) k (stores buf (c .offset) (a .0) (x .0) (x .1) (b .1)))
+
+puts : (r p nulls : List ℕ) (c : Cursor) (lent : List ℕ) (v : Value) (buf : List ℕ) (next : Cursor) (left : List ℕ) → putFrom r p nulls c lent v buf ≡ ok (next, left)
+    → Touched buf (c .offset) (next .offset) left
+unfolding putFrom
+puts r p nulls c lent v buf next left e =
+    let a = after-is-ok (headNulls r p nulls) _ (next, left) e in
+    by-test (ltb (a .0 .columns) (c .column)) _ _ _ (a .2) (λ u f. absurd (ok-not-refused (sym f)))
+    (λ u f. put-over (slotsAt r p nulls (c .column)) c lent v buf next left f)
+
+pub buffers : Buffers
+buffers = record {
+  write-bytes = stores;
+  write-bit = λ buf o digit on n left e. stores buf o (withDigit (getD buf o 0) digit on ∷ []) n left e;
+  write-temporal = temporals;
+  write-value = values;
+  write-event = events;
+  check-map = maps;
+  start-image = starts;
+  put-value = puts;
+}

@@ -1,0 +1,109 @@
+-- Demand 1: every call refuses as it is listed, with a number of the table, and a refusal leaves the buffer. Assumes nothing.
+use Prim.Native.Nat.{ℕ, _≤_}
+use mathlib.Core.Path.{_≡_, refl}
+use mathlib.Core.Bool.{true, _&&_}
+use mathlib.Core.List.{List, [], _∷_}
+use native.Mathlib.Omega.{arith}
+use borrow.Author.Tests.{leb-true}
+use lib.ListN.{getD}
+use lib.Dec.{leb}
+use Rattle.wire.specs.declared.refusal.Refusal.{Refusal}
+use Rattle.wire.specs.Outcome.{Outcome, ok, refused}
+use Rattle.wire.specs.Bits.{withDigit}
+use Rattle.wire.specs.Stored.{answerOf, leftOf}
+use Rattle.wire.proofs.Outcomes.{ok-not-refused, same-refused}
+use Rattle.temporal.proofs.Ranges.{and-true}
+use Rattle.value.specs.Columns.{shapeOf}
+use Rattle.table_map.specs.Lists.{integerItem, pairItem, stringItem, groupItem}
+use Rattle.map_check.specs.Names.{listOf, columnName}
+use Rattle.promises.specs.Refusals.{Line, _at_, _below_, _upTo_, OneOf, just, under, most, later, numberOf, inTable, Only, EveryCall}
+use Rattle.promises.proofs.Only.{Listed, packed, room}
+use Rattle.promises.proofs.Values.{temporal-read, temporal-written, four-or-five, column-taken, value-read, value-written, value-sized}
+use Rattle.promises.proofs.Maps.{long-part, event-read, event-written, event-sized, pair, group, stepped, field-stepped, checked, string-found}
+use Rattle.promises.proofs.Rows.{record-read, first-read, image-stepped, image-started, image-put}
+
+-- a refusal that is listed has a listed number, and those are in the table
+line-number : (l : Line) (ls : List Line) → inTable (l ∷ ls) ≡ true → (1 ≤ numberOf l) × (numberOf l ≤ 14)
+unfolding inTable
+line-number l ls t =
+    let x = and-true (leb 1 (numberOf l)) (leb (numberOf l) 14 && inTable ls) t in
+    let y = and-true (leb (numberOf l) 14) (inTable ls) (x .1) in
+    (leb-true 1 (numberOf l) (x .0), leb-true (numberOf l) 14 (y .0))
+
+lines-after : (l : Line) (ls : List Line) → inTable (l ∷ ls) ≡ true → inTable ls ≡ true
+unfolding inTable
+lines-after l ls t = and-true (leb (numberOf l) 14) (inTable ls) (and-true (leb 1 (numberOf l)) (leb (numberOf l) 14 && inTable ls) t .1) .1
+
+in-table : (ls : List Line) (w : Refusal) → inTable ls ≡ true → OneOf ls w → (1 ≤ w .number) × (w .number ≤ 14)
+in-table (n at p ∷ ls) w t just = line-number (n at p) ls t
+in-table (n below q ∷ ls) w t (under h) = line-number (n below q) ls t
+in-table (n upTo q ∷ ls) w t (most h) = line-number (n upTo q) ls t
+in-table (l ∷ ls) w t (later o) = in-table ls w (lines-after l ls t) o
+
+-- a writer's answer is that of its rule
+kept : {A : Type 0} (buf : List ℕ) (rule : Outcome (A × List ℕ)) (w : Refusal) → answerOf rule ≡ refused w → (rule ≡ refused w) × (leftOf buf rule ≡ buf)
+kept buf (ok x) w e = absurd (ok-not-refused e)
+kept buf (refused v) w e = let x : v ≡ w = same-refused e in (rw x, refl)
+
+-- both parts of a statement
+only : {A : Type 0} {answer : Outcome A} {ls : List Line} → inTable ls ≡ true → Listed ls answer → Only answer ls
+only t h = record { table = t; listed = h }
+
+-- which line of a list it is
+second : {a : Line} {ls : List Line} {w : Refusal} → OneOf ls w → OneOf (a ∷ ls) w
+second o = later o
+
+third : {a b : Line} {ls : List Line} {w : Refusal} → OneOf ls w → OneOf (a ∷ b ∷ ls) w
+third o = later (second o)
+
+fourth : {a b c : Line} {ls : List Line} {w : Refusal} → OneOf ls w → OneOf (a ∷ b ∷ c ∷ ls) w
+fourth o = later (third o)
+
+fifth : {a b c d : Line} {ls : List Line} {w : Refusal} → OneOf ls w → OneOf (a ∷ b ∷ c ∷ d ∷ ls) w
+fifth o = later (fourth o)
+
+sixth : {a b c d e : Line} {ls : List Line} {w : Refusal} → OneOf ls w → OneOf (a ∷ b ∷ c ∷ d ∷ e ∷ ls) w
+sixth o = later (fifth o)
+
+seventh : {a b c d e f : Line} {ls : List Line} {w : Refusal} → OneOf ls w → OneOf (a ∷ b ∷ c ∷ d ∷ e ∷ f ∷ ls) w
+seventh o = later (sixth o)
+
+eighth : {a b c d e f g : Line} {ls : List Line} {w : Refusal} → OneOf ls w → OneOf (a ∷ b ∷ c ∷ d ∷ e ∷ f ∷ g ∷ ls) w
+eighth o = later (seventh o)
+
+pub refusals : EveryCall
+unfolding inTable columnName
+refusals = record {
+  read-packed = λ s o. only refl (packed s o just (second just));
+  write-bytes = λ buf o bytes. only refl (room buf o bytes just);
+  write-bit = λ buf o digit on. only refl (room buf o (withDigit (getD buf o 0) digit on ∷ []) just);
+  read-temporal = λ k place s o. only refl (temporal-read k place s o just (second just));
+  write-temporal = λ k place buf o t. only refl (temporal-written k place buf o t just (second just));
+  read-value = λ c place s o. only refl (value-read (shapeOf c) place s o (column-taken c place just (second just)) (third just) (fourth just));
+  write-value = λ c place lent v buf o. only refl (value-written (shapeOf c) place lent v buf o (column-taken c place just (second just)) (third just) (fourth just));
+  value-size = λ c place lent v. only refl (value-sized (shapeOf c) place lent v (column-taken c place just (second just)) (third just));
+  shape-of = four-or-five;
+  read-event = λ event postHeader. only refl (event-read event (λ p h. most h) (λ p h. second (most h)) postHeader);
+  write-event = λ p buf. only refl (event-written p buf just (second just));
+  event-size = λ p. only refl (event-sized p just (second just));
+  next-field = λ c s. only refl (field-stepped c s just (second just) (third just) (fourth just) (fifth just));
+  next-integer = λ s o. only refl (stepped integerItem s o (λ h. just) (λ h. packed s o just (second just)));
+  next-string = λ s o. only refl (stepped stringItem s o (λ h. just) (λ h. long-part s o just (second just)));
+  next-pair = λ s o. only refl (stepped pairItem s o (λ h. just) (λ h. pair s (λ p l. second (most l)) (λ p l. third (most l)) o (omega arith)));
+  next-group = λ s o. only refl (stepped groupItem s o (λ h. just) (λ h. group s (λ p l. second (most l)) (λ p l. third (most l)) o (omega arith)));
+  default-charset = λ value. only refl (packed value 0 just (second just));
+  read-record = λ r. only refl (record-read r just);
+  check-map = λ d event postHeader buf n e.
+      only refl
+      (checked event (λ p h. most h) (λ p h. second (most h)) (λ p h. sixth (under h)) (λ p h. seventh (under h)) (third just) (eighth just) d postHeader buf n e (λ p h. fourth (under h))
+      (λ p h. fifth (most h)));
+  column-name = λ names operator c.
+      only refl (string-found (listOf names operator) (c .0) (c .0) just (λ p h. second (under h)) (λ p h. third (under h)) 0 (omega arith));
+  first-cursor = λ r p. only refl (first-read just (second just) r p);
+  step-image = λ r p im c.
+      only refl (image-stepped r p im c just (second just) (third just) (fourth just) (fifth just) (λ j h. sixth (under h)) (λ j h. seventh (under h)));
+  start-image = λ r p nulls buf. only refl (image-started r p nulls buf just (second just) (third just));
+  put-value = λ r p nulls c lent v buf. only refl (image-put r p nulls c lent v buf just (second just) (third just) (λ j h. fourth (under h)) (fifth just));
+  numbered = λ answer ls w o e. in-table ls w (o .table) (o .listed w e);
+  buffer-kept = kept;
+}

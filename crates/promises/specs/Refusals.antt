@@ -1,0 +1,139 @@
+-- Demand 1: "Every public call ends with an answer for all input, hostile counts and short metadata included. A refusal is a number and a place from document 01's table, and lent buffers
+-- then hold what they held." That every call ends is no statement here: the checker accepts no function that might not, and no public one has a condition on its input. Stated is, for every
+-- public call that can refuse, which refusals it gives and at which places; that their numbers are those of the table; and that a refusal leaves the buffer. A call stands here by the
+-- definition that its contract equals, whatever it is lent. `refusals` in proofs/Refusals.antt proves all of it. Assumes nothing.
+use Prim.Native.Nat.{ℕ, _+_, _≤_, _<_}
+use mathlib.Core.Path.{_≡_}
+use mathlib.Core.Bool.{Bool, true, _&&_}
+use mathlib.Core.Logic.{_⊎_}
+use mathlib.Core.List.{List, [], _∷_}
+use lib.ListN.{length}
+use lib.Dec.{leb}
+use Rattle.wire.specs.declared.refusal.Refusal.{Refusal}
+use Rattle.wire.specs.Outcome.{Outcome, refused, why}
+use Rattle.wire.specs.Packed.{readPacked}
+use Rattle.wire.specs.Stored.{store, answerOf, leftOf}
+use Rattle.wire.specs.Bits.{storeDigit}
+use Rattle.temporal.specs.declared.kind.Kind.{Kind}
+use Rattle.temporal.specs.declared.parts.Temporal.{Temporal}
+use Rattle.temporal.specs.Reading.{readTemporal, writeTemporal}
+use Rattle.value.specs.declared.column.Column.{Column}
+use Rattle.value.specs.declared.column.Dialect.{Dialect}
+use Rattle.value.specs.declared.datum.Value.{Value}
+use Rattle.value.specs.declared.shape.Shape.the-variants.{NotTaken}
+use Rattle.value.specs.Columns.{shapeOf}
+use Rattle.value.specs.Reading.{readValue}
+use Rattle.value.specs.Storing.{writeValue, sizeOf}
+use Rattle.table_map.specs.declared.field.Fields.{Fields}
+use Rattle.table_map.specs.Events.{readEvent, partIn}
+use Rattle.table_map.specs.Writes.{Parts, writeEvent, eventSize}
+use Rattle.table_map.specs.Lists.{step, integerItem, pairItem, stringItem, groupItem, defaultCharset}
+use Rattle.table_map.specs.Fields.{fieldStep}
+use Rattle.record.specs.Records.{countOf, readRecord}
+use Rattle.map_check.specs.declared.rank.Place.{Place}
+use Rattle.map_check.specs.Check.{check}
+use Rattle.map_check.specs.Names.{listOf, columnName}
+use Rattle.image.specs.declared.cursor.Cursor.{Cursor}
+use Rattle.image.specs.Split.{firstCursor, stepFrom}
+use Rattle.image.specs.Puts.{startImage, putFrom}
+
+infix 70 _at_
+infix 70 _below_
+infix 70 _upTo_
+-- ---- how refusals are listed
+-- a number at just this place; at a place below this; at a place of at most this
+pub data Line : Type 0 where
+  _at_ : ℕ → ℕ → Line
+  _below_ : ℕ → ℕ → Line
+  _upTo_ : ℕ → ℕ → Line
+
+-- the refusal is one of those listed
+pub data OneOf : List Line → Refusal → Type 0 where
+  just : {n p : ℕ} {ls : List Line} → OneOf (n at p ∷ ls) (why n p)
+  under : {n p q : ℕ} {ls : List Line} → p < q → OneOf (n below q ∷ ls) (why n p)
+  most : {n p q : ℕ} {ls : List Line} → p ≤ q → OneOf (n upTo q ∷ ls) (why n p)
+  later : {l : Line} {ls : List Line} {w : Refusal} → OneOf ls w → OneOf (l ∷ ls) w
+
+abbrev pub numberOf : Line → ℕ
+numberOf (n at p) = n
+numberOf (n below p) = n
+numberOf (n upTo p) = n
+
+-- all numbers are in document 01's table
+unfoldable pub inTable : List Line → Bool
+inTable [] = true
+inTable (l ∷ ls) = leb 1 (numberOf l) && (leb (numberOf l) 14 && inTable ls)
+
+-- where the answer is a refusal, it is one of those listed
+pub record Only {A : Type 0} (answer : Outcome A) (ls : List Line) : Type 0 where
+  pub table : inTable ls ≡ true
+  pub listed : (w : Refusal) → answer ≡ refused w → OneOf ls w
+
+-- ---- demand 1
+pub record EveryCall : Type 1 where
+  -- ---- `wire`. `read_le`, `read_be`, `packed_size`, `bytes_for`, `bit_lsb0`, `bit_msb0` and `has_room` refuse nothing; `refuse` makes a refusal
+  -- `read_packed`: the offset asked
+  pub read-packed : (s : List ℕ) (o : ℕ) → Only (readPacked s o) (1 at o ∷ 2 at o ∷ [])
+  -- `write_packed`, `write_le`, `write_be`, `write_bytes`, and of `record` `write_entry` and `write_head`: each stores some bytes, from an offset on
+  pub write-bytes : (buf : List ℕ) (o : ℕ) (bytes : List ℕ) → Only (store buf o bytes) (8 at 0 ∷ [])
+  -- `write_bit_lsb0`, `write_bit_msb0`
+  pub write-bit : (buf : List ℕ) (o digit : ℕ) (on : Bool) → Only (storeDigit buf o digit on) (8 at 0 ∷ [])
+  -- ---- `temporal`. The place is the one that the caller names. `temporal_size` and `in_domain` refuse nothing
+  -- `read_temporal`, `write_temporal`
+  pub read-temporal : (k : Kind) (place : ℕ) (s : List ℕ) (o : ℕ) → Only (readTemporal k place s o) (9 at place ∷ 10 at place ∷ [])
+  pub write-temporal : (k : Kind) (place : ℕ) (buf : List ℕ) (o : ℕ) (t : Temporal) → Only (writeTemporal k place buf o t) (13 at place ∷ 8 at 0 ∷ [])
+  -- ---- `value`. The place is the one that the caller names, and 0 for a lone value. `is_accepted`, `family_of`, `is_known`, `metadata_bytes`, `real_type`, `is_numeric`, `has_sign_bit`,
+  -- `is_character`, `has_charset` and `is_enum_or_set` refuse nothing
+  -- `read_value`, `read_lone`
+  pub read-value : (c : Column) (place : ℕ) (s : List ℕ) (o : ℕ) → Only (readValue (shapeOf c) place s o) (4 at place ∷ 5 at place ∷ 9 at place ∷ 10 at place ∷ [])
+  -- `write_value`, `write_lone`
+  pub write-value : (c : Column) (place : ℕ) (lent : List ℕ) (v : Value) (buf : List ℕ) (o : ℕ)
+      → Only (writeValue (shapeOf c) place lent v buf o) (4 at place ∷ 5 at place ∷ 13 at place ∷ 8 at 0 ∷ [])
+  -- `value_size`, `lone_size`
+  pub value-size : (c : Column) (place : ℕ) (lent : List ℕ) (v : Value) → Only (sizeOf (shapeOf c) place lent v) (4 at place ∷ 5 at place ∷ 13 at place ∷ [])
+  -- `shape_of`: the number, without a place, for a column that there is not
+  pub shape-of : (c : Column) (n : ℕ) → shapeOf c ≡ NotTaken n → (n ≡ 4) ⊎ (n ≡ 5)
+  -- ---- `table_map`. `part_of`, `Fields::new` and `flag` refuse nothing; `database_name`, `table_name`, `column_types`, `column_metadata`, `nullable_bits` and `optional_metadata` hand back an
+  -- empty part where the event is refused
+  -- `read_event`: an offset of the event, or its end
+  pub read-event : (event : List ℕ) (postHeader : ℕ) → Only (readEvent event postHeader) (1 upTo length event ∷ 2 upTo length event ∷ [])
+  -- `write_event`, `event_size`
+  pub write-event : (p : Parts) (buf : List ℕ) → Only (writeEvent p buf) (13 at 0 ∷ 8 at 0 ∷ [])
+  pub event-size : (p : Parts) → Only (eventSize p) (13 at 0 ∷ 8 at 0 ∷ [])
+  -- `Fields::next`: the field's type byte, or its length's first byte behind it; a cursor past the bytes is 1 where it stands
+  pub next-field : (c : Fields) (s : List ℕ) → Only (fieldStep c s) (1 at c .at ∷ 1 at (c .at + 1) ∷ 2 at (c .at + 1) ∷ 6 at c .at ∷ 7 at c .at ∷ [])
+  -- `next` of `Integers` and `Strings`: where the cursor stands
+  pub next-integer : (s : List ℕ) (o : ℕ) → Only (step integerItem s o) (1 at o ∷ 2 at o ∷ [])
+  pub next-string : (s : List ℕ) (o : ℕ) → Only (step stringItem s o) (1 at o ∷ 2 at o ∷ [])
+  -- `next` of `Pairs` and `Groups`: where an integer or a string of the item starts, or would start at the end of the bytes; a cursor past them is 1 where it stands
+  pub next-pair : (s : List ℕ) (o : ℕ) → Only (step pairItem s o) (1 at o ∷ 1 upTo length s ∷ 2 upTo length s ∷ [])
+  pub next-group : (s : List ℕ) (o : ℕ) → Only (step groupItem s o) (1 at o ∷ 1 upTo length s ∷ 2 upTo length s ∷ [])
+  -- `default_charset`: the start of the value
+  pub default-charset : (value : List ℕ) → Only (defaultCharset value) (1 at 0 ∷ 2 at 0 ∷ [])
+  -- ---- `record`. `record_valid`, `entry_in`, `entry_holds` and `column_of` refuse nothing
+  -- `read_record`
+  pub read-record : (r : List ℕ) → Only (readRecord r) (11 at 0 ∷ [])
+  -- ---- `map_check`. `name_part` and the calls for the names field (`names_field`) hand back an empty part where there is a refusal
+  -- `check`: 1, 2, 6 and 7 at an offset of the event; 4 at a column, and 5 too, or at n for metadata left over, n being how many type bytes the event has
+  pub check-map : (d : Dialect) (event : List ℕ) (postHeader : ℕ) (buf : List ℕ) (n : ℕ) → n ≡ length (partIn (λ e. e .types) event (readEvent event postHeader))
+      → Only (check d event postHeader buf)
+      (1 upTo length event ∷ 2 upTo length event ∷ 3 at 0 ∷ 4 below n ∷ 5 upTo n ∷ 6 below length event ∷ 7 below length event ∷ 8 at 0 ∷ [])
+  -- `column_name`: the column asked, or an offset of the list that is looked at
+  pub column-name : (names operator : List ℕ) (c : Place)
+      → Only (columnName names operator c) (14 at c .0 ∷ 1 below length (listOf names operator) ∷ 2 below length (listOf names operator) ∷ [])
+  -- ---- `image`; r is the record, p the presence bits. `value_bytes` refuses nothing
+  -- `first_cursor`
+  pub first-cursor : (r p : List ℕ) → Only (firstCursor r p) (11 at 0 ∷ 12 at 0 ∷ [])
+  -- `Cursor::step`: 14 at the cursor's column; 9 at 0 in the null bits, at the cursor's column for an offset past the image, and else, as 10, at one of the record's columns
+  pub step-image : (r p im : List ℕ) (c : Cursor)
+      → Only (stepFrom r p im c) (11 at 0 ∷ 12 at 0 ∷ 14 at c .column ∷ 9 at 0 ∷ 9 at c .column ∷ 9 below countOf r ∷ 10 below countOf r ∷ [])
+  -- `start`
+  pub start-image : (r p nulls buf : List ℕ) → Only (startImage r p nulls buf) (11 at 0 ∷ 12 at 0 ∷ 8 at 0 ∷ [])
+  -- `Cursor::put`: 14 at the cursor's column, 13 at one of the record's columns
+  pub put-value : (r p nulls : List ℕ) (c : Cursor) (lent : List ℕ) (v : Value) (buf : List ℕ)
+      → Only (putFrom r p nulls c lent v buf) (11 at 0 ∷ 12 at 0 ∷ 14 at c .column ∷ 13 below countOf r ∷ 8 at 0 ∷ [])
+  -- ---- all calls
+  -- every refusal so listed has a number of the table
+  pub numbered : {A : Type 0} (answer : Outcome A) (ls : List Line) (w : Refusal) → Only answer ls → answer ≡ refused w → (1 ≤ w .number) × (w .number ≤ 14)
+  -- where a writer answers a refusal, that is its rule's, and the buffer that it leaves is the one that it was lent
+  pub buffer-kept : {A : Type 0} (buf : List ℕ) (rule : Outcome (A × List ℕ)) (w : Refusal) → answerOf rule ≡ refused w → (rule ≡ refused w) × (leftOf buf rule ≡ buf)
