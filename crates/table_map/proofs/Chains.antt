@@ -4,19 +4,19 @@ use mathlib.Core.Path.{_≡_, refl, sym, ap, subst, _∙_}
 use mathlib.Core.List.{List}
 use mathlib.Core.Bool.{Bool, true, false, cond}
 use native.Mathlib.Omega.{arith}
-use borrow.Author.Tests.{leb-true}
+use borrow.Author.Tests.{leb-true, le-leb}
 use lib.ListN.{length, getD, take, drop}
 use lib.Dec.{leb, eqb}
 use Rattle.wire.specs.Bits.{bytesFor}
-use Rattle.wire.specs.Outcome.{ok, why}
+use Rattle.wire.specs.Outcome.{Outcome, ok, refused, why}
 use Rattle.wire.specs.Number.{leValue}
 use Rattle.wire.specs.Packed.{readPacked}
 use Rattle.wire.proofs.Outcomes.{test-is-ok, after-is-ok, same-ok}
 use Rattle.wire.proofs.Forms.{read-moves}
 use Rattle.table_map.specs.declared.event.Part.{Part}
 use Rattle.table_map.specs.declared.event.Event.{Event}
-use Rattle.table_map.specs.Parts.{within, shortPart, longPart}
-use Rattle.table_map.specs.Events.{idBytes, readNames, readColumns, readEvent}
+use Rattle.table_map.specs.Parts.{part, lentPart, within, shortPart, longPart}
+use Rattle.table_map.specs.Events.{idBytes, readNames, readColumns, readEvent, noEvent, orNone, partIn}
 
 -- bytes that are all there
 pub within-ok : (s : List ℕ) (at n place next : ℕ) → within s at n place ≡ ok next → (next ≡ at + n) × (next ≤ length s)
@@ -243,3 +243,12 @@ each-within s postHeader e r =
     let p = o .optional in
     let n = o .ends in
     record { database = omega arith; table = omega arith; types = omega arith; metadata = omega arith; bits = omega arith; optional = omega arith }
+
+-- so to lend a part of what was read is to say its bytes: none where the event is refused
+pub lent-is-part : (f : Event → Part) → f noEvent ≡ part 0 0 → (s : List ℕ) (postHeader : ℕ) → ((e : Event) → Within s e → f e .start + f e .len ≤ length s)
+    → lentPart s (f (orNone (readEvent s postHeader))) ≡ partIn f s (readEvent s postHeader)
+lent-is-part f none s postHeader ends = go (readEvent s postHeader) refl
+  where
+    go : (o : Outcome Event) → readEvent s postHeader ≡ o → lentPart s (f (orNone o)) ≡ partIn f s o
+    go (ok e) r = rw (le-leb _ _ (ends e (each-within s postHeader e r)))
+    go (refused r) _ = rw (none, le-leb 0 (length s) (omega arith))

@@ -62,6 +62,25 @@ abbrev pub eventOf : EventRead → Outcome Event
 eventOf (Read e) = ok e
 eventOf (Refused r) = refused r
 
+-- an event without any bytes
+abbrev pub noEvent : Event
+noEvent =
+    record {
+      id = 0;
+      flags = 0;
+      database = part 0 0;
+      table = part 0 0;
+      types = part 0 0;
+      metadata = part 0 0;
+      bits = part 0 0;
+      optional = part 0 0;
+    }
+
+-- the event that was read, and where it is refused that without bytes
+abbrev pub orNone : Outcome Event → Event
+orNone (ok e) = e
+orNone (refused r) = noEvent
+
 -- one part of an event, as its bytes: empty where the event is refused
 abbrev pub partIn : (Event → Part) → List ℕ → Outcome Event → List ℕ
 partIn f s (ok e) = partOf s (f e)

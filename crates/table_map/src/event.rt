@@ -7,7 +7,7 @@ use wire::refusal::SHORT;
 ghost use mathlib.Core.Path.{_≡_};
 ghost use Rattle.wire.specs.Packed.{readPacked};
 ghost use Rattle.table_map.specs.Parts.{lentPart, within, shortPart, partRead};
-ghost use Rattle.table_map.specs.Events.{idBytes, readNames, readColumns, readEvent, eventOf, partIn};
+ghost use Rattle.table_map.specs.Events.{idBytes, readNames, readColumns, readEvent, eventOf, orNone, partIn};
 ghost use Rattle.table_map.specs.Reads.{placeOf, announcedOf, namesOf, columnsOf};
 
 // The post-header length of events whose table id has 4 bytes.
@@ -248,74 +248,63 @@ pub fn part_of(s: &[u8], part: Part) -> &[u8]
 
 // ---- the parts of an event, uncopied: empty where it is refused
 
+// The event, and where it is refused one whose parts are empty.
+fn event_or_none(event: &[u8], post_header: u8) -> Event
+    ensures { λ r. ⌜ r ≡ orNone (readEvent (now (event .entry)) «post_header») ⌝ }
+{
+    match read_event(event, post_header) {
+        EventRead::Read(e) => e,
+        EventRead::Refused(_) => Event {
+            id: 0,
+            flags: 0,
+            database: Part { start: 0, len: 0 },
+            table: Part { start: 0, len: 0 },
+            types: Part { start: 0, len: 0 },
+            metadata: Part { start: 0, len: 0 },
+            bits: Part { start: 0, len: 0 },
+            optional: Part { start: 0, len: 0 },
+        },
+    }
+}
+
 // The name of the database.
 pub fn database_name(event: &[u8], post_header: u8) -> &[u8]
     ensures { λ r. ⌜ now r ≡ partIn (λ e. e .database) (now (event .entry)) (readEvent (now (event .entry)) «post_header») ⌝ }
 {
-    let e = match read_event(event, post_header) {
-        EventRead::Read(e) => e,
-        EventRead::Refused(_) => return &event[0..0],
-    };
-    let part = e.database;
-    part_of(event, part)
+    part_of(event, event_or_none(event, post_header).database)
 }
 
 // The name of the table.
 pub fn table_name(event: &[u8], post_header: u8) -> &[u8]
     ensures { λ r. ⌜ now r ≡ partIn (λ e. e .table) (now (event .entry)) (readEvent (now (event .entry)) «post_header») ⌝ }
 {
-    let e = match read_event(event, post_header) {
-        EventRead::Read(e) => e,
-        EventRead::Refused(_) => return &event[0..0],
-    };
-    let part = e.table;
-    part_of(event, part)
+    part_of(event, event_or_none(event, post_header).table)
 }
 
 // A type byte for each column.
 pub fn column_types(event: &[u8], post_header: u8) -> &[u8]
     ensures { λ r. ⌜ now r ≡ partIn (λ e. e .types) (now (event .entry)) (readEvent (now (event .entry)) «post_header») ⌝ }
 {
-    let e = match read_event(event, post_header) {
-        EventRead::Read(e) => e,
-        EventRead::Refused(_) => return &event[0..0],
-    };
-    let part = e.types;
-    part_of(event, part)
+    part_of(event, event_or_none(event, post_header).types)
 }
 
 // The metadata of all columns.
 pub fn column_metadata(event: &[u8], post_header: u8) -> &[u8]
     ensures { λ r. ⌜ now r ≡ partIn (λ e. e .metadata) (now (event .entry)) (readEvent (now (event .entry)) «post_header») ⌝ }
 {
-    let e = match read_event(event, post_header) {
-        EventRead::Read(e) => e,
-        EventRead::Refused(_) => return &event[0..0],
-    };
-    let part = e.metadata;
-    part_of(event, part)
+    part_of(event, event_or_none(event, post_header).metadata)
 }
 
 // A bit for each column, the lowest of each byte first: whether it can be NULL.
 pub fn nullable_bits(event: &[u8], post_header: u8) -> &[u8]
     ensures { λ r. ⌜ now r ≡ partIn (λ e. e .bits) (now (event .entry)) (readEvent (now (event .entry)) «post_header») ⌝ }
 {
-    let e = match read_event(event, post_header) {
-        EventRead::Read(e) => e,
-        EventRead::Refused(_) => return &event[0..0],
-    };
-    let part = e.bits;
-    part_of(event, part)
+    part_of(event, event_or_none(event, post_header).bits)
 }
 
 // The optional fields.
 pub fn optional_metadata(event: &[u8], post_header: u8) -> &[u8]
     ensures { λ r. ⌜ now r ≡ partIn (λ e. e .optional) (now (event .entry)) (readEvent (now (event .entry)) «post_header») ⌝ }
 {
-    let e = match read_event(event, post_header) {
-        EventRead::Read(e) => e,
-        EventRead::Refused(_) => return &event[0..0],
-    };
-    let part = e.optional;
-    part_of(event, part)
+    part_of(event, event_or_none(event, post_header).optional)
 }

@@ -1,55 +1,24 @@
 -- `table_map::event::nullable_bits` meets its contract. Assumes nothing.
-use mathlib.Core.Path.{sym, ap, _∙_}
-use borrow.Author.Tests.{le-leb}
-use Rattle.table_map.specs.Events.{eventOf}
-use Rattle.table_map.proofs.Chains.{each-within}
+use mathlib.Core.Path.{refl, _∙_}
+use Rattle.table_map.specs.declared.event.Event.{Event}
+use Rattle.table_map.proofs.Chains.{lent-is-part}
 use borrow.Author.Needs.{needs}
 use Rattle.table_map.proofs.event.nullable_bits.Statement.{statement}
 use Rattle.table_map.proofs.event.nullable_bits.Tie as tie
 use Rattle.table_map.proofs.event.nullable_bits.Reads as reads
 use Rattle.table_map.proofs.event.nullable_bits.Lts as lts
+use Rattle.table_map.proofs.event.event_or_none.Reads as event-or-none-reads
 use Rattle.table_map.proofs.event.part_of.Reads as part-of-reads
-use Rattle.table_map.proofs.event.read_event.Reads as read-event-reads
 
-read-event-requires : tie.Need-read-event-requires
-read-event-requires c κs = search needs
-
-enum-known-e : tie.Need-enum-known-e
-enum-known-e c = search needs
-
-enum-told : tie.Need-enum-told
-enum-told c = search needs
-
-sub-result : tie.Need-sub-result
-sub-result c = search needs
-
-part-result-start : tie.Need-part-result-start
-part-result-start c = search needs
-
-part-result-end : tie.Need-part-result-end
-part-result-end c = search needs
-
-returns : tie.Need-returns
-returns c = rw (sym (c .before .before .before .read-event .ensures) ∙ ap eventOf (c .before .enum-told .given .1))
+event-or-none-requires : tie.Need-event-or-none-requires
+event-or-none-requires c κs = search needs
 
 part-of-requires : tie.Need-part-of-requires
 part-of-requires c κs = search needs
 
-returns-2 : tie.Need-returns-2
-returns-2 c = let e = sym (c .before .before .before .before .before .read-event .ensures) ∙ ap eventOf (c .before .before .before .e .given .1) in
-    let h = each-within _ _ _ e .bits in
-    rw e (c .part-of .ensures ∙ rw (le-leb _ _ h))
+returns : tie.Need-returns
+returns c = let a = c .before .before .before .args in
+    c .part-of .ensures ∙ rw (c .before .event-or-none .ensures) (lent-is-part (λ (e : Event). e .bits) refl (a .event .now) (a .post-header) (λ e w. w .bits))
 
 pub nullable-bits-spec : {M : Type 1} → statement M
-nullable-bits-spec =
-    tie.close
-    (tie.spec
-    read-event-requires
-    enum-known-e
-    enum-told
-    sub-result
-    part-result-start
-    part-result-end
-    returns
-    part-of-requires
-    returns-2)
+nullable-bits-spec = tie.close (tie.spec event-or-none-requires part-of-requires returns)
