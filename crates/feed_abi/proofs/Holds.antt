@@ -1,8 +1,7 @@
 -- A value whose parts are within their bits, as the machine's are, is one that is made again of its kind and parts. Assumes nothing.
-use Prim.Native.Nat.{ℕ, _+_, _-_, _/_, _^_, _≤_, _<_}
+use Prim.Native.Nat.{ℕ, _^_, _≤_}
 use mathlib.Core.Path.{_≡_, refl}
-use mathlib.Core.Bool.{Bool, true, false, cond, _&&_}
-use mathlib.Core.List.{List, [], _∷_}
+use mathlib.Core.Bool.{Bool, true, false, cond}
 use native.Mathlib.Omega.{arith}
 use borrow.Author.Tests.{le-leb, lt-ltb}
 use lib.IntN.{ℤ, pos, negsuc}
@@ -15,7 +14,6 @@ use Rattle.temporal.specs.declared.parts.Date.{Date}
 use Rattle.temporal.specs.declared.parts.Moment.{Moment}
 use Rattle.temporal.specs.declared.parts.Time.{Time}
 use Rattle.temporal.specs.declared.parts.Temporal.the-variants.{Since, On, At, Lasts}
-use Rattle.value.specs.declared.datum.Value.{Value}
 use Rattle.value.specs.declared.datum.Value.the-variants.{Null, Int, Uint, Float, Double, Year, When, Bytes}
 use Rattle.value.specs.Data.{intIn}
 use Rattle.value.specs.Reading.{datumOf}
