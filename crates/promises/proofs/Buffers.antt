@@ -41,7 +41,7 @@ store-ends buf o bytes n left e =
     ap (λ (x : ℕ × List ℕ). x .0) (sym (t .1))
 
 -- and what it touched
-stores : (buf : List ℕ) (o : ℕ) (bytes : List ℕ) (n : ℕ) (left : List ℕ) → store buf o bytes ≡ ok (n, left) → Touched buf o n left
+pub stores : (buf : List ℕ) (o : ℕ) (bytes : List ℕ) (n : ℕ) (left : List ℕ) → store buf o bytes ≡ ok (n, left) → Touched buf o n left
 unfolding store
 stores buf o bytes n left e =
     let t = test-is-ok (leb (o + length bytes) (length buf)) (o + length bytes, stored buf o bytes) (why 8 0) (n, left) e in
