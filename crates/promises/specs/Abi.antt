@@ -18,6 +18,10 @@ use Rattle.promises.specs.Buffers.{Touched}
 abbrev pub Answered : ℕ → List ℕ → Outcome (List ℕ) → Type 0
 Answered k out answer = (ns : List ℕ) × (answer ≡ ok ns) × (k ≤ length out)
 
+-- an answer has k numbers
+abbrev pub Counts : ℕ → Outcome (List ℕ) → Type 0
+Counts k answer = (ns : List ℕ) → answer ≡ ok ns → length ns ≡ k
+
 pub record AbiCalls : Type 0 where
   -- ---- maps
   -- `feed_check`: 13 for a number that is no dialect; else as `check`, n being how many type bytes the event has
@@ -52,3 +56,14 @@ pub record AbiCalls : Type 0 where
   pub numbers-kept : (k : ℕ) (out : List ℕ) (answer : Outcome (List ℕ)) → 1 ≤ k → (statusOf k out answer ≡ 0 → ⊥) → Touched out 0 1 (numbersLeft k out answer)
   -- and the bytes lent to a writer are as they were
   pub bytes-kept : (k : ℕ) (out buf : List ℕ) (rule : Outcome (List ℕ × List ℕ)) → (statusOf k out (answerOf rule) ≡ 0 → ⊥) → bytesLeft k out buf rule ≡ buf
+  -- ---- how many numbers each answer has
+  pub check-one : (event : List ℕ) (postHeader dialect : ℕ) (buf : List ℕ) → Counts 1 (answerOf (feedCheck event postHeader dialect buf))
+  pub column-five : (r : List ℕ) (column : ℕ) → Counts 5 (feedColumn r column)
+  pub names-two : (event : List ℕ) (postHeader dialect : ℕ) → Counts 2 (feedNames event postHeader dialect)
+  pub name-two : (names operator : List ℕ) (column : ℕ) → Counts 2 (feedName names operator column)
+  pub first-two : (r p : List ℕ) → Counts 2 (feedFirst r p)
+  pub step-eleven : (r p im : List ℕ) (column offset : ℕ) → Counts 11 (feedStep r p im column offset)
+  pub start-two : (r p nulls im : List ℕ) → Counts 2 (answerOf (feedStart r p nulls im))
+  pub put-two : (r p nulls : List ℕ) (column offset kind : ℕ) (parts lent im : List ℕ) → Counts 2 (answerOf (feedPut r p nulls column offset kind parts lent im))
+  -- so many are touched, and no others
+  pub numbers-touched : (k : ℕ) (out : List ℕ) (answer : Outcome (List ℕ)) → Counts k answer → Answered k out answer → Touched out 0 k (numbersLeft k out answer)
