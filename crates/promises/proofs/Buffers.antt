@@ -7,7 +7,7 @@ use borrow.Author.Tests.{leb-true}
 use lib.ListN.{length, drop, getD}
 use lib.Seq.{drop-drop, drop-append-seam}
 use lib.Dec.{leb, ltb}
-use Rattle.wire.specs.Outcome.{ok, why}
+use Rattle.wire.specs.Outcome.{Outcome, ok, why}
 use Rattle.wire.specs.Bits.{withDigit}
 use Rattle.wire.specs.Stored.{stored, store}
 use Rattle.wire.proofs.Outcomes.{after-is-ok, test-is-ok, by-test, ok-not-refused, same-ok}
@@ -26,11 +26,13 @@ use Rattle.record.specs.Records.{recordBytes}
 use Rattle.map_check.specs.Check.{checkMap, check}
 use Rattle.image.specs.declared.cursor.Cursor.{Cursor}
 use Rattle.image.specs.Present.{countBits}
-use Rattle.image.specs.Split.{Slot, slotsAt}
+use Rattle.image.specs.Split.{Slot, cursor, slotsAt}
 use Rattle.image.specs.Puts.{filled, headNulls, startImage, slotBytes, putOver, putFrom}
 use Rattle.image.proofs.Fills.{fill-length}
 use Rattle.image.proofs.Heads.{nulls-tested}
 use Rattle.image.proofs.Puts.{nulls-size}
+use Rattle.feed_abi.specs.Parts.{valueOf}
+use Rattle.feed_abi.specs.Calls.{saidWith, one, cursorNumbers, dialectOf, feedCheck, feedStart, feedPut}
 use Rattle.promises.specs.Buffers.{Touched, Buffers}
 
 -- a store that went well: where it ended
@@ -41,7 +43,7 @@ store-ends buf o bytes n left e =
     ap (λ (x : ℕ × List ℕ). x .0) (sym (t .1))
 
 -- and what it touched
-stores : (buf : List ℕ) (o : ℕ) (bytes : List ℕ) (n : ℕ) (left : List ℕ) → store buf o bytes ≡ ok (n, left) → Touched buf o n left
+pub stores : (buf : List ℕ) (o : ℕ) (bytes : List ℕ) (n : ℕ) (left : List ℕ) → store buf o bytes ≡ ok (n, left) → Touched buf o n left
 unfolding store
 stores buf o bytes n left e =
     let t = test-is-ok (leb (o + length bytes) (length buf)) (o + length bytes, stored buf o bytes) (why 8 0) (n, left) e in
@@ -113,6 +115,36 @@ puts r p nulls c lent v buf next left e =
     by-test (ltb (a .0 .columns) (c .column)) _ _ _ (a .2) (λ u f. absurd (ok-not-refused (sym f)))
     (λ u f. put-over (slotsAt r p nulls (c .column)) c lent v buf next left f)
 
+-- ---- the calls of `feed_abi`: an answer in numbers is that of the rule, and the bytes left are the same
+in-numbers : {A : Type 0} (f : A → List ℕ) (o : Outcome (A × List ℕ)) (ns left : List ℕ) → saidWith f o ≡ ok (ns, left) → (a : A) × (o ≡ ok (a, left)) × (f a ≡ ns)
+in-numbers f o ns left e =
+    let x = after-is-ok o (λ y. ok (f (y .0), y .1)) (ns, left) e in
+    let q = same-ok (x .2) in
+    let l : x .0 .1 ≡ left = ap (λ (y : List ℕ × List ℕ). y .1) q in
+    (x .0 .0, x .1 ∙ ap (λ (b : List ℕ). ok (x .0 .0, b)) l, ap (λ (y : List ℕ × List ℕ). y .0) q)
+
+feed-checks : (event : List ℕ) (postHeader dialect : ℕ) (buf ns left : List ℕ) → feedCheck event postHeader dialect buf ≡ ok (ns, left) → Touched buf 0 (getD ns 0 0) left
+unfolding feedCheck
+feed-checks event postHeader dialect buf ns left e =
+    let d = after-is-ok (dialectOf dialect) _ (ns, left) e in
+    let x = in-numbers one (check (d .0) event postHeader buf) ns left (d .2) in
+    subst (λ (y : List ℕ). Touched buf 0 (getD y 0 0) left) (x .2) (maps (d .0) event postHeader buf (x .0) left (x .1))
+
+feed-starts : (r p nulls im ns left : List ℕ) → feedStart r p nulls im ≡ ok (ns, left) → Touched im 0 (getD ns 1 0) left
+unfolding feedStart
+feed-starts r p nulls im ns left e =
+    let x = in-numbers cursorNumbers (startImage r p nulls im) ns left e in
+    subst (λ (y : List ℕ). Touched im 0 (getD y 1 0) left) (x .2) (starts r p nulls im (x .0) left (x .1))
+
+feed-puts : (r p nulls : List ℕ) (column offset kind : ℕ) (parts lent im ns left : List ℕ) → feedPut r p nulls column offset kind parts lent im ≡ ok (ns, left)
+    → Touched im offset (getD ns 1 0) left
+unfolding feedPut
+feed-puts r p nulls column offset kind parts lent im ns left e =
+    let c = cursor column offset in
+    let v = after-is-ok (valueOf kind parts) _ (ns, left) e in
+    let x = in-numbers cursorNumbers (putFrom r p nulls c lent (v .0) im) ns left (v .2) in
+    subst (λ (y : List ℕ). Touched im offset (getD y 1 0) left) (x .2) (puts r p nulls c lent (v .0) im (x .0) left (x .1))
+
 pub buffers : Buffers
 buffers = record {
   write-bytes = stores;
@@ -123,4 +155,7 @@ buffers = record {
   check-map = maps;
   start-image = starts;
   put-value = puts;
+  feed-check = feed-checks;
+  feed-start = feed-starts;
+  feed-put = feed-puts;
 }

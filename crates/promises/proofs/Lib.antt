@@ -1,8 +1,9 @@
 -- The laws of the crate. `Only`: how a refusal is one of those listed; packed integers and stores. `Values`: temporals and values. `Maps`: events, lists and fields, the check,
--- names. `Rows`: records and row images. `Refusals`: demand 1. `Buffers`: what writers touch.
+-- names. `Rows`: records and row images. `Refusals`: demand 1. `Buffers`: what writers touch. `Abi`: demand 1 for the calls of `feed_abi`.
 pub mod Only
 pub mod Values
 pub mod Maps
 pub mod Rows
 pub mod Refusals
 pub mod Buffers
+pub mod Abi

@@ -46,11 +46,11 @@ kept buf (ok x) w e = absurd (ok-not-refused e)
 kept buf (refused v) w e = let x : v ≡ w = same-refused e in (rw x, refl)
 
 -- both parts of a statement
-only : {A : Type 0} {answer : Outcome A} {ls : List Line} → inTable ls ≡ true → Listed ls answer → Only answer ls
+pub only : {A : Type 0} {answer : Outcome A} {ls : List Line} → inTable ls ≡ true → Listed ls answer → Only answer ls
 only t h = record { table = t; listed = h }
 
 -- which line of a list it is
-second : {a : Line} {ls : List Line} {w : Refusal} → OneOf ls w → OneOf (a ∷ ls) w
+pub second : {a : Line} {ls : List Line} {w : Refusal} → OneOf ls w → OneOf (a ∷ ls) w
 second o = later o
 
 third : {a b : Line} {ls : List Line} {w : Refusal} → OneOf ls w → OneOf (a ∷ b ∷ ls) w

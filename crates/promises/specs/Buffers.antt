@@ -4,7 +4,7 @@ use Prim.Native.Nat.{ℕ}
 use mathlib.Core.Path.{_≡_}
 use mathlib.Core.Bool.{Bool}
 use mathlib.Core.List.{List}
-use lib.ListN.{length, take, drop}
+use lib.ListN.{length, getD, take, drop}
 use Rattle.wire.specs.Outcome.{ok}
 use Rattle.wire.specs.Stored.{store}
 use Rattle.wire.specs.Bits.{storeDigit}
@@ -20,6 +20,7 @@ use Rattle.table_map.specs.Writes.{Parts, writeEvent}
 use Rattle.map_check.specs.Check.{check}
 use Rattle.image.specs.declared.cursor.Cursor.{Cursor}
 use Rattle.image.specs.Puts.{startImage, putFrom}
+use Rattle.feed_abi.specs.Calls.{feedCheck, feedStart, feedPut}
 
 -- `left` is `buf` but for the bytes from o to n
 pub record Touched (buf : List ℕ) (o n : ℕ) (left : List ℕ) : Type 0 where
@@ -42,3 +43,8 @@ pub record Buffers : Type 0 where
   pub start-image : (r p nulls buf : List ℕ) (next : Cursor) (left : List ℕ) → startImage r p nulls buf ≡ ok (next, left) → Touched buf 0 (next .offset) left
   pub put-value : (r p nulls : List ℕ) (c : Cursor) (lent : List ℕ) (v : Value) (buf : List ℕ) (next : Cursor) (left : List ℕ) → putFrom r p nulls c lent v buf ≡ ok (next, left)
       → Touched buf (c .offset) (next .offset) left
+  -- `feed_check` answers the place as its number, `feed_start` and `feed_put` as the second of theirs; what is left of the numbers themselves is in `Abi`
+  pub feed-check : (event : List ℕ) (postHeader dialect : ℕ) (buf ns left : List ℕ) → feedCheck event postHeader dialect buf ≡ ok (ns, left) → Touched buf 0 (getD ns 0 0) left
+  pub feed-start : (r p nulls im ns left : List ℕ) → feedStart r p nulls im ≡ ok (ns, left) → Touched im 0 (getD ns 1 0) left
+  pub feed-put : (r p nulls : List ℕ) (column offset kind : ℕ) (parts lent im ns left : List ℕ) → feedPut r p nulls column offset kind parts lent im ≡ ok (ns, left)
+      → Touched im offset (getD ns 1 0) left

@@ -1,0 +1,180 @@
+-- Demand 1 for the calls of `feed_abi`: each refuses as the call of the library that it stands over, or before it; and what a caller is left with. Assumes nothing.
+use Prim.Native.Nat.{ℕ, zero, suc, _+_, _≤_}
+use mathlib.Core.Path.{_≡_, refl, sym, ap, subst, _∙_}
+use mathlib.Core.Bool.{Bool, true, false, cond}
+use mathlib.Core.List.{List, [], _∷_}
+use native.Mathlib.Omega.{arith}
+use borrow.Author.Tests.{le-leb, leb-true}
+use lib.ListN.{length}
+use lib.Dec.{leb, ltb, eqb}
+use Rattle.wire.specs.Outcome.{Outcome, ok, refused, refuse, after, why}
+use Rattle.wire.specs.Stored.{stored, store, answerOf, leftOf}
+use Rattle.wire.proofs.Outcomes.{after-is-ok, test-is-ok, by-test, ok-not-refused, same-ok}
+use Rattle.value.specs.declared.datum.Value.the-variants.{Null}
+use Rattle.record.specs.Records.{readRecord}
+use Rattle.map_check.specs.Ranks.{place}
+use Rattle.map_check.specs.Names.{columnName}
+use Rattle.map_check.specs.Check.{check}
+use Rattle.image.specs.declared.cursor.Cursor.{Cursor}
+use Rattle.image.specs.Split.{Told, null, value, end, cursor, firstCursor, stepFrom}
+use Rattle.image.specs.Puts.{startImage, putFrom}
+use Rattle.feed_abi.specs.Answers.{numberOf, toldOf, statusOf, numbersLeft, bytesLeft}
+use Rattle.feed_abi.specs.Parts.{kindOf, partsOf, padded, isTaken, valueOf}
+use Rattle.feed_abi.specs.Calls.{said, saidWith, one, partNumbers, cursorNumbers, stepNumbers, toldNumbers, dialectOf, feedCheck, feedColumn, feedNames, feedName, feedFirst, feedStep, feedStart, feedPut}
+use Rattle.promises.specs.Refusals.{Line, OneOf, just, later, inTable, Only}
+use Rattle.promises.specs.Buffers.{Touched}
+use Rattle.promises.specs.Abi.{Answered, Counts, AbiCalls}
+use Rattle.promises.proofs.Only.{Listed, done, stop, chain, test}
+use Rattle.promises.proofs.Rows.{record-read}
+use Rattle.promises.proofs.Buffers.{stores}
+use Rattle.promises.proofs.Refusals.{only, second, refusals}
+
+-- ---- answers in numbers refuse as the rule does
+in-numbers : {A : Type 0} {ls : List Line} (f : A → List ℕ) (o : Outcome A) → Only o ls → Listed ls (said f o)
+in-numbers f o h = chain o _ (h .listed) (λ a e. done _)
+
+left-too : {A : Type 0} {ls : List Line} (f : A → List ℕ) (o : Outcome (A × List ℕ)) → Only o ls → Listed ls (saidWith f o)
+left-too f o h = chain o _ (h .listed) (λ a e. done _)
+
+-- a writer's answer as the writer
+answered : {ls : List Line} (o : Outcome (List ℕ × List ℕ)) → Listed ls o → Listed ls (answerOf o)
+answered o h w e = h w (refusals .buffer-kept [] o w e .0)
+
+-- a list with one line more before it
+wider : {A : Type 0} {l : Line} {ls : List Line} (o : Outcome A) → Listed ls o → Listed (l ∷ ls) o
+wider o h w e = later (h w e)
+
+-- ---- what is told before the rule is asked
+dialect-asked : {ls : List Line} (d : ℕ) → OneOf ls (why 13 0) → Listed ls (dialectOf d)
+unfolding dialectOf
+dialect-asked d thirteen =
+    test (eqb d 0) (λ u. done _)
+    (λ u. test (eqb d 1) (λ u. done _)
+    (λ u. test (eqb d 2) (λ u. done _) (λ u. stop thirteen)))
+
+value-made : {ls : List Line} (kind : ℕ) (parts : List ℕ) → OneOf ls (why 13 0) → Listed ls (valueOf kind parts)
+unfolding valueOf
+value-made kind parts thirteen = test (isTaken kind parts) (λ u. done _) (λ u. stop thirteen)
+
+column-told : {ls : List Line} (r : List ℕ) (j : ℕ) → OneOf ls (why 11 0) → OneOf ls (why 14 j) → Listed ls (feedColumn r j)
+unfolding feedColumn
+column-told r j eleven fourteen = chain (readRecord r) _ (record-read r eleven) (λ n e. test (ltb j n) (λ u. done _) (λ u. stop fourteen))
+
+-- ---- the status
+no-refusal : (answer : Outcome (List ℕ)) (ls : List Line) → Only answer ls → numberOf answer ≡ 0 → (ns : List ℕ) × (answer ≡ ok ns)
+no-refusal (ok ns) ls h e = (ns, refl)
+no-refusal (refused w) ls h e = let n = refusals .numbered (refused w) ls w h refl .0 in absurd (omega arith)
+
+zero-answered : (k : ℕ) (out : List ℕ) (answer : Outcome (List ℕ)) (ls : List Line) → Only answer ls → statusOf k out answer ≡ 0 → Answered k out answer
+unfolding statusOf
+zero-answered k out answer ls h e =
+    by-test (leb k (length out)) (numberOf answer) 8 0 e
+    (λ u f. let n = no-refusal answer ls h f in (n .0, n .1, leb-true k (length out) u))
+    (λ u f. absurd (omega arith))
+
+answered-zero : (k : ℕ) (out : List ℕ) (answer : Outcome (List ℕ)) → Answered k out answer → statusOf k out answer ≡ 0
+unfolding statusOf
+answered-zero k out answer (ns, e, l) = rw (le-leb k (length out) l, e)
+
+number-in-table : (answer : Outcome (List ℕ)) (ls : List Line) → Only answer ls → numberOf answer ≤ 14
+number-in-table (ok ns) ls h = omega arith
+number-in-table (refused w) ls h = refusals .numbered (refused w) ls w h refl .1
+
+status-in-table : (t : Bool) (n : ℕ) → n ≤ 14 → cond t n 8 ≤ 14
+status-in-table true n h = h
+status-in-table false n h = omega arith
+
+-- ---- what is left of the numbers, k of which are told
+all-told : (k : ℕ) (out ns : List ℕ) → length ns ≡ k → k ≤ length out → Touched out 0 k (stored out 0 ns)
+unfolding store
+all-told k out ns n l =
+    let m : 0 + length ns ≡ k = omega arith in
+    subst (λ (j : ℕ). Touched out 0 j (stored out 0 ns)) m
+    (stores out 0 ns (0 + length ns) (stored out 0 ns) (rw (le-leb (0 + length ns) (length out) (omega arith))))
+
+-- what is left of them and of the bytes after a refusal, t being whether there is room for the numbers
+numbers-left : (t : Bool) (out : List ℕ) (answer : Outcome (List ℕ)) → (t ≡ true → 1 ≤ length out) → (cond t (numberOf answer) 8 ≡ 0 → ⊥)
+    → Touched out 0 1 (cond t (stored out 0 (toldOf answer)) out)
+numbers-left true out (ok ns) l h = absurd (h refl)
+numbers-left true out (refused w) l h = all-told 1 out (w .place ∷ []) refl (l refl)
+numbers-left false out answer l h = record { size = refl; before = refl; behind = refl }
+
+bytes-left : (t : Bool) (buf : List ℕ) (rule : Outcome (List ℕ × List ℕ)) → (cond t (numberOf (answerOf rule)) 8 ≡ 0 → ⊥) → cond t (leftOf buf rule) buf ≡ buf
+bytes-left true buf (ok x) h = absurd (h refl)
+bytes-left true buf (refused w) h = refl
+bytes-left false buf rule h = refl
+
+-- ---- the numbers of an answer
+said-counts : {A : Type 0} (k : ℕ) (f : A → List ℕ) (o : Outcome A) → ((a : A) → length (f a) ≡ k) → Counts k (said f o)
+said-counts k f o h ns e =
+    let x = after-is-ok o (λ a. ok (f a)) ns e in
+    ap length (sym (same-ok (x .2))) ∙ h (x .0)
+
+left-counts : {A : Type 0} (k : ℕ) (f : A → List ℕ) (o : Outcome (A × List ℕ)) → ((a : A) → length (f a) ≡ k) → Counts k (answerOf (saidWith f o))
+left-counts k f (ok x) h ns e = ap length (sym (same-ok e)) ∙ h (x .0)
+left-counts k f (refused w) h ns e = absurd (ok-not-refused (sym e))
+
+-- of a writer that is asked after another test
+then-counts : {A : Type 0} (k : ℕ) (o : Outcome A) (f : A → Outcome (List ℕ × List ℕ)) → ((a : A) → Counts k (answerOf (f a))) → Counts k (answerOf (after o f))
+then-counts k (ok a) f h ns e = h a ns e
+then-counts k (refused w) f h ns e = absurd (ok-not-refused (sym e))
+
+column-counts : (r : List ℕ) (j : ℕ) → Counts 5 (feedColumn r j)
+unfolding feedColumn
+column-counts r j ns e =
+    let x = after-is-ok (readRecord r) _ ns e in
+    ap length (sym (test-is-ok (ltb j (x .0)) _ _ ns (x .2) .1))
+
+padded-length : (k : ℕ) (ps : List ℕ) → length (padded k ps) ≡ k
+unfolding padded
+padded-length zero ps = refl
+padded-length (suc k) [] = ap suc (padded-length k [])
+padded-length (suc k) (p ∷ ps) = ap suc (padded-length k ps)
+
+step-counts : (kind column : ℕ) (next : Cursor) (ps : List ℕ) → length (stepNumbers kind column next ps) ≡ 11
+step-counts kind column next ps = ap (λ (n : ℕ). suc (suc (suc (suc n)))) (padded-length 7 ps)
+
+told-counts : (t : Told) → length (toldNumbers t) ≡ 11
+unfolding toldNumbers
+told-counts (null column next) = step-counts (kindOf Null) column next (partsOf Null)
+told-counts (value column v next) = step-counts (kindOf v) column next (partsOf v)
+told-counts (end used) = step-counts 0 0 (cursor 0 used) []
+
+told-alone : (k : ℕ) (out : List ℕ) (answer : Outcome (List ℕ)) → Counts k answer → Answered k out answer → Touched out 0 k (numbersLeft k out answer)
+unfolding numbersLeft
+told-alone k out answer h (ns, e, l) = rw (le-leb k (length out) l, e) (all-told k out ns (h ns e) l)
+
+pub abi : AbiCalls
+unfolding feedCheck feedNames feedName feedFirst feedStep feedStart feedPut statusOf numbersLeft bytesLeft inTable
+abi = record {
+  feed-check = λ event postHeader dialect buf n e.
+      only refl
+      (answered _
+      (chain (dialectOf dialect) _ (dialect-asked dialect just)
+      (λ d u. wider _ (left-too one (check d event postHeader buf) (refusals .check-map d event postHeader buf n e)))));
+  feed-column = λ r column. only refl (column-told r column just (second just));
+  feed-names = λ event postHeader dialect. only refl (chain (dialectOf dialect) _ (dialect-asked dialect just) (λ d u. done _));
+  feed-name = λ names operator column. only refl (in-numbers partNumbers (columnName names operator (place column)) (refusals .column-name names operator (place column)));
+  feed-first = λ r p. only refl (in-numbers cursorNumbers (firstCursor r p) (refusals .first-cursor r p));
+  feed-step = λ r p im column offset. only refl (in-numbers toldNumbers (stepFrom r p im (cursor column offset)) (refusals .step-image r p im (cursor column offset)));
+  feed-start = λ r p nulls im. only refl (answered _ (left-too cursorNumbers (startImage r p nulls im) (refusals .start-image r p nulls im)));
+  feed-put = λ r p nulls column offset kind parts lent im.
+      only refl
+      (answered _
+      (chain (valueOf kind parts) _ (value-made kind parts just)
+      (λ v u. wider _ (left-too cursorNumbers (putFrom r p nulls (cursor column offset) lent v im) (refusals .put-value r p nulls (cursor column offset) lent v im)))));
+  status-zero = λ k out answer ls h. (zero-answered k out answer ls h, answered-zero k out answer);
+  status-table = λ k out answer ls h. status-in-table (leb k (length out)) (numberOf answer) (number-in-table answer ls h);
+  numbers-kept = λ k out answer l h. numbers-left (leb k (length out)) out answer (λ u. let n = leb-true k (length out) u in omega arith) h;
+  bytes-kept = λ k out buf rule h. bytes-left (leb k (length out)) buf rule h;
+  check-one = λ event postHeader dialect buf. then-counts 1 (dialectOf dialect) _ (λ d. left-counts 1 one (check d event postHeader buf) (λ n. refl));
+  column-five = column-counts;
+  names-two = λ event postHeader dialect. said-counts 2 _ (dialectOf dialect) (λ d. refl);
+  name-two = λ names operator column. said-counts 2 partNumbers (columnName names operator (place column)) (λ n. refl);
+  first-two = λ r p. said-counts 2 cursorNumbers (firstCursor r p) (λ c. refl);
+  step-eleven = λ r p im column offset. said-counts 11 toldNumbers (stepFrom r p im (cursor column offset)) told-counts;
+  start-two = λ r p nulls im. left-counts 2 cursorNumbers (startImage r p nulls im) (λ c. refl);
+  put-two = λ r p nulls column offset kind parts lent im.
+      then-counts 2 (valueOf kind parts) _ (λ v. left-counts 2 cursorNumbers (putFrom r p nulls (cursor column offset) lent v im) (λ c. refl));
+  numbers-touched = told-alone;
+}
