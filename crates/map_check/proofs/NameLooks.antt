@@ -3,14 +3,20 @@ use Prim.Native.Nat.{ℕ, zero, suc, _-_}
 use mathlib.Core.Path.{_≡_, refl}
 use mathlib.Core.List.{List}
 use native.Mathlib.Omega.{arith}
+use borrow.Author.Tests.{le-leb}
+use lib.ListN.{length}
 use Rattle.wire.specs.declared.refusal.Refusal.{Refusal}
 use Rattle.wire.specs.Outcome.{Outcome, ok, refused, refuse}
 use Rattle.wire.proofs.Outcomes.{same-by-back}
 use Rattle.table_map.specs.declared.event.Part.{Part}
+use Rattle.table_map.specs.Parts.{lentPart}
 use Rattle.table_map.specs.Lists.{end, item, step, stringItem}
+use Rattle.map_check.specs.declared.field.Found.{Found}
+use Rattle.map_check.specs.declared.field.Found.the-variants.{Value, Nothing}
 use Rattle.map_check.specs.declared.names.NameRead.{NameRead}
 use Rattle.map_check.specs.declared.names.NameRead.the-variants.{Name, Refused}
-use Rattle.map_check.specs.Names.{stringAt, nameOf}
+use Rattle.map_check.specs.Fields.{valueIn}
+use Rattle.map_check.specs.Names.{stringAt, partIn, nameOf}
 
 -- ---- a string, `left` strings before the one asked
 pub looks-found : (left asked : ℕ) (s : List ℕ) (at : ℕ) (p : Part) (next : ℕ) → left ≡ 0 → step stringItem s at ≡ ok (item p next)
@@ -36,6 +42,11 @@ pub looks-broken : (left asked : ℕ) (s : List ℕ) (at : ℕ) (w : Refusal) �
 unfolding stringAt
 looks-broken zero asked s at w e = rw e
 looks-broken (suc i) asked s at w e = rw e
+
+-- ---- the bytes of a value that was found are those of its part
+pub in-part : (s : List ℕ) (f : Found) → lentPart s (partIn f) ≡ valueIn s f
+in-part s (Value p) = refl
+in-part s Nothing = rw (le-leb 0 (length s) (omega arith))
 
 -- ---- the answers
 abbrev back : Outcome Part → NameRead

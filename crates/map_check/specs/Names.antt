@@ -9,10 +9,12 @@ use Rattle.wire.specs.Outcome.{Outcome, ok, refused, refuse, after}
 use Rattle.value.specs.declared.column.Dialect.{Dialect}
 use Rattle.table_map.specs.declared.event.Event.{Event}
 use Rattle.table_map.specs.declared.event.Part.{Part}
-use Rattle.table_map.specs.Parts.{lentPart}
+use Rattle.table_map.specs.Parts.{part, lentPart}
 use Rattle.table_map.specs.Events.{readEvent}
 use Rattle.table_map.specs.Lists.{Stepped, end, item, step, stringItem}
 use Rattle.map_check.specs.declared.rank.Place.{Place}
+use Rattle.map_check.specs.declared.field.Found.{Found}
+use Rattle.map_check.specs.declared.field.Found.the-variants.{Value, Nothing}
 use Rattle.map_check.specs.declared.names.NameRead.{NameRead}
 use Rattle.map_check.specs.declared.names.NameRead.the-variants.{Name, Refused}
 use Rattle.map_check.specs.Fields.{firstOf, valueIn, fieldsAt, fieldsFrom}
@@ -43,10 +45,22 @@ abbrev pub nameIn : List ℕ → Outcome Part → List ℕ
 nameIn s (ok p) = lentPart s p
 nameIn s (refused r) = []
 
--- ---- the names field of a map: the value of the first field of type 4 in its walk, empty if there is none or a refusal comes before it
+-- ---- the names field of a map: the value of the first field of type 4 in its walk, nothing if there is none or a refusal comes before it
+abbrev pub namesFound : Dialect → List ℕ → Outcome Event → Found
+namesFound d s (ok e) = firstOf 4 (fieldsFrom (fieldsAt d (lentPart s (e .types)) (e .optional .start)) s)
+namesFound d s (refused r) = Nothing
+
+-- its bytes
 abbrev pub namesOf : Dialect → List ℕ → Outcome Event → List ℕ
-namesOf d s (ok e) = valueIn s (firstOf 4 (fieldsFrom (fieldsAt d (lentPart s (e .types)) (e .optional .start)) s))
-namesOf d s (refused r) = []
+namesOf d s o = valueIn s (namesFound d s o)
+
+-- where it stands in the event, start and length 0 for nothing
+abbrev pub partIn : Found → Part
+partIn (Value p) = p
+partIn Nothing = part 0 0
+
+abbrev pub namesPart : Dialect → List ℕ → Outcome Event → Part
+namesPart d s o = partIn (namesFound d s o)
 
 -- what the answer of the lookup says
 abbrev pub nameOf : NameRead → Outcome Part

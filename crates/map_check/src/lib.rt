@@ -15,5 +15,6 @@ pub use names::NameRead;
 pub use names::column_name;
 pub use names::name_part;
 pub use names::names_field;
+pub use names::names_part;
 pub use rank::Place;
 pub use rank::Rank;

@@ -1,6 +1,6 @@
 // The names of columns (table_map_event.rs: ColumnName).
+use crate::field::Found;
 use crate::field::find_field;
-use crate::field::value_in;
 use crate::rank::Place;
 use table_map::EventRead;
 use table_map::Fields;
@@ -12,7 +12,7 @@ use wire::Refusal;
 use wire::refusal::NO_COLUMN;
 ghost use mathlib.Core.Path.{_≡_};
 ghost use Rattle.table_map.specs.Events.{readEvent};
-ghost use Rattle.map_check.specs.Names.{listOf, stringAt, columnName, nameIn, namesOf, nameOf};
+ghost use Rattle.map_check.specs.Names.{listOf, stringAt, columnName, nameIn, partIn, namesPart, namesOf, nameOf};
 
 // The type of the field that holds the names.
 const NAMES: u8 = 4;
@@ -40,18 +40,35 @@ pub fn name_part<'a>(names: &'a [u8], operator: &'a [u8], column: Place) -> &'a 
     }
 }
 
-// The names that a map has, empty where it has none or is refused before them.
-pub fn names_field(event: &[u8], post_header: u8, dialect: Dialect) -> &[u8]
-    ensures { λ r. ⌜ now r ≡ namesOf dialect (now (event .entry)) (readEvent (now (event .entry)) «post_header») ⌝ }
+// Where the names of a map stand in the event: start and length 0 where it has none or is refused before them.
+pub fn names_part(event: &[u8], post_header: u8, dialect: Dialect) -> Part
+    ensures { λ r. ⌜ r ≡ namesPart dialect (now (event .entry)) (readEvent (now (event .entry)) «post_header») ⌝ }
 {
     let e = match table_map::read_event(event, post_header) {
         EventRead::Read(e) => e,
-        EventRead::Refused(_) => return &event[0..0],
+        EventRead::Refused(_) => return Part { start: 0, len: 0 },
     };
     let types = e.types;
     let optional = e.optional;
     let fields = Fields::new(dialect, table_map::part_of(event, types), optional.start);
-    value_in(event, find_field(event, fields, NAMES))
+    part_in(find_field(event, fields, NAMES))
+}
+
+// The part of a value that was found.
+fn part_in(found: Found) -> Part
+    ensures { λ r. ⌜ r ≡ partIn found ⌝ }
+{
+    match found {
+        Found::Value(part) => part,
+        Found::Nothing => Part { start: 0, len: 0 },
+    }
+}
+
+// Their bytes, none where there are no names.
+pub fn names_field(event: &[u8], post_header: u8, dialect: Dialect) -> &[u8]
+    ensures { λ r. ⌜ now r ≡ namesOf dialect (now (event .entry)) (readEvent (now (event .entry)) «post_header») ⌝ }
+{
+    table_map::part_of(event, names_part(event, post_header, dialect))
 }
 
 // The list that is looked at.

@@ -1,66 +1,25 @@
 -- `map_check::names::names_field` meets its contract. Assumes nothing.
-use mathlib.Core.Path.{sym, ap, _∙_}
-use Rattle.table_map.specs.Events.{eventOf}
+use mathlib.Core.Path.{_∙_}
+use Rattle.table_map.specs.Events.{readEvent}
+use Rattle.map_check.specs.Names.{namesFound}
+use Rattle.map_check.proofs.NameLooks.{in-part}
 use borrow.Author.Needs.{needs}
 use Rattle.map_check.proofs.names.names_field.Statement.{statement}
 use Rattle.map_check.proofs.names.names_field.Tie as tie
 use Rattle.map_check.proofs.names.names_field.Reads as reads
 use Rattle.map_check.proofs.names.names_field.Lts as lts
-use Rattle.map_check.proofs.field.find_field.Reads as find-field-reads
-use Rattle.map_check.proofs.field.value_in.Reads as value-in-reads
+use Rattle.map_check.proofs.names.names_part.Reads as names-part-reads
 use Rattle.table_map.proofs.part_of.Reads as part-of-reads
-use Rattle.table_map.proofs.read_event.Reads as read-event-reads
-use Rattle.table_map.proofs.field.Fields.new.Reads as new-reads
 
-read-event-requires : tie.Need-read-event-requires
-read-event-requires c κs = search needs
-
-enum-known-e : tie.Need-enum-known-e
-enum-known-e c = search needs
-
-enum-told : tie.Need-enum-told
-enum-told c = search needs
-
-sub-result : tie.Need-sub-result
-sub-result c = search needs
-
-part-result-start : tie.Need-part-result-start
-part-result-start c = search needs
-
-part-result-end : tie.Need-part-result-end
-part-result-end c = search needs
-
-returns : tie.Need-returns
-returns c = rw (sym (c .before .before .before .read-event .ensures) ∙ ap eventOf (c .before .enum-told .given .1))
+names-part-requires : tie.Need-names-part-requires
+names-part-requires c κs = search needs
 
 part-of-requires : tie.Need-part-of-requires
 part-of-requires c κs = search needs
 
-new-requires : tie.Need-new-requires
-new-requires c κs = search needs
-
-find-field-requires : tie.Need-find-field-requires
-find-field-requires c κs = search needs
-
-value-in-requires : tie.Need-value-in-requires
-value-in-requires c κs = search needs
-
-returns-2 : tie.Need-returns-2
-returns-2 c = rw (sym (c .before .before .before .before .before .before .before .before .before .read-event .ensures) ∙ ap eventOf (c .before .before .before .before .before .before .before .e .given .1), ← (c .before .before .before .part-of .ensures), ← (c .before .before .new .ensures), ← (c .before .find-field .ensures)) (c .value-in .ensures)
+returns : tie.Need-returns
+returns c = let a = c .before .before .before .args in
+    rw (c .before .names-part .ensures) at (c .part-of .ensures) ∙ in-part (a .event .now) (namesFound (a .dialect) (a .event .now) (readEvent (a .event .now) (a .post-header)))
 
 pub names-field-spec : {M : Type 1} → statement M
-names-field-spec =
-    tie.close
-    (tie.spec
-    read-event-requires
-    enum-known-e
-    enum-told
-    sub-result
-    part-result-start
-    part-result-end
-    returns
-    part-of-requires
-    new-requires
-    find-field-requires
-    value-in-requires
-    returns-2)
+names-field-spec = tie.close (tie.spec names-part-requires part-of-requires returns)

@@ -1,0 +1,4 @@
+-- The laws of the crate. `Tells`: what a call leaves, from what its code did. `Takes`: the parts that a kind takes. `Backs`: a value's kind and parts make the same value again.
+pub mod Tells
+pub mod Takes
+pub mod Backs

@@ -1,0 +1,98 @@
+-- What a call leaves, from what its code did. Assumes nothing.
+use Prim.Native.Nat.{ℕ, _+_, _≤_, _<_}
+use mathlib.Core.Path.{_≡_, refl, sym, ap, subst, _∙_}
+use mathlib.Core.List.{List, [], _∷_, _++_}
+use native.Mathlib.Omega.{arith}
+use borrow.Author.Tests.{le-leb, lt-leb, lt-ltb, le-ltb}
+use lib.ListN.{length}
+use Rattle.wire.specs.declared.refusal.Refusal.{Refusal}
+use Rattle.wire.specs.Outcome.{Outcome, ok, refused, refuse, after}
+use Rattle.wire.specs.Stored.{stored, answerOf, leftOf}
+use Rattle.wire.proofs.Stores.{stored-stored}
+use Rattle.record.specs.Records.{entryIn, readRecord}
+use Rattle.feed_abi.specs.Answers.{numberOf, toldOf, statusOf, numbersLeft, bytesLeft}
+use Rattle.feed_abi.specs.Calls.{said, saidWith, entryNumbers, feedColumn}
+
+-- the status s and the numbers x that a call leaves
+abbrev pub Tells : ℕ → List ℕ → Outcome (List ℕ) → ℕ → List ℕ → Type 0
+Tells k out o s x = (s ≡ statusOf k out o) × (x ≡ numbersLeft k out o)
+
+-- and the bytes b that a writer leaves
+abbrev pub Leaves : ℕ → List ℕ → List ℕ → Outcome (List ℕ × List ℕ) → ℕ → List ℕ → List ℕ → Type 0
+Leaves k out buf o s x b = (s ≡ statusOf k out (answerOf o)) × ((x ≡ numbersLeft k out (answerOf o)) × (b ≡ bytesLeft k out buf o))
+
+-- ---- without room for the numbers
+pub no-numbers : (k : ℕ) (out : List ℕ) (o : Outcome (List ℕ)) → length out < k → Tells k out o 8 out
+unfolding statusOf numbersLeft
+no-numbers k out o h = rw (lt-leb k (length out) h) (refl, refl)
+
+pub no-bytes : (k : ℕ) (out buf : List ℕ) (o : Outcome (List ℕ × List ℕ)) → length out < k → Leaves k out buf o 8 out buf
+unfolding statusOf numbersLeft bytesLeft
+no-bytes k out buf o h = rw (lt-leb k (length out) h) (refl, (refl, refl))
+
+-- ---- with room: an answer, or a refusal
+pub tells-ok : (k : ℕ) (out : List ℕ) (o : Outcome (List ℕ)) (ns : List ℕ) (s : ℕ) (x : List ℕ) → k ≤ length out → o ≡ ok ns → s ≡ 0 → x ≡ stored out 0 ns → Tells k out o s x
+unfolding statusOf numbersLeft
+tells-ok k out o ns s x h e p q = rw (le-leb k (length out) h, e) (p, q)
+
+pub tells-refused : (k : ℕ) (out : List ℕ) (o : Outcome (List ℕ)) (r : Refusal) (s : ℕ) (x : List ℕ) → k ≤ length out → o ≡ refused r → s ≡ r .number
+    → x ≡ stored out 0 (r .place ∷ []) → Tells k out o s x
+unfolding statusOf numbersLeft
+tells-refused k out o r s x h e p q = rw (le-leb k (length out) h, e) (p, q)
+
+-- of a call whose answer is said in numbers
+pub said-ok : {A : Type 0} (k : ℕ) (out : List ℕ) (f : A → List ℕ) (o : Outcome A) (a : A) (s : ℕ) (x : List ℕ) → k ≤ length out → o ≡ ok a → s ≡ 0 → x ≡ stored out 0 (f a)
+    → Tells k out (said f o) s x
+said-ok k out f o a s x h e p q = tells-ok k out (said f o) (f a) s x h (rw e) p q
+
+pub said-refused : {A : Type 0} (k : ℕ) (out : List ℕ) (f : A → List ℕ) (o : Outcome A) (r : Refusal) (s : ℕ) (x : List ℕ) → k ≤ length out → o ≡ refused r → s ≡ r .number
+    → x ≡ stored out 0 (r .place ∷ []) → Tells k out (said f o) s x
+said-refused k out f o r s x h e p q = tells-refused k out (said f o) r s x h (rw e) p q
+
+-- ---- a writer w, whose answer is said in numbers
+pub wrote-ok : {A : Type 0} (k : ℕ) (out buf : List ℕ) (f : A → List ℕ) (w : Outcome (A × List ℕ)) (o : Outcome (List ℕ × List ℕ)) (a : A) (s : ℕ) (x b : List ℕ) → k ≤ length out
+    → o ≡ saidWith f w → answerOf w ≡ ok a → s ≡ 0 → x ≡ stored out 0 (f a) → b ≡ leftOf buf w → Leaves k out buf o s x b
+unfolding statusOf numbersLeft bytesLeft
+wrote-ok k out buf f (ok y) o a s x b h d e p q u =
+    let z : y .0 ≡ a = cc in
+    rw (le-leb k (length out) h, d, z) (p, (q, u))
+wrote-ok k out buf f (refused r) o a s x b h d e p q u = let z : _≡_ {A = ℕ} 0 1 = cc in absurd (omega arith)
+
+pub wrote-refused : {A : Type 0} (k : ℕ) (out buf : List ℕ) (f : A → List ℕ) (w : Outcome (A × List ℕ)) (o : Outcome (List ℕ × List ℕ)) (r : Refusal) (s : ℕ) (x b : List ℕ)
+    → k ≤ length out → o ≡ saidWith f w → answerOf w ≡ refused r → s ≡ r .number → x ≡ stored out 0 (r .place ∷ []) → b ≡ leftOf buf w → Leaves k out buf o s x b
+unfolding statusOf numbersLeft bytesLeft
+wrote-refused k out buf f (ok y) o r s x b h d e p q u = let z : _≡_ {A = ℕ} 0 1 = cc in absurd (omega arith)
+wrote-refused k out buf f (refused v) o r s x b h d e p q u =
+    let z : v ≡ r = cc in
+    rw (le-leb k (length out) h, d, z) (p, (q, u))
+
+-- either way
+pub wrote-told : {A : Type 0} (k : ℕ) (out buf : List ℕ) (f : A → List ℕ) (w : Outcome (A × List ℕ)) (o : Outcome (List ℕ × List ℕ)) (a : Outcome A) (s : ℕ) (x b : List ℕ)
+    → k ≤ length out → o ≡ saidWith f w → a ≡ answerOf w → s ≡ numberOf (said f a) → x ≡ stored out 0 (toldOf (said f a)) → b ≡ leftOf buf w → Leaves k out buf o s x b
+wrote-told k out buf f w o (ok y) s x b h d e p q u = wrote-ok k out buf f w o y s x b h d (sym e) p q u
+wrote-told k out buf f w o (refused r) s x b h d e p q u = wrote-refused k out buf f w o r s x b h d (sym e) p q u
+
+-- a refusal before the writer was called
+pub not-called : (k : ℕ) (out buf : List ℕ) (o : Outcome (List ℕ × List ℕ)) (r : Refusal) (s : ℕ) (x : List ℕ) → k ≤ length out → o ≡ refused r → s ≡ r .number
+    → x ≡ stored out 0 (r .place ∷ []) → Leaves k out buf o s x buf
+unfolding statusOf numbersLeft bytesLeft
+not-called k out buf o r s x h e p q = rw (le-leb k (length out) h, e) (p, (q, refl))
+
+-- ---- a column of a record
+pub column-refused : (r : List ℕ) (j : ℕ) (w : Refusal) → readRecord r ≡ refused w → feedColumn r j ≡ refused w
+unfolding feedColumn
+column-refused r j w e = rw e
+
+pub column-none : (r : List ℕ) (j n : ℕ) → readRecord r ≡ ok n → n ≤ j → feedColumn r j ≡ refuse 14 j
+unfolding feedColumn
+column-none r j n e h = rw (e, le-ltb j n h)
+
+pub column-at : (r : List ℕ) (j n : ℕ) → readRecord r ≡ ok n → j < n → feedColumn r j ≡ ok (entryNumbers (entryIn r j))
+unfolding feedColumn
+column-at r j n e h = rw (e, lt-ltb j n h)
+
+-- ---- four numbers, and the parts behind them
+pub head-then : (out x y head ps : List ℕ) → length head ≡ 4 → 4 ≤ length out → x ≡ stored out 0 head → y ≡ stored x 4 ps → y ≡ stored out 0 (head ++ ps)
+head-then out x y head ps e h p q =
+    let n : 0 + length head ≡ 4 = omega arith in
+    q ∙ ap (λ (d : List ℕ). stored d 4 ps) p ∙ subst (λ (k : ℕ). stored (stored out 0 head) k ps ≡ stored out 0 (head ++ ps)) n (stored-stored out 0 head ps (omega arith))

@@ -1,0 +1,69 @@
+-- `feed_abi::parts::fits` meets its contract. Assumes nothing.
+use Prim.Native.Nat.{_≤_, _-_}
+use mathlib.Core.Path.{_≡_, refl, sym, _∙_}
+use native.Mathlib.Omega.{arith}
+use lib.ListN.{length, drop}
+use Rattle.feed_abi.specs.Parts.{fit}
+use Rattle.feed_abi.proofs.Takes.{fit-short, fit-great, fit-on, fit-end}
+use borrow.Author.Needs.{needs}
+use Rattle.feed_abi.proofs.parts.fits.Statement.{statement}
+use Rattle.feed_abi.proofs.parts.fits.Tie as tie
+use Rattle.feed_abi.proofs.parts.fits.Reads as reads
+use Rattle.feed_abi.proofs.parts.fits.Lts as lts
+
+abbrev Inv-loop : tie.InvT-loop
+Inv-loop parts tops i₀ i = (i ≤ length tops) × (fit tops parts ≡ fit (drop i tops) (drop i parts))
+
+abbrev μ-loop : tie.MeasureT-loop
+μ-loop parts tops i₀ i = length tops - i
+
+loop-holds : tie.Need-loop-holds Inv-loop μ-loop
+loop-holds c = (omega arith, refl)
+
+returns : tie.Need-returns Inv-loop μ-loop
+returns c = sym (c .before .before .loop .inv .1 ∙ fit-short (c .before .before .before .args .tops .now) (c .before .before .before .args .parts .now) (c .before .before .loop .i) (c .before .loop-test .taken) (c .if1 .taken))
+
+mul-if2 : tie.Need-mul-if2 Inv-loop μ-loop
+mul-if2 c = search needs
+
+shared-slice-read-if2 : tie.Need-shared-slice-read-if2 Inv-loop μ-loop
+shared-slice-read-if2 c = search needs
+
+mul-if2-2 : tie.Need-mul-if2-2 Inv-loop μ-loop
+mul-if2-2 c = search needs
+
+shared-slice-read-if2-2 : tie.Need-shared-slice-read-if2-2 Inv-loop μ-loop
+shared-slice-read-if2-2 c = search needs
+
+returns-2 : tie.Need-returns-2 Inv-loop μ-loop
+returns-2 c = sym (c .before .before .before .before .before .loop .inv .1 ∙ fit-great (c .before .before .before .before .before .before .args .tops .now) (c .before .before .before .before .before .before .args .parts .now) (c .before .before .before .before .before .loop .i) (omega arith) (omega arith) (c .if2 .taken))
+
+add-i : tie.Need-add-i Inv-loop μ-loop
+add-i c = search needs
+
+loop-less : tie.Need-loop-less Inv-loop μ-loop
+loop-less c = search needs
+
+loop-again : tie.Need-loop-again Inv-loop μ-loop
+loop-again c = (omega arith, c .before .before .before .before .before .loop .inv .1 ∙ fit-on (c .before .before .before .before .before .before .args .tops .now) (c .before .before .before .before .before .before .args .parts .now) (c .before .before .before .before .before .loop .i) (omega arith) (omega arith) (c .if2 .left))
+
+returns-3 : tie.Need-returns-3 Inv-loop μ-loop
+returns-3 c = sym (c .before .loop .inv .1 ∙ fit-end (c .before .before .args .tops .now) (c .before .before .args .parts .now) (c .before .loop .i) (omega arith))
+
+pub fits-spec : {M : Type 1} → statement M
+fits-spec =
+    tie.close
+    (tie.spec
+    Inv-loop
+    μ-loop
+    loop-holds
+    returns
+    mul-if2
+    shared-slice-read-if2
+    mul-if2-2
+    shared-slice-read-if2-2
+    returns-2
+    add-i
+    loop-less
+    loop-again
+    returns-3)

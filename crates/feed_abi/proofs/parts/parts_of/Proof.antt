@@ -1,0 +1,130 @@
+-- `feed_abi::parts::parts_of` meets its contract. Assumes nothing.
+use mathlib.Core.List.{List, [], _∷_}
+use Prim.Native.Nat.{ℕ, _^_}
+use lib.IntN.{ℤ}
+use mathlib.Core.Path.{ap, _∙_}
+use mir.Syntax.{w64}
+use mir.ValLaws.{toZ-ofZ}
+use Rattle.wire.specs.Signed.{twosOf}
+use Rattle.feed_abi.specs.Parts.{padded, partsOf}
+use borrow.Author.Needs.{needs}
+use Rattle.feed_abi.proofs.parts.parts_of.Statement.{statement}
+use Rattle.feed_abi.proofs.parts.parts_of.Tie as tie
+use Rattle.feed_abi.proofs.parts.parts_of.Reads as reads
+use Rattle.feed_abi.proofs.parts.parts_of.Lts as lts
+use Rattle.feed_abi.proofs.parts.one.Reads as one-reads
+use Rattle.feed_abi.proofs.parts.temporal_parts.Reads as temporal-parts-reads
+use Rattle.feed_abi.proofs.twos.twos.Reads as twos-reads
+
+enum-told : tie.Need-enum-told
+enum-told c = search needs
+
+enum-known-value : tie.Need-enum-known-value
+enum-known-value c = search needs
+
+twos-requires : tie.Need-twos-requires
+twos-requires c κs = search needs
+
+one-requires : tie.Need-one-requires
+one-requires c κs = search needs
+
+enum-known-value-2 : tie.Need-enum-known-value-2
+enum-known-value-2 c = search needs
+
+one-requires-2 : tie.Need-one-requires-2
+one-requires-2 c κs = search needs
+
+enum-known-value-3 : tie.Need-enum-known-value-3
+enum-known-value-3 c = search needs
+
+cast-one : tie.Need-cast-one
+cast-one c = search needs
+
+one-requires-3 : tie.Need-one-requires-3
+one-requires-3 c κs = search needs
+
+enum-known-value-4 : tie.Need-enum-known-value-4
+enum-known-value-4 c = search needs
+
+one-requires-4 : tie.Need-one-requires-4
+one-requires-4 c κs = search needs
+
+enum-known-value-5 : tie.Need-enum-known-value-5
+enum-known-value-5 c = search needs
+
+cast-one-2 : tie.Need-cast-one-2
+cast-one-2 c = search needs
+
+one-requires-5 : tie.Need-one-requires-5
+one-requires-5 c κs = search needs
+
+enum-known-value-6 : tie.Need-enum-known-value-6
+enum-known-value-6 c = search needs
+
+temporal-parts-requires : tie.Need-temporal-parts-requires
+temporal-parts-requires c κs = search needs
+
+enum-known-value-7 : tie.Need-enum-known-value-7
+enum-known-value-7 c = search needs
+
+returns : tie.Need-returns
+unfolding padded partsOf
+returns c = rw (c .enum-told .given .1)
+
+returns-2 : tie.Need-returns-2
+unfolding partsOf
+returns-2 c = rw (c .before .before .before .value .given .1) (c .one .ensures ∙ ap (λ (n : ℕ). padded 7 (n ∷ [])) (c .before .twos .ensures ∙ ap (twosOf (2 ^ 64)) (toZ-ofZ w64 (c .before .before .before .value .given .0 .0) (record { sfits = c .before .before .known-told .given .0 .1 }))))
+
+returns-3 : tie.Need-returns-3
+unfolding partsOf
+returns-3 c = rw (c .before .before .value2 .given .1) (c .one2 .ensures)
+
+returns-4 : tie.Need-returns-4
+unfolding partsOf
+returns-4 c = rw (c .before .before .value3 .given .1) (c .one3 .ensures)
+
+returns-5 : tie.Need-returns-5
+unfolding partsOf
+returns-5 c = rw (c .before .before .value4 .given .1) (c .one4 .ensures)
+
+returns-6 : tie.Need-returns-6
+unfolding partsOf
+returns-6 c = rw (c .before .before .value5 .given .1) (c .one5 .ensures)
+
+returns-7 : tie.Need-returns-7
+unfolding partsOf
+returns-7 c = rw (c .before .before .value6 .given .1) (c .temporal-parts .ensures)
+
+returns-8 : tie.Need-returns-8
+unfolding padded partsOf
+returns-8 c = rw (c .before .value7 .given .1)
+
+pub parts-of-spec : {M : Type 1} → statement M
+parts-of-spec =
+    tie.close
+    (tie.spec
+    enum-told
+    enum-known-value
+    twos-requires
+    one-requires
+    enum-known-value-2
+    one-requires-2
+    enum-known-value-3
+    cast-one
+    one-requires-3
+    enum-known-value-4
+    one-requires-4
+    enum-known-value-5
+    cast-one-2
+    one-requires-5
+    enum-known-value-6
+    temporal-parts-requires
+    enum-known-value-7
+    returns
+    returns-2
+    returns-3
+    returns-4
+    returns-5
+    returns-6
+    returns-7
+    returns-8)

@@ -1,0 +1,30 @@
+-- What every call leaves: a status, and numbers at the start of the buffer that was lent for them. Assumes nothing.
+use Prim.Native.Nat.{ℕ}
+use mathlib.Core.Bool.{cond}
+use mathlib.Core.List.{List, [], _∷_}
+use lib.ListN.{length}
+use lib.Dec.{leb}
+use Rattle.wire.specs.Outcome.{Outcome, ok, refused}
+use Rattle.wire.specs.Stored.{stored, leftOf}
+
+-- "0 for an answer, else the number of a refusal"
+abbrev pub numberOf : Outcome (List ℕ) → ℕ
+numberOf (ok ns) = 0
+numberOf (refused r) = r .number
+
+-- the numbers that are told: those of the answer, or the place of the refusal
+abbrev pub toldOf : Outcome (List ℕ) → List ℕ
+toldOf (ok ns) = ns
+toldOf (refused r) = r .place ∷ []
+
+-- ---- out is the buffer of numbers, and k how many the call's answer has: without room for them the status is 8 and nothing is changed
+unfoldable pub statusOf : ℕ → List ℕ → Outcome (List ℕ) → ℕ
+statusOf k out o = cond (leb k (length out)) (numberOf o) 8
+
+-- the numbers told stand at its start, and all behind them is as it was
+unfoldable pub numbersLeft : ℕ → List ℕ → Outcome (List ℕ) → List ℕ
+numbersLeft k out o = cond (leb k (length out)) (stored out 0 (toldOf o)) out
+
+-- what a writer leaves of the bytes lent to it, which a refusal leaves as they were
+unfoldable pub bytesLeft : ℕ → List ℕ → List ℕ → Outcome (List ℕ × List ℕ) → List ℕ
+bytesLeft k out buf o = cond (leb k (length out)) (leftOf buf o) buf

@@ -1,0 +1,98 @@
+-- What each call answers: the rule of the library's call, its answer in numbers. Assumes nothing.
+use Prim.Native.Nat.{ℕ}
+use mathlib.Core.Bool.{cond}
+use mathlib.Core.List.{List, [], _∷_, _++_}
+use lib.Dec.{ltb, eqb}
+use Rattle.wire.specs.Outcome.{Outcome, ok, refused, refuse, after}
+use Rattle.value.specs.declared.column.Dialect.{Dialect}
+use Rattle.value.specs.declared.column.Dialect.the-variants.{Document, Mysql, Mariadb}
+use Rattle.value.specs.declared.datum.Value.{Value}
+use Rattle.value.specs.declared.datum.Value.the-variants.{Null}
+use Rattle.table_map.specs.declared.event.Part.{Part}
+use Rattle.table_map.specs.Events.{readEvent}
+use Rattle.record.specs.declared.entry.Entry.{Entry}
+use Rattle.record.specs.Records.{entryIn, readRecord}
+use Rattle.map_check.specs.Ranks.{place}
+use Rattle.map_check.specs.Names.{columnName, namesPart}
+use Rattle.map_check.specs.Check.{check}
+use Rattle.image.specs.declared.cursor.Cursor.{Cursor}
+use Rattle.image.specs.Split.{Told, null, value, end, cursor, firstCursor, stepFrom}
+use Rattle.image.specs.Puts.{startImage, putFrom}
+use Rattle.feed_abi.specs.declared.maps.Asked.{Asked}
+use Rattle.feed_abi.specs.declared.maps.Asked.the-variants.{For, Refused}
+use Rattle.feed_abi.specs.Parts.{kindOf, partsOf, padded, valueOf}
+
+-- ---- answers in numbers
+abbrev pub said : {A : Type 0} → (A → List ℕ) → Outcome A → Outcome (List ℕ)
+said f o = after o (λ a. ok (f a))
+
+-- the same of a writer, which leaves a buffer too
+abbrev pub saidWith : {A : Type 0} → (A → List ℕ) → Outcome (A × List ℕ) → Outcome (List ℕ × List ℕ)
+saidWith f o = after o (λ x. ok (f (x .0), x .1))
+
+abbrev pub one : ℕ → List ℕ
+one n = n ∷ []
+
+abbrev pub partNumbers : Part → List ℕ
+partNumbers p = p .start ∷ (p .len ∷ [])
+
+abbrev pub entryNumbers : Entry → List ℕ
+entryNumbers e = e .kind ∷ (e .flags ∷ (e .m0 ∷ (e .m1 ∷ (e .charset ∷ []))))
+
+abbrev pub cursorNumbers : Cursor → List ℕ
+cursorNumbers c = c .column ∷ (c .offset ∷ [])
+
+-- kind, column, next column, next offset, and seven parts
+abbrev pub stepNumbers : ℕ → ℕ → Cursor → List ℕ → List ℕ
+stepNumbers kind column next ps = (kind ∷ (column ∷ (next .column ∷ (next .offset ∷ [])))) ++ padded 7 ps
+
+-- kind 0 is the end, with the bytes used as the next offset
+unfoldable pub toldNumbers : Told → List ℕ
+unfolding padded kindOf partsOf
+toldNumbers (null column next) = stepNumbers (kindOf Null) column next (partsOf Null)
+toldNumbers (value column v next) = stepNumbers (kindOf v) column next (partsOf v)
+toldNumbers (end used) = stepNumbers 0 0 (cursor 0 used) []
+
+-- ---- maps
+-- 0 document, 1 mysql, 2 mariadb
+unfoldable pub dialectOf : ℕ → Outcome Dialect
+dialectOf d = cond (eqb d 0) (ok Document) (cond (eqb d 1) (ok Mysql) (cond (eqb d 2) (ok Mariadb) (refuse 13 0)))
+
+unfoldable pub feedCheck : List ℕ → ℕ → ℕ → List ℕ → Outcome (List ℕ × List ℕ)
+unfolding dialectOf
+feedCheck event postHeader d buf = after (dialectOf d) (λ d. saidWith one (check d event postHeader buf))
+
+unfoldable pub feedColumn : List ℕ → ℕ → Outcome (List ℕ)
+unfolding readRecord entryIn
+feedColumn r j = after (readRecord r) (λ n. cond (ltb j n) (ok (entryNumbers (entryIn r j))) (refuse 14 j))
+
+unfoldable pub feedNames : List ℕ → ℕ → ℕ → Outcome (List ℕ)
+unfolding dialectOf readEvent
+feedNames event postHeader d = said (λ d. partNumbers (namesPart d event (readEvent event postHeader))) (dialectOf d)
+
+unfoldable pub feedName : List ℕ → List ℕ → ℕ → Outcome (List ℕ)
+unfolding columnName
+feedName names operator column = said partNumbers (columnName names operator (place column))
+
+-- ---- rows
+unfoldable pub feedFirst : List ℕ → List ℕ → Outcome (List ℕ)
+unfolding firstCursor
+feedFirst r p = said cursorNumbers (firstCursor r p)
+
+unfoldable pub feedStep : List ℕ → List ℕ → List ℕ → ℕ → ℕ → Outcome (List ℕ)
+unfolding stepFrom toldNumbers
+feedStep r p im column offset = said toldNumbers (stepFrom r p im (cursor column offset))
+
+unfoldable pub feedStart : List ℕ → List ℕ → List ℕ → List ℕ → Outcome (List ℕ × List ℕ)
+unfolding startImage
+feedStart r p nulls im = saidWith cursorNumbers (startImage r p nulls im)
+
+unfoldable pub feedPut : List ℕ → List ℕ → List ℕ → ℕ → ℕ → ℕ → List ℕ → List ℕ → List ℕ → Outcome (List ℕ × List ℕ)
+unfolding valueOf putFrom
+feedPut r p nulls column offset kind ps lent im =
+    after (valueOf kind ps) (λ v. saidWith cursorNumbers (putFrom r p nulls (cursor column offset) lent v im))
+
+-- what the answer says
+abbrev pub askedOf : Asked → Outcome Dialect
+askedOf (For d) = ok d
+askedOf (Refused r) = refused r

@@ -1,0 +1,42 @@
+// What every call leaves: a status, and numbers at the start of the buffer that was lent for them.
+use wire::Refusal;
+ghost use mathlib.Core.Path.{_≡_};
+ghost use mathlib.Core.List.{_∷_, []};
+ghost use Prim.Native.Nat.{_+_, _≤_, _<_};
+ghost use lib.ListN.{length};
+ghost use Rattle.wire.specs.Stored.{stored};
+
+// The status of a call whose buffer of numbers is too short: nothing was changed.
+pub(crate) const NO_NUMBERS: u64 = 8;
+
+// Puts the numbers from at on.
+pub(crate) fn put_numbers(out: &mut [u64], at: usize, numbers: &[u64])
+    requires { ⌜ at + length (now numbers) ≤ length (now out) ⌝ }
+    ensures { λ _. ⌜ now (out .exit) ≡ stored (now (out .entry)) at (now (numbers .entry)) ⌝ }
+{
+    let mut i: usize = 0;
+    while i < numbers.len() {
+        out[at + i] = numbers[i];
+        i += 1;
+    }
+}
+
+// An answer.
+pub(crate) fn tell(out: &mut [u64], numbers: &[u64]) -> u64
+    requires { ⌜ length (now numbers) ≤ length (now out) ⌝ }
+    ensures { λ r. ⌜ r ≡ 0 ⌝ }
+    ensures { λ _. ⌜ now (out .exit) ≡ stored (now (out .entry)) 0 (now (numbers .entry)) ⌝ }
+{
+    put_numbers(out, 0, numbers);
+    0
+}
+
+// A refusal: its number is the status, and its place is told.
+pub(crate) fn tell_refusal(out: &mut [u64], refusal: Refusal) -> u64
+    requires { ⌜ 0 < length (now out) ⌝ }
+    ensures { λ r. ⌜ r ≡ refusal .number ⌝ }
+    ensures { λ _. ⌜ now (out .exit) ≡ stored (now (out .entry)) 0 (refusal .place ∷ []) ⌝ }
+{
+    out[0] = refusal.place as u64;
+    refusal.number as u64
+}

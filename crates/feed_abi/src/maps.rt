@@ -1,0 +1,148 @@
+// Maps: the check, the columns of its record, and the names of columns.
+use crate::answer::NO_NUMBERS;
+use crate::answer::tell;
+use crate::answer::tell_refusal;
+use map_check::NameRead;
+use map_check::Place;
+use record::Entry;
+use record::RecordRead;
+use table_map::Part;
+use value::Dialect;
+use wire::Refusal;
+use wire::Written;
+use wire::refusal::NO_COLUMN;
+use wire::refusal::NOT_TAKEN;
+ghost use mathlib.Core.Path.{_≡_};
+ghost use Prim.Native.Nat.{_≤_};
+ghost use lib.ListN.{length};
+ghost use Rattle.wire.specs.Stored.{stored, answerOf};
+ghost use Rattle.feed_abi.specs.Answers.{statusOf, numbersLeft, bytesLeft};
+ghost use Rattle.feed_abi.specs.Calls.{partNumbers, entryNumbers, dialectOf, askedOf, feedCheck, feedColumn, feedNames, feedName};
+
+// The dialect that a number asks for.
+enum Asked {
+    For(Dialect),
+    Refused(Refusal),
+}
+
+fn dialect_of(number: u8) -> Asked
+    ensures { λ r. ⌜ askedOf r ≡ dialectOf number ⌝ }
+{
+    if number == 0 {
+        return Asked::For(Dialect::Document);
+    }
+    if number == 1 {
+        return Asked::For(Dialect::Mysql);
+    }
+    if number == 2 {
+        return Asked::For(Dialect::Mariadb);
+    }
+    Asked::Refused(wire::refuse(NOT_TAKEN, 0))
+}
+
+fn tell_part(out: &mut [u64], part: Part) -> u64
+    requires { ⌜ 2 ≤ length (now out) ⌝ }
+    ensures { λ r. ⌜ r ≡ 0 ⌝ }
+    ensures { λ _. ⌜ now (out .exit) ≡ stored (now (out .entry)) 0 (partNumbers part) ⌝ }
+{
+    let numbers = [part.start as u64, part.len as u64];
+    tell(out, &numbers)
+}
+
+fn tell_entry(out: &mut [u64], entry: Entry) -> u64
+    requires { ⌜ 5 ≤ length (now out) ⌝ }
+    ensures { λ r. ⌜ r ≡ 0 ⌝ }
+    ensures { λ _. ⌜ now (out .exit) ≡ stored (now (out .entry)) 0 (entryNumbers entry) ⌝ }
+{
+    let numbers = [
+        entry.kind as u64,
+        entry.flags as u64,
+        entry.m0 as u64,
+        entry.m1 as u64,
+        entry.charset as u64,
+    ];
+    tell(out, &numbers)
+}
+
+// Checks a map and writes its record at the start of profile: the record's length.
+#[no_mangle]
+pub extern "C" fn feed_check(
+    event: &[u8],
+    post_header: u8,
+    dialect: u8,
+    profile: &mut [u8],
+    out: &mut [u64],
+) -> u64
+    ensures { λ r. ⌜ r ≡ statusOf 1 (now (out .entry)) (answerOf (feedCheck (now (event .entry)) «post_header» dialect (now (profile .entry)))) ⌝ }
+    ensures { λ _. ⌜ now (out .exit) ≡ numbersLeft 1 (now (out .entry)) (answerOf (feedCheck (now (event .entry)) «post_header» dialect (now (profile .entry)))) ⌝ }
+    ensures { λ _. ⌜ now (profile .exit) ≡ bytesLeft 1 (now (out .entry)) (now (profile .entry)) (feedCheck (now (event .entry)) «post_header» dialect (now (profile .entry))) ⌝ }
+{
+    if out.len() < 1 {
+        return NO_NUMBERS;
+    }
+    let asked = match dialect_of(dialect) {
+        Asked::For(asked) => asked,
+        Asked::Refused(r) => return tell_refusal(out, r),
+    };
+    match map_check::check(event, post_header, asked, profile) {
+        Written::Done { next } => {
+            let numbers = [next as u64];
+            tell(out, &numbers)
+        }
+        Written::Refused(r) => tell_refusal(out, r),
+    }
+}
+
+// What a record says of a column: real type, flags, m0, m1, charset.
+#[no_mangle]
+pub extern "C" fn feed_column(profile: &[u8], column: usize, out: &mut [u64]) -> u64
+    ensures { λ r. ⌜ r ≡ statusOf 5 (now (out .entry)) (feedColumn (now (profile .entry)) column) ⌝ }
+    ensures { λ _. ⌜ now (out .exit) ≡ numbersLeft 5 (now (out .entry)) (feedColumn (now (profile .entry)) column) ⌝ }
+{
+    if out.len() < 5 {
+        return NO_NUMBERS;
+    }
+    let columns = match record::read_record(profile) {
+        RecordRead::Valid { columns } => columns,
+        RecordRead::Refused(r) => return tell_refusal(out, r),
+    };
+    if columns <= column {
+        return tell_refusal(out, wire::refuse(NO_COLUMN, column));
+    }
+    tell_entry(out, record::entry_in(profile, column))
+}
+
+// Where the names of a map stand in the event: start and length, 0 and 0 where it has none or is refused before them.
+#[no_mangle]
+pub extern "C" fn feed_names(event: &[u8], post_header: u8, dialect: u8, out: &mut [u64]) -> u64
+    ensures { λ r. ⌜ r ≡ statusOf 2 (now (out .entry)) (feedNames (now (event .entry)) «post_header» dialect) ⌝ }
+    ensures { λ _. ⌜ now (out .exit) ≡ numbersLeft 2 (now (out .entry)) (feedNames (now (event .entry)) «post_header» dialect) ⌝ }
+{
+    if out.len() < 2 {
+        return NO_NUMBERS;
+    }
+    match dialect_of(dialect) {
+        Asked::For(asked) => tell_part(out, map_check::names_part(event, post_header, asked)),
+        Asked::Refused(r) => tell_refusal(out, r),
+    }
+}
+
+// Where the name of a column stands, start and length, in the list that applies: the map's names if they are not empty, else the operator's.
+#[no_mangle]
+pub extern "C" fn feed_name<'a>(
+    names: &'a [u8],
+    operator: &'a [u8],
+    column: usize,
+    out: &mut [u64],
+) -> u64
+    ensures { λ r. ⌜ r ≡ statusOf 2 (now (out .entry)) (feedName (now (names .entry)) (now (operator .entry)) column) ⌝ }
+    ensures { λ _. ⌜ now (out .exit) ≡ numbersLeft 2 (now (out .entry)) (feedName (now (names .entry)) (now (operator .entry)) column) ⌝ }
+{
+    if out.len() < 2 {
+        return NO_NUMBERS;
+    }
+    match map_check::column_name(names, operator, Place(column)) {
+        NameRead::Name(part) => tell_part(out, part),
+        NameRead::Refused(r) => tell_refusal(out, r),
+    }
+}

@@ -1,0 +1,249 @@
+// A value in numbers, its kind and its parts, and the value that a kind and parts make.
+use crate::twos::signed;
+use crate::twos::twos;
+use temporal::Date;
+use temporal::Moment;
+use temporal::Stamp;
+use temporal::Temporal;
+use temporal::Time;
+use value::Value;
+use wire::Refusal;
+use wire::refusal::NOT_TAKEN;
+ghost use mathlib.Core.Path.{_≡_};
+ghost use mathlib.Core.Bool.{true};
+ghost use mathlib.Core.List.{_∷_, []};
+ghost use Rattle.value.specs.declared.datum.Value.the-variants.{When};
+ghost use Rattle.feed_abi.specs.Parts.{kindOf, partsOf, padded, topsOf, fit, isTaken, stampOf, dateOf, momentOf, timeOf, made, valueOf, madeOf};
+
+// The kinds of values; 0 is the end of an image.
+const NULL: u64 = 1;
+
+const INT: u64 = 2;
+
+const UINT: u64 = 3;
+
+const FLOAT: u64 = 4;
+
+const DOUBLE: u64 = 5;
+
+const SINCE: u64 = 6;
+
+const YEAR: u64 = 7;
+
+const DATE: u64 = 8;
+
+const MOMENT: u64 = 9;
+
+const TIME: u64 = 10;
+
+const BYTES: u64 = 11;
+
+// The greatest number of so many bits.
+const TOP_1: u64 = 1;
+
+const TOP_8: u64 = 255;
+
+const TOP_16: u64 = 65535;
+
+const TOP_32: u64 = 4294967295;
+
+const TOP_64: u64 = 18446744073709551615;
+
+// A value that was made of numbers, or why there is none.
+pub(crate) enum Made {
+    Value(Value),
+    Refused(Refusal),
+}
+
+fn temporal_kind(t: Temporal) -> u64
+    ensures { λ r. ⌜ r ≡ kindOf (When t) ⌝ }
+{
+    match t {
+        Temporal::Since(_) => SINCE,
+        Temporal::On(_) => DATE,
+        Temporal::At(_) => MOMENT,
+        Temporal::Lasts(_) => TIME,
+    }
+}
+
+pub(crate) fn kind_of(value: Value) -> u64
+    ensures { λ r. ⌜ r ≡ kindOf value ⌝ }
+{
+    match value {
+        Value::Null => NULL,
+        Value::Int(_) => INT,
+        Value::Uint(_) => UINT,
+        Value::Float(_) => FLOAT,
+        Value::Double(_) => DOUBLE,
+        Value::Year(_) => YEAR,
+        Value::When(t) => temporal_kind(t),
+        Value::Bytes { start: _, len: _ } => BYTES,
+    }
+}
+
+fn temporal_parts(t: Temporal) -> [u64; 7]
+    ensures { λ r. ⌜ r ≡ padded 7 (partsOf (When t)) ⌝ }
+{
+    match t {
+        Temporal::Since(s) => [s.seconds as u64, s.micros as u64, 0, 0, 0, 0, 0],
+        Temporal::On(d) => [d.year as u64, d.month as u64, d.day as u64, 0, 0, 0, 0],
+        Temporal::At(m) => [
+            m.year as u64,
+            m.month as u64,
+            m.day as u64,
+            m.hour as u64,
+            m.minute as u64,
+            m.second as u64,
+            m.micros as u64,
+        ],
+        Temporal::Lasts(t) => [
+            t.negative as u64,
+            t.hours as u64,
+            t.minutes as u64,
+            t.seconds as u64,
+            t.micros as u64,
+            0,
+            0,
+        ],
+    }
+}
+
+fn one(n: u64) -> [u64; 7]
+    ensures { λ r. ⌜ r ≡ padded 7 (n ∷ []) ⌝ }
+{
+    [n, 0, 0, 0, 0, 0, 0]
+}
+
+// The seven parts of a value, 0 for each that its kind has not.
+pub(crate) fn parts_of(value: Value) -> [u64; 7]
+    ensures { λ r. ⌜ r ≡ padded 7 (partsOf value) ⌝ }
+{
+    match value {
+        Value::Null => [0, 0, 0, 0, 0, 0, 0],
+        Value::Int(z) => one(twos(z)),
+        Value::Uint(n) => one(n),
+        Value::Float(bits) => one(bits as u64),
+        Value::Double(bits) => one(bits),
+        Value::Year(y) => one(y as u64),
+        Value::When(t) => temporal_parts(t),
+        Value::Bytes { start, len } => [start as u64, len as u64, 0, 0, 0, 0, 0],
+    }
+}
+
+// Whether there is a part for each of tops, and none greater.
+fn fits(parts: &[u64], tops: &[u64]) -> bool
+    ensures { λ r. ⌜ r ≡ fit (now (tops .entry)) (now (parts .entry)) ⌝ }
+{
+    let mut i: usize = 0;
+    while i < tops.len() {
+        if parts.len() <= i {
+            return false;
+        }
+        if tops[i] < parts[i] {
+            return false;
+        }
+        i += 1;
+    }
+    true
+}
+
+// Whether the kind is one, with all its parts, and none wider than the kind has it.
+fn is_taken(kind: u64, parts: &[u64]) -> bool
+    ensures { λ r. ⌜ r ≡ isTaken kind (now (parts .entry)) ⌝ }
+{
+    match kind {
+        NULL => true,
+        INT => fits(parts, &[TOP_64]),
+        UINT => fits(parts, &[TOP_64]),
+        FLOAT => fits(parts, &[TOP_32]),
+        DOUBLE => fits(parts, &[TOP_64]),
+        SINCE => fits(parts, &[TOP_32, TOP_32]),
+        YEAR => fits(parts, &[TOP_16]),
+        DATE => fits(parts, &[TOP_16, TOP_8, TOP_8]),
+        MOMENT => fits(parts, &[TOP_16, TOP_8, TOP_8, TOP_8, TOP_8, TOP_8, TOP_32]),
+        TIME => fits(parts, &[TOP_1, TOP_16, TOP_8, TOP_8, TOP_32]),
+        BYTES => fits(parts, &[TOP_64, TOP_64]),
+        _ => false,
+    }
+}
+
+fn stamp_of(parts: &[u64]) -> Stamp
+    requires { ⌜ fit (topsOf 6) (now parts) ≡ true ⌝ }
+    ensures { λ r. ⌜ r ≡ stampOf (now (parts .entry)) ⌝ }
+{
+    Stamp {
+        seconds: parts[0] as u32,
+        micros: parts[1] as u32,
+    }
+}
+
+fn date_of(parts: &[u64]) -> Date
+    requires { ⌜ fit (topsOf 8) (now parts) ≡ true ⌝ }
+    ensures { λ r. ⌜ r ≡ dateOf (now (parts .entry)) ⌝ }
+{
+    Date {
+        year: parts[0] as u16,
+        month: parts[1] as u8,
+        day: parts[2] as u8,
+    }
+}
+
+fn moment_of(parts: &[u64]) -> Moment
+    requires { ⌜ fit (topsOf 9) (now parts) ≡ true ⌝ }
+    ensures { λ r. ⌜ r ≡ momentOf (now (parts .entry)) ⌝ }
+{
+    Moment {
+        year: parts[0] as u16,
+        month: parts[1] as u8,
+        day: parts[2] as u8,
+        hour: parts[3] as u8,
+        minute: parts[4] as u8,
+        second: parts[5] as u8,
+        micros: parts[6] as u32,
+    }
+}
+
+fn time_of(parts: &[u64]) -> Time
+    requires { ⌜ fit (topsOf 10) (now parts) ≡ true ⌝ }
+    ensures { λ r. ⌜ r ≡ timeOf (now (parts .entry)) ⌝ }
+{
+    Time {
+        negative: parts[0] == 1,
+        hours: parts[1] as u16,
+        minutes: parts[2] as u8,
+        seconds: parts[3] as u8,
+        micros: parts[4] as u32,
+    }
+}
+
+fn make_value(kind: u64, parts: &[u64]) -> Value
+    requires { ⌜ isTaken kind (now parts) ≡ true ⌝ }
+    ensures { λ r. ⌜ r ≡ made kind (now (parts .entry)) ⌝ }
+{
+    match kind {
+        INT => Value::Int(signed(parts[0])),
+        UINT => Value::Uint(parts[0]),
+        FLOAT => Value::Float(parts[0] as u32),
+        DOUBLE => Value::Double(parts[0]),
+        SINCE => Value::When(Temporal::Since(stamp_of(parts))),
+        YEAR => Value::Year(parts[0] as u16),
+        DATE => Value::When(Temporal::On(date_of(parts))),
+        MOMENT => Value::When(Temporal::At(moment_of(parts))),
+        TIME => Value::When(Temporal::Lasts(time_of(parts))),
+        BYTES => Value::Bytes {
+            start: parts[0] as usize,
+            len: parts[1] as usize,
+        },
+        _ => Value::Null,
+    }
+}
+
+// The value that a kind and parts make.
+pub(crate) fn value_of(kind: u64, parts: &[u64]) -> Made
+    ensures { λ r. ⌜ madeOf r ≡ valueOf kind (now (parts .entry)) ⌝ }
+{
+    if is_taken(kind, parts) {
+        return Made::Value(make_value(kind, parts));
+    }
+    Made::Refused(wire::refuse(NOT_TAKEN, 0))
+}

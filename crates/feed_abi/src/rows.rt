@@ -1,0 +1,165 @@
+// Row images, read and written.
+use crate::answer::NO_NUMBERS;
+use crate::answer::put_numbers;
+use crate::answer::tell;
+use crate::answer::tell_refusal;
+use crate::parts::Made;
+use crate::parts::kind_of;
+use crate::parts::parts_of;
+use crate::parts::value_of;
+use image::Cursor;
+use image::First;
+use image::Put;
+use image::Step;
+use value::Value;
+ghost use mathlib.Core.Path.{_≡_};
+ghost use mathlib.Core.List.{[]};
+ghost use Prim.Native.Nat.{_≤_};
+ghost use lib.ListN.{length};
+ghost use Rattle.wire.specs.Stored.{stored, answerOf};
+ghost use Rattle.image.specs.Split.{cursor};
+ghost use Rattle.image.specs.Puts.{putTold};
+ghost use Rattle.feed_abi.specs.Answers.{numberOf, toldOf, statusOf, numbersLeft, bytesLeft};
+ghost use Rattle.feed_abi.specs.Parts.{kindOf, partsOf};
+ghost use Rattle.feed_abi.specs.Calls.{said, cursorNumbers, stepNumbers, feedFirst, feedStep, feedStart, feedPut};
+
+fn tell_cursor(out: &mut [u64], at: Cursor) -> u64
+    requires { ⌜ 2 ≤ length (now out) ⌝ }
+    ensures { λ r. ⌜ r ≡ 0 ⌝ }
+    ensures { λ _. ⌜ now (out .exit) ≡ stored (now (out .entry)) 0 (cursorNumbers at) ⌝ }
+{
+    let numbers = [at.column as u64, at.offset as u64];
+    tell(out, &numbers)
+}
+
+// A column's value, NULL too.
+fn tell_value(out: &mut [u64], column: usize, value: Value, next: Cursor) -> u64
+    requires { ⌜ 11 ≤ length (now out) ⌝ }
+    ensures { λ r. ⌜ r ≡ 0 ⌝ }
+    ensures { λ _. ⌜ now (out .exit) ≡ stored (now (out .entry)) 0 (stepNumbers (kindOf value) column next (partsOf value)) ⌝ }
+{
+    let head = [
+        kind_of(value),
+        column as u64,
+        next.column as u64,
+        next.offset as u64,
+    ];
+    let parts = parts_of(value);
+    put_numbers(out, 0, &head);
+    put_numbers(out, 4, &parts);
+    0
+}
+
+// The end of an image: no column, and the bytes used.
+fn tell_end(out: &mut [u64], used: usize) -> u64
+    requires { ⌜ 11 ≤ length (now out) ⌝ }
+    ensures { λ r. ⌜ r ≡ 0 ⌝ }
+    ensures { λ _. ⌜ now (out .exit) ≡ stored (now (out .entry)) 0 (stepNumbers 0 0 (cursor 0 used) []) ⌝ }
+{
+    let numbers = [0, 0, 0, used as u64, 0, 0, 0, 0, 0, 0, 0];
+    tell(out, &numbers)
+}
+
+// What a writer of images answered.
+fn tell_put(out: &mut [u64], put: Put) -> u64
+    requires { ⌜ 2 ≤ length (now out) ⌝ }
+    ensures { λ r. ⌜ r ≡ numberOf (said cursorNumbers (putTold put)) ⌝ }
+    ensures { λ _. ⌜ now (out .exit) ≡ stored (now (out .entry)) 0 (toldOf (said cursorNumbers (putTold put))) ⌝ }
+{
+    match put {
+        Put::Next(next) => tell_cursor(out, next),
+        Put::Refused(r) => tell_refusal(out, r),
+    }
+}
+
+// The cursor that a walk begins with: column and offset.
+#[no_mangle]
+pub extern "C" fn feed_first(profile: &[u8], presence: &[u8], out: &mut [u64]) -> u64
+    ensures { λ r. ⌜ r ≡ statusOf 2 (now (out .entry)) (feedFirst (now (profile .entry)) (now (presence .entry))) ⌝ }
+    ensures { λ _. ⌜ now (out .exit) ≡ numbersLeft 2 (now (out .entry)) (feedFirst (now (profile .entry)) (now (presence .entry))) ⌝ }
+{
+    if out.len() < 2 {
+        return NO_NUMBERS;
+    }
+    match image::first_cursor(profile, presence) {
+        First::At(at) => tell_cursor(out, at),
+        First::Refused(r) => tell_refusal(out, r),
+    }
+}
+
+// One step over an image, from any cursor: kind, column, next column, next offset, and the seven parts of the value.
+#[no_mangle]
+pub extern "C" fn feed_step(
+    profile: &[u8],
+    presence: &[u8],
+    image: &[u8],
+    column: usize,
+    offset: usize,
+    out: &mut [u64],
+) -> u64
+    ensures { λ r. ⌜ r ≡ statusOf 11 (now (out .entry)) (feedStep (now (profile .entry)) (now (presence .entry)) (now (image .entry)) column offset) ⌝ }
+    ensures { λ _. ⌜ now (out .exit) ≡ numbersLeft 11 (now (out .entry)) (feedStep (now (profile .entry)) (now (presence .entry)) (now (image .entry)) column offset) ⌝ }
+{
+    if out.len() < 11 {
+        return NO_NUMBERS;
+    }
+    let at = Cursor { column, offset };
+    match at.step(profile, presence, image) {
+        Step::Null { column, next } => tell_value(out, column, Value::Null, next),
+        Step::Value {
+            column,
+            value,
+            next,
+        } => tell_value(out, column, value, next),
+        Step::End { used } => tell_end(out, used),
+        Step::Refused(r) => tell_refusal(out, r),
+    }
+}
+
+// Stores the null bits of an image: the cursor of its first value.
+#[no_mangle]
+pub extern "C" fn feed_start(
+    profile: &[u8],
+    presence: &[u8],
+    nulls: &[u8],
+    image: &mut [u8],
+    out: &mut [u64],
+) -> u64
+    ensures { λ r. ⌜ r ≡ statusOf 2 (now (out .entry)) (answerOf (feedStart (now (profile .entry)) (now (presence .entry)) (now (nulls .entry)) (now (image .entry)))) ⌝ }
+    ensures { λ _. ⌜ now (out .exit) ≡ numbersLeft 2 (now (out .entry)) (answerOf (feedStart (now (profile .entry)) (now (presence .entry)) (now (nulls .entry)) (now (image .entry)))) ⌝ }
+    ensures { λ _. ⌜ now (image .exit) ≡ bytesLeft 2 (now (out .entry)) (now (image .entry)) (feedStart (now (profile .entry)) (now (presence .entry)) (now (nulls .entry)) (now (image .entry))) ⌝ }
+{
+    if out.len() < 2 {
+        return NO_NUMBERS;
+    }
+    tell_put(out, image::start(profile, presence, nulls, image))
+}
+
+// Stores one value, or nothing for NULL, at a cursor: the cursor of the next.
+#[no_mangle]
+pub extern "C" fn feed_put(
+    profile: &[u8],
+    presence: &[u8],
+    nulls: &[u8],
+    column: usize,
+    offset: usize,
+    kind: u64,
+    parts: &[u64],
+    lent: &[u8],
+    image: &mut [u8],
+    out: &mut [u64],
+) -> u64
+    ensures { λ r. ⌜ r ≡ statusOf 2 (now (out .entry)) (answerOf (feedPut (now (profile .entry)) (now (presence .entry)) (now (nulls .entry)) column offset kind (now (parts .entry)) (now (lent .entry)) (now (image .entry)))) ⌝ }
+    ensures { λ _. ⌜ now (out .exit) ≡ numbersLeft 2 (now (out .entry)) (answerOf (feedPut (now (profile .entry)) (now (presence .entry)) (now (nulls .entry)) column offset kind (now (parts .entry)) (now (lent .entry)) (now (image .entry)))) ⌝ }
+    ensures { λ _. ⌜ now (image .exit) ≡ bytesLeft 2 (now (out .entry)) (now (image .entry)) (feedPut (now (profile .entry)) (now (presence .entry)) (now (nulls .entry)) column offset kind (now (parts .entry)) (now (lent .entry)) (now (image .entry))) ⌝ }
+{
+    if out.len() < 2 {
+        return NO_NUMBERS;
+    }
+    let value = match value_of(kind, parts) {
+        Made::Value(value) => value,
+        Made::Refused(r) => return tell_refusal(out, r),
+    };
+    let at = Cursor { column, offset };
+    tell_put(out, at.put(profile, presence, nulls, value, lent, image))
+}
