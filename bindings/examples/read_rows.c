@@ -1,6 +1,6 @@
 /*
- * read_rows FILE: prints the tables of FILE, whose lines rows.txt explains: the names of the columns, then a line for each row. Every
- * row is also written again from its values, and must have the bytes that it was read from, but for the spare null bits.
+ * read_rows FILE: prints the tables of FILE, whose lines rows.txt explains: the columns with their types, then a line for each row.
+ * Every row is also written again from its values, and must have the bytes that it was read from, but for the spare null bits.
  */
 #include "../feed.h"
 
@@ -128,22 +128,6 @@ static void print_value(const struct value *value, const uint8_t *image)
     }
 }
 
-static void print_names(const struct bytes *event, uint8_t dialect, size_t columns)
-{
-    uint64_t out[FEED_OUT_NUMBERS];
-    const uint8_t *names;
-    size_t names_length, i;
-
-    answered("feed_names", feed_names(event->at, event->length, POST_HEADER, dialect, out, FEED_OUT_NUMBERS), out);
-    names = event->at + out[FEED_NAME_START];
-    names_length = (size_t)out[FEED_NAME_LENGTH];
-    for (i = 0; i < columns; i++) {
-        answered("feed_name", feed_name(names, names_length, names, 0, i, out, FEED_OUT_NUMBERS), out);
-        printf("%s%.*s", i == 0 ? "" : " | ", (int)out[FEED_NAME_LENGTH], (const char *)names + out[FEED_NAME_START]);
-    }
-    printf("\n");
-}
-
 static void read_map(const struct bytes *event, uint8_t dialect, struct table *table)
 {
     uint64_t out[FEED_OUT_NUMBERS];
@@ -152,6 +136,32 @@ static void read_map(const struct bytes *event, uint8_t dialect, struct table *t
              feed_check(event->at, event->length, POST_HEADER, dialect, table->record, FEED_RECORD_MOST, out, FEED_OUT_NUMBERS), out);
     table->record_length = (size_t)out[FEED_RECORD_LENGTH];
     table->columns = (table->record_length - FEED_RECORD_BYTES(0)) / 6;
+}
+
+/* the real type of a column, and whether it is known to be unsigned */
+static void print_type(const struct table *table, size_t column)
+{
+    uint64_t out[FEED_OUT_NUMBERS];
+
+    answered("feed_column", feed_column(table->record, table->record_length, column, out, FEED_OUT_NUMBERS), out);
+    printf(" %" PRIu64 "%s", out[FEED_COLUMN_TYPE], out[FEED_COLUMN_FLAGS] & FEED_UNSIGNED ? " unsigned" : "");
+}
+
+static void print_columns(const struct bytes *event, uint8_t dialect, const struct table *table)
+{
+    uint64_t out[FEED_OUT_NUMBERS];
+    const uint8_t *names;
+    size_t names_length, i;
+
+    answered("feed_names", feed_names(event->at, event->length, POST_HEADER, dialect, out, FEED_OUT_NUMBERS), out);
+    names = event->at + out[FEED_NAME_START];
+    names_length = (size_t)out[FEED_NAME_LENGTH];
+    for (i = 0; i < table->columns; i++) {
+        answered("feed_name", feed_name(names, names_length, names, 0, i, out, FEED_OUT_NUMBERS), out);
+        printf("%s%.*s", i == 0 ? "" : " | ", (int)out[FEED_NAME_LENGTH], (const char *)names + out[FEED_NAME_START]);
+        print_type(table, i);
+    }
+    printf("\n");
 }
 
 /* Reads the values of a row. Returns the bytes that it took. */
@@ -284,7 +294,7 @@ int main(int argc, char **argv)
         } else if (strcmp(word, "map") == 0) {
             from_hex(strtok(NULL, " \n"), &event);
             read_map(&event, dialect, &table);
-            print_names(&event, dialect, table.columns);
+            print_columns(&event, dialect, &table);
             first = checked = 1;
         } else if (strcmp(word, "row") == 0 && checked) {
             from_hex(strtok(NULL, " \n"), &row.presence);

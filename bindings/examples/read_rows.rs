@@ -1,5 +1,5 @@
-//! read_rows FILE: prints the tables of FILE, whose lines rows.txt explains: the names of the columns, then a line for each row. Every
-//! row is also written again from its values, and must have the bytes that it was read from, but for the spare null bits.
+//! read_rows FILE: prints the tables of FILE, whose lines rows.txt explains: the columns with their types, then a line for each row.
+//! Every row is also written again from its values, and must have the bytes that it was read from, but for the spare null bits.
 
 use feed::{check, name, names, Dialect, Record, Value};
 use std::error::Error;
@@ -64,11 +64,15 @@ fn shown(value: &Value) -> String {
     }
 }
 
-fn print_names(event: &[u8], dialect: Dialect, columns: usize) -> Result<(), Box<dyn Error>> {
+/// The columns, with their real types, and whether they are known to be unsigned.
+fn print_columns(event: &[u8], dialect: Dialect, record: &Record) -> Result<(), Box<dyn Error>> {
     let list = names(event, POST_HEADER, dialect);
     let mut words = Vec::new();
-    for column in 0..columns {
-        words.push(String::from_utf8_lossy(name(list, &[], column)?));
+    for i in 0..record.columns() {
+        let name = String::from_utf8_lossy(name(list, &[], i)?);
+        let column = record.column(i)?;
+        let sign = if column.unsigned { " unsigned" } else { "" };
+        words.push(format!("{name} {}{sign}", column.real_type));
     }
     println!("{}", words.join(" | "));
     Ok(())
@@ -139,7 +143,7 @@ fn run() -> Result<(), Box<dyn Error>> {
             (Some("map"), _) => {
                 let event = from_hex(words.next())?;
                 let checked = check(&event, POST_HEADER, dialect)?;
-                print_names(&event, dialect, checked.columns())?;
+                print_columns(&event, dialect, &checked)?;
                 record = Some(checked);
                 first = true;
             }
