@@ -17,15 +17,13 @@ use Rattle.value.proofs.Facts.{both}
 use Rattle.feed_abi.specs.Parts.{topsOf, fit, isTaken}
 
 -- ---- parts that fit
--- one of them is there, and not too great
-pub fit-at : (ts ps : List ℕ) (i : ℕ) → fit ts ps ≡ true → i < length ts → (i < length ps) × (getD ps i 0 ≤ getD ts i 0)
+-- none of them is too great
+pub fit-at : (ts ps : List ℕ) (i : ℕ) → fit ts ps ≡ true → i < length ts → getD ps i 0 ≤ getD ts i 0
 unfolding fit
 fit-at [] ps i h l = absurd (not-suc-le-zero l)
-fit-at (t ∷ ts) [] i h l = let z : _≡_ {A = ℕ} 0 1 = cc in absurd (omega arith)
-fit-at (t ∷ ts) (p ∷ ps) zero h l = (omega arith, leb-true p t (both (leb p t) (fit ts ps) h .0))
-fit-at (t ∷ ts) (p ∷ ps) (suc i) h l =
-    let w = fit-at ts ps i (both (leb p t) (fit ts ps) h .1) (omega arith) in
-    (omega (arith, w .0), w .1)
+fit-at (t ∷ ts) [] i h l = omega arith
+fit-at (t ∷ ts) (p ∷ ps) zero h l = leb-true p t (both (leb p t) (fit ts ps) h .0)
+fit-at (t ∷ ts) (p ∷ ps) (suc i) h l = fit-at ts ps i (both (leb p t) (fit ts ps) h .1) (omega arith)
 
 -- what stands behind them does not matter
 pub fit-more : (ts ps rest : List ℕ) → fit ts ps ≡ true → fit ts (ps ++ rest) ≡ true

@@ -12,8 +12,10 @@ use wire::refusal::NOT_TAKEN;
 ghost use mathlib.Core.Path.{_≡_};
 ghost use mathlib.Core.Bool.{true};
 ghost use mathlib.Core.List.{_∷_, []};
+ghost use Prim.Native.Nat.{_≤_};
+ghost use lib.ListN.{getD};
 ghost use Rattle.value.specs.declared.datum.Value.the-variants.{When};
-ghost use Rattle.feed_abi.specs.Parts.{kindOf, partsOf, padded, topsOf, fit, isTaken, stampOf, dateOf, momentOf, timeOf, made, valueOf, madeOf};
+ghost use Rattle.feed_abi.specs.Parts.{kindOf, partsOf, padded, top, topsOf, fit, isTaken, stampOf, dateOf, momentOf, timeOf, made, valueOf, madeOf};
 
 // The kinds of values; 0 is the end of an image.
 const NULL: u64 = 1;
@@ -167,13 +169,45 @@ fn is_taken(kind: u64, parts: &[u64]) -> bool
     }
 }
 
+// A part, 0 where it is not there.
+fn part(parts: &[u64], i: usize) -> u64
+    ensures { λ r. ⌜ r ≡ getD (now (parts .entry)) i 0 ⌝ }
+{
+    if parts.len() <= i {
+        return 0;
+    }
+    parts[i]
+}
+
+// The same of a part that is known to be so narrow.
+fn part_8(parts: &[u64], i: usize) -> u8
+    requires { ⌜ getD (now parts) i 0 ≤ top 8 ⌝ }
+    ensures { λ r. ⌜ r ≡ getD (now (parts .entry)) i 0 ⌝ }
+{
+    part(parts, i) as u8
+}
+
+fn part_16(parts: &[u64], i: usize) -> u16
+    requires { ⌜ getD (now parts) i 0 ≤ top 16 ⌝ }
+    ensures { λ r. ⌜ r ≡ getD (now (parts .entry)) i 0 ⌝ }
+{
+    part(parts, i) as u16
+}
+
+fn part_32(parts: &[u64], i: usize) -> u32
+    requires { ⌜ getD (now parts) i 0 ≤ top 32 ⌝ }
+    ensures { λ r. ⌜ r ≡ getD (now (parts .entry)) i 0 ⌝ }
+{
+    part(parts, i) as u32
+}
+
 fn stamp_of(parts: &[u64]) -> Stamp
     requires { ⌜ fit (topsOf 6) (now parts) ≡ true ⌝ }
     ensures { λ r. ⌜ r ≡ stampOf (now (parts .entry)) ⌝ }
 {
     Stamp {
-        seconds: parts[0] as u32,
-        micros: parts[1] as u32,
+        seconds: part_32(parts, 0),
+        micros: part_32(parts, 1),
     }
 }
 
@@ -182,9 +216,9 @@ fn date_of(parts: &[u64]) -> Date
     ensures { λ r. ⌜ r ≡ dateOf (now (parts .entry)) ⌝ }
 {
     Date {
-        year: parts[0] as u16,
-        month: parts[1] as u8,
-        day: parts[2] as u8,
+        year: part_16(parts, 0),
+        month: part_8(parts, 1),
+        day: part_8(parts, 2),
     }
 }
 
@@ -193,13 +227,13 @@ fn moment_of(parts: &[u64]) -> Moment
     ensures { λ r. ⌜ r ≡ momentOf (now (parts .entry)) ⌝ }
 {
     Moment {
-        year: parts[0] as u16,
-        month: parts[1] as u8,
-        day: parts[2] as u8,
-        hour: parts[3] as u8,
-        minute: parts[4] as u8,
-        second: parts[5] as u8,
-        micros: parts[6] as u32,
+        year: part_16(parts, 0),
+        month: part_8(parts, 1),
+        day: part_8(parts, 2),
+        hour: part_8(parts, 3),
+        minute: part_8(parts, 4),
+        second: part_8(parts, 5),
+        micros: part_32(parts, 6),
     }
 }
 
@@ -208,11 +242,11 @@ fn time_of(parts: &[u64]) -> Time
     ensures { λ r. ⌜ r ≡ timeOf (now (parts .entry)) ⌝ }
 {
     Time {
-        negative: parts[0] == 1,
-        hours: parts[1] as u16,
-        minutes: parts[2] as u8,
-        seconds: parts[3] as u8,
-        micros: parts[4] as u32,
+        negative: part(parts, 0) == 1,
+        hours: part_16(parts, 1),
+        minutes: part_8(parts, 2),
+        seconds: part_8(parts, 3),
+        micros: part_32(parts, 4),
     }
 }
 
@@ -221,18 +255,18 @@ fn make_value(kind: u64, parts: &[u64]) -> Value
     ensures { λ r. ⌜ r ≡ made kind (now (parts .entry)) ⌝ }
 {
     match kind {
-        INT => Value::Int(signed(parts[0])),
-        UINT => Value::Uint(parts[0]),
-        FLOAT => Value::Float(parts[0] as u32),
-        DOUBLE => Value::Double(parts[0]),
+        INT => Value::Int(signed(part(parts, 0))),
+        UINT => Value::Uint(part(parts, 0)),
+        FLOAT => Value::Float(part_32(parts, 0)),
+        DOUBLE => Value::Double(part(parts, 0)),
         SINCE => Value::When(Temporal::Since(stamp_of(parts))),
-        YEAR => Value::Year(parts[0] as u16),
+        YEAR => Value::Year(part_16(parts, 0)),
         DATE => Value::When(Temporal::On(date_of(parts))),
         MOMENT => Value::When(Temporal::At(moment_of(parts))),
         TIME => Value::When(Temporal::Lasts(time_of(parts))),
         BYTES => Value::Bytes {
-            start: parts[0] as usize,
-            len: parts[1] as usize,
+            start: part(parts, 0) as usize,
+            len: part(parts, 1) as usize,
         },
         _ => Value::Null,
     }

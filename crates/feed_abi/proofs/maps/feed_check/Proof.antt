@@ -16,7 +16,8 @@ use Rattle.feed_abi.proofs.maps.dialect_of.Reads as dialect-of-reads
 use Rattle.map_check.proofs.check.Reads as check-reads
 
 returns : tie.Need-returns
-returns c = no-bytes 1 (c .before .before .before .before .args .out .now) (c .before .before .before .before .args .profile .now) _ (c .if1 .taken)
+returns c = let a = c .before .before .before .before .args in
+    no-bytes 1 (a .out .now) (a .profile .now) _ (c .if1 .taken)
 
 dialect-of-requires : tie.Need-dialect-of-requires
 dialect-of-requires c κs = search needs
@@ -35,7 +36,8 @@ same-length c = search needs
 
 returns-2 : tie.Need-returns-2
 unfolding feedCheck
-returns-2 c = not-called 1 (c .before .before .before .before .before .before .before .before .before .before .before .before .args .out .now) (c .before .before .before .before .before .before .before .before .before .before .before .before .args .profile .now) (feedCheck (c .before .before .before .before .before .before .before .before .before .before .before .before .args .event .now) (c .before .before .before .before .before .before .before .before .before .before .before .before .args .post-header) (c .before .before .before .before .before .before .before .before .before .before .before .before .args .dialect) (c .before .before .before .before .before .before .before .before .before .before .before .before .args .profile .now)) _ _ _ (omega arith) (rw (sym (c .before .before .before .before .before .before .before .dialect-of .ensures) ∙ ap askedOf (c .before .before .before .before .before .r .given .1))) (c .before .before .tell-refusal .ensures .0) (c .before .before .tell-refusal .ensures .1)
+returns-2 c = let a = c .before .before .before .before .before .before .before .before .before .before .before .before .args in
+    not-called 1 (a .out .now) (a .profile .now) (feedCheck (a .event .now) (a .post-header) (a .dialect) (a .profile .now)) _ _ _ (omega arith) (rw (sym (c .before .before .before .before .before .before .before .dialect-of .ensures) ∙ ap askedOf (c .before .before .before .before .before .r .given .1))) (c .before .before .tell-refusal .ensures .0) (c .before .before .tell-refusal .ensures .1)
 
 check-requires : tie.Need-check-requires
 check-requires c κs = search needs
@@ -63,7 +65,8 @@ same-length-3 c = search needs
 
 returns-3 : tie.Need-returns-3
 unfolding feedCheck
-returns-3 c = wrote-ok 1 (c .before .before .before .before .before .before .before .before .before .before .before .before .before .before .before .before .before .before .before .before .args .out .now) (c .before .before .before .before .before .before .before .before .before .before .before .before .before .before .before .before .before .before .before .before .args .profile .now) one (check _ (c .before .before .before .before .before .before .before .before .before .before .before .before .before .before .before .before .before .before .before .before .args .event .now) (c .before .before .before .before .before .before .before .before .before .before .before .before .before .before .before .before .before .before .before .before .args .post-header) (c .before .before .before .before .before .before .before .before .before .before .before .before .before .before .before .before .before .before .before .before .args .profile .now)) (feedCheck (c .before .before .before .before .before .before .before .before .before .before .before .before .before .before .before .before .before .before .before .before .args .event .now) (c .before .before .before .before .before .before .before .before .before .before .before .before .before .before .before .before .before .before .before .before .args .post-header) (c .before .before .before .before .before .before .before .before .before .before .before .before .before .before .before .before .before .before .before .before .args .dialect) (c .before .before .before .before .before .before .before .before .before .before .before .before .before .before .before .before .before .before .before .before .args .profile .now)) _ _ _ _ (omega arith) (rw (sym (c .before .before .before .before .before .before .before .before .before .before .before .before .before .before .before .dialect-of .ensures) ∙ ap askedOf (c .before .before .before .before .before .before .before .before .before .before .before .before .before .asked .given .1))) (sym (c .before .before .before .before .before .before .before .before .before .before .check .ensures .0) ∙ ap writtenOf (c .before .before .before .before .before .before .next .given .1)) (c .before .before .tell .ensures .0) (c .before .before .tell .ensures .1) (c .before .before .before .before .before .before .before .before .before .before .check .ensures .1)
+returns-3 c = let a = c .before .before .before .before .before .before .before .before .before .before .before .before .before .before .before .before .before .before .before .before .args in
+    wrote-ok 1 (a .out .now) (a .profile .now) one (check _ (a .event .now) (a .post-header) (a .profile .now)) (feedCheck (a .event .now) (a .post-header) (a .dialect) (a .profile .now)) _ _ _ _ (omega arith) (rw (sym (c .before .before .before .before .before .before .before .before .before .before .before .before .before .before .before .dialect-of .ensures) ∙ ap askedOf (c .before .before .before .before .before .before .before .before .before .before .before .before .before .asked .given .1))) (sym (c .before .before .before .before .before .before .before .before .before .before .check .ensures .0) ∙ ap writtenOf (c .before .before .before .before .before .before .next .given .1)) (c .before .before .tell .ensures .0) (c .before .before .tell .ensures .1) (c .before .before .before .before .before .before .before .before .before .before .check .ensures .1)
 
 same-length-4 : tie.Need-same-length-4
 same-length-4 c = search needs
@@ -73,7 +76,8 @@ same-length-5 c = search needs
 
 returns-4 : tie.Need-returns-4
 unfolding feedCheck
-returns-4 c = wrote-refused 1 (c .before .before .before .before .before .before .before .before .before .before .before .before .before .before .before .before .before .before .before .args .out .now) (c .before .before .before .before .before .before .before .before .before .before .before .before .before .before .before .before .before .before .before .args .profile .now) one (check _ (c .before .before .before .before .before .before .before .before .before .before .before .before .before .before .before .before .before .before .before .args .event .now) (c .before .before .before .before .before .before .before .before .before .before .before .before .before .before .before .before .before .before .before .args .post-header) (c .before .before .before .before .before .before .before .before .before .before .before .before .before .before .before .before .before .before .before .args .profile .now)) (feedCheck (c .before .before .before .before .before .before .before .before .before .before .before .before .before .before .before .before .before .before .before .args .event .now) (c .before .before .before .before .before .before .before .before .before .before .before .before .before .before .before .before .before .before .before .args .post-header) (c .before .before .before .before .before .before .before .before .before .before .before .before .before .before .before .before .before .before .before .args .dialect) (c .before .before .before .before .before .before .before .before .before .before .before .before .before .before .before .before .before .before .before .args .profile .now)) _ _ _ _ (omega arith) (rw (sym (c .before .before .before .before .before .before .before .before .before .before .before .before .before .before .dialect-of .ensures) ∙ ap askedOf (c .before .before .before .before .before .before .before .before .before .before .before .before .asked .given .1))) (sym (c .before .before .before .before .before .before .before .before .before .check .ensures .0) ∙ ap writtenOf (c .before .before .before .before .before .r2 .given .1)) (c .before .before .tell-refusal2 .ensures .0) (c .before .before .tell-refusal2 .ensures .1) (c .before .before .before .before .before .before .before .before .before .check .ensures .1)
+returns-4 c = let a = c .before .before .before .before .before .before .before .before .before .before .before .before .before .before .before .before .before .before .before .args in
+    wrote-refused 1 (a .out .now) (a .profile .now) one (check _ (a .event .now) (a .post-header) (a .profile .now)) (feedCheck (a .event .now) (a .post-header) (a .dialect) (a .profile .now)) _ _ _ _ (omega arith) (rw (sym (c .before .before .before .before .before .before .before .before .before .before .before .before .before .before .dialect-of .ensures) ∙ ap askedOf (c .before .before .before .before .before .before .before .before .before .before .before .before .asked .given .1))) (sym (c .before .before .before .before .before .before .before .before .before .check .ensures .0) ∙ ap writtenOf (c .before .before .before .before .before .r2 .given .1)) (c .before .before .tell-refusal2 .ensures .0) (c .before .before .tell-refusal2 .ensures .1) (c .before .before .before .before .before .before .before .before .before .check .ensures .1)
 
 pub feed-check-spec : {M : Type 1} → statement M
 feed-check-spec =

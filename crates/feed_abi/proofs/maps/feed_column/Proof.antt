@@ -38,7 +38,8 @@ same-length : tie.Need-same-length
 same-length c = search needs
 
 returns-2 : tie.Need-returns-2
-returns-2 c = tells-refused 5 (c .before .before .before .before .before .before .before .before .before .before .before .args .out .now) _ _ _ _ (omega arith) (column-refused (c .before .before .before .before .before .before .before .before .before .before .before .args .profile .now) (c .before .before .before .before .before .before .before .before .before .before .before .args .column) _ (sym (c .before .before .before .before .before .before .before .read-record .ensures) ∙ ap recordOf (c .before .before .before .before .before .r .given .1))) (c .before .before .tell-refusal .ensures .0) (c .before .before .tell-refusal .ensures .1)
+returns-2 c = let a = c .before .before .before .before .before .before .before .before .before .before .before .args in
+    tells-refused 5 (a .out .now) _ _ _ _ (omega arith) (column-refused (a .profile .now) (a .column) _ (sym (c .before .before .before .before .before .before .before .read-record .ensures) ∙ ap recordOf (c .before .before .before .before .before .r .given .1))) (c .before .before .tell-refusal .ensures .0) (c .before .before .tell-refusal .ensures .1)
 
 refuse-requires : tie.Need-refuse-requires
 refuse-requires c κs = search needs
@@ -50,7 +51,8 @@ same-length-2 : tie.Need-same-length-2
 same-length-2 c = search needs
 
 returns-3 : tie.Need-returns-3
-returns-3 c = tells-refused 5 (c .before .before .before .before .before .before .before .before .before .before .before .before .before .args .out .now) _ _ _ _ (omega arith) (column-none (c .before .before .before .before .before .before .before .before .before .before .before .before .before .args .profile .now) (c .before .before .before .before .before .before .before .before .before .before .before .before .before .args .column) _ (sym (c .before .before .before .before .before .before .before .before .before .read-record .ensures) ∙ ap recordOf (c .before .before .before .before .before .before .before .columns .given .1)) (c .before .before .before .before .before .if2 .taken)) (c .before .before .tell-refusal2 .ensures .0 ∙ ap (λ (w : Refusal). w .number) (c .before .before .before .refuse .ensures)) (c .before .before .tell-refusal2 .ensures .1 ∙ ap (λ (w : Refusal). stored (c .before .before .before .before .before .before .before .before .before .before .before .before .before .args .out .now) 0 (w .place ∷ [])) (c .before .before .before .refuse .ensures))
+returns-3 c = let a = c .before .before .before .before .before .before .before .before .before .before .before .before .before .args in
+    tells-refused 5 (a .out .now) _ _ _ _ (omega arith) (column-none (a .profile .now) (a .column) _ (sym (c .before .before .before .before .before .before .before .before .before .read-record .ensures) ∙ ap recordOf (c .before .before .before .before .before .before .before .columns .given .1)) (c .before .before .before .before .before .if2 .taken)) (c .before .before .tell-refusal2 .ensures .0 ∙ ap (λ (w : Refusal). w .number) (c .before .before .before .refuse .ensures)) (c .before .before .tell-refusal2 .ensures .1 ∙ ap (λ (w : Refusal). stored (a .out .now) 0 (w .place ∷ [])) (c .before .before .before .refuse .ensures))
 
 entry-in-requires : tie.Need-entry-in-requires
 entry-in-requires c κs = search needs
@@ -62,7 +64,8 @@ same-length-3 : tie.Need-same-length-3
 same-length-3 c = search needs
 
 returns-4 : tie.Need-returns-4
-returns-4 c = tells-ok 5 (c .before .before .before .before .before .before .before .before .before .before .before .before .before .args .out .now) _ _ _ _ (omega arith) (column-at (c .before .before .before .before .before .before .before .before .before .before .before .before .before .args .profile .now) (c .before .before .before .before .before .before .before .before .before .before .before .before .before .args .column) _ (sym (c .before .before .before .before .before .before .before .before .before .read-record .ensures) ∙ ap recordOf (c .before .before .before .before .before .before .before .columns .given .1)) (c .before .before .before .before .before .if2 .left)) (c .before .before .tell-entry .ensures .0) (c .before .before .tell-entry .ensures .1 ∙ ap (λ (e : Entry). stored (c .before .before .before .before .before .before .before .before .before .before .before .before .before .args .out .now) 0 (entryNumbers e)) (c .before .before .before .entry-in .ensures))
+returns-4 c = let a = c .before .before .before .before .before .before .before .before .before .before .before .before .before .args in
+    tells-ok 5 (a .out .now) _ _ _ _ (omega arith) (column-at (a .profile .now) (a .column) _ (sym (c .before .before .before .before .before .before .before .before .before .read-record .ensures) ∙ ap recordOf (c .before .before .before .before .before .before .before .columns .given .1)) (c .before .before .before .before .before .if2 .left)) (c .before .before .tell-entry .ensures .0) (c .before .before .tell-entry .ensures .1 ∙ ap (λ (e : Entry). stored (a .out .now) 0 (entryNumbers e)) (c .before .before .before .entry-in .ensures))
 
 pub feed-column-spec : {M : Type 1} → statement M
 feed-column-spec =

@@ -37,14 +37,16 @@ same-length c = search needs
 
 returns-2 : tie.Need-returns-2
 unfolding feedName
-returns-2 c = said-ok 2 (c .before .before .before .before .before .before .before .before .before .before .before .before .args .out .now) partNumbers (columnName (c .before .before .before .before .before .before .before .before .before .before .before .before .args .names .now) (c .before .before .before .before .before .before .before .before .before .before .before .before .args .operator .now) (place (c .before .before .before .before .before .before .before .before .before .before .before .before .args .column))) _ _ _ (omega arith) (sym (c .before .before .before .before .before .before .before .column-name .ensures) ∙ ap nameOf (c .before .before .before .before .before .part .given .1)) (c .before .before .tell-part .ensures .0) (c .before .before .tell-part .ensures .1)
+returns-2 c = let a = c .before .before .before .before .before .before .before .before .before .before .before .before .args in
+    said-ok 2 (a .out .now) partNumbers (columnName (a .names .now) (a .operator .now) (place (a .column))) _ _ _ (omega arith) (sym (c .before .before .before .before .before .before .before .column-name .ensures) ∙ ap nameOf (c .before .before .before .before .before .part .given .1)) (c .before .before .tell-part .ensures .0) (c .before .before .tell-part .ensures .1)
 
 same-length-2 : tie.Need-same-length-2
 same-length-2 c = search needs
 
 returns-3 : tie.Need-returns-3
 unfolding feedName
-returns-3 c = said-refused 2 (c .before .before .before .before .before .before .before .before .before .before .before .before .args .out .now) partNumbers (columnName (c .before .before .before .before .before .before .before .before .before .before .before .before .args .names .now) (c .before .before .before .before .before .before .before .before .before .before .before .before .args .operator .now) (place (c .before .before .before .before .before .before .before .before .before .before .before .before .args .column))) _ _ _ (omega arith) (sym (c .before .before .before .before .before .before .before .column-name .ensures) ∙ ap nameOf (c .before .before .before .before .before .r .given .1)) (c .before .before .tell-refusal .ensures .0) (c .before .before .tell-refusal .ensures .1)
+returns-3 c = let a = c .before .before .before .before .before .before .before .before .before .before .before .before .args in
+    said-refused 2 (a .out .now) partNumbers (columnName (a .names .now) (a .operator .now) (place (a .column))) _ _ _ (omega arith) (sym (c .before .before .before .before .before .before .before .column-name .ensures) ∙ ap nameOf (c .before .before .before .before .before .r .given .1)) (c .before .before .tell-refusal .ensures .0) (c .before .before .tell-refusal .ensures .1)
 
 pub feed-name-spec : {M : Type 1} → statement M
 feed-name-spec =

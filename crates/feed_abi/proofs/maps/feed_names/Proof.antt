@@ -44,14 +44,16 @@ same-length c = search needs
 
 returns-2 : tie.Need-returns-2
 unfolding feedNames
-returns-2 c = said-ok 2 (c .before .before .before .before .before .before .before .before .before .before .before .before .args .out .now) (λ (d : Dialect). partNumbers (namesPart d (c .before .before .before .before .before .before .before .before .before .before .before .before .args .event .now) (readEvent (c .before .before .before .before .before .before .before .before .before .before .before .before .args .event .now) (c .before .before .before .before .before .before .before .before .before .before .before .before .args .post-header)))) (dialectOf (c .before .before .before .before .before .before .before .before .before .before .before .before .args .dialect)) _ _ _ (omega arith) (sym (c .before .before .before .before .before .before .before .before .dialect-of .ensures) ∙ ap askedOf (c .before .before .before .before .before .before .asked .given .1)) (c .before .before .tell-part .ensures .0) (c .before .before .tell-part .ensures .1 ∙ ap (λ (p : Part). stored (c .before .before .before .before .before .before .before .before .before .before .before .before .args .out .now) 0 (partNumbers p)) (c .before .before .before .names-part .ensures))
+returns-2 c = let a = c .before .before .before .before .before .before .before .before .before .before .before .before .args in
+    said-ok 2 (a .out .now) (λ (d : Dialect). partNumbers (namesPart d (a .event .now) (readEvent (a .event .now) (a .post-header)))) (dialectOf (a .dialect)) _ _ _ (omega arith) (sym (c .before .before .before .before .before .before .before .before .dialect-of .ensures) ∙ ap askedOf (c .before .before .before .before .before .before .asked .given .1)) (c .before .before .tell-part .ensures .0) (c .before .before .tell-part .ensures .1 ∙ ap (λ (p : Part). stored (a .out .now) 0 (partNumbers p)) (c .before .before .before .names-part .ensures))
 
 same-length-2 : tie.Need-same-length-2
 same-length-2 c = search needs
 
 returns-3 : tie.Need-returns-3
 unfolding feedNames
-returns-3 c = said-refused 2 (c .before .before .before .before .before .before .before .before .before .before .before .args .out .now) (λ (d : Dialect). partNumbers (namesPart d (c .before .before .before .before .before .before .before .before .before .before .before .args .event .now) (readEvent (c .before .before .before .before .before .before .before .before .before .before .before .args .event .now) (c .before .before .before .before .before .before .before .before .before .before .before .args .post-header)))) (dialectOf (c .before .before .before .before .before .before .before .before .before .before .before .args .dialect)) _ _ _ (omega arith) (sym (c .before .before .before .before .before .before .before .dialect-of .ensures) ∙ ap askedOf (c .before .before .before .before .before .r .given .1)) (c .before .before .tell-refusal .ensures .0) (c .before .before .tell-refusal .ensures .1)
+returns-3 c = let a = c .before .before .before .before .before .before .before .before .before .before .before .args in
+    said-refused 2 (a .out .now) (λ (d : Dialect). partNumbers (namesPart d (a .event .now) (readEvent (a .event .now) (a .post-header)))) (dialectOf (a .dialect)) _ _ _ (omega arith) (sym (c .before .before .before .before .before .before .before .dialect-of .ensures) ∙ ap askedOf (c .before .before .before .before .before .r .given .1)) (c .before .before .tell-refusal .ensures .0) (c .before .before .tell-refusal .ensures .1)
 
 pub feed-names-spec : {M : Type 1} → statement M
 feed-names-spec =

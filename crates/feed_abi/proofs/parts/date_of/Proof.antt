@@ -1,50 +1,28 @@
 -- `feed_abi::parts::date_of` meets its contract. Assumes nothing.
 use native.Mathlib.Omega.{arith}
-use Prim.Native.Nat.{_≤_}
-use lib.ListN.{getD}
 use Rattle.feed_abi.specs.Parts.{topsOf}
 use Rattle.feed_abi.proofs.Takes.{fit-at}
-use borrow.Author.Needs.{needs}
 use Rattle.feed_abi.proofs.parts.date_of.Statement.{statement}
 use Rattle.feed_abi.proofs.parts.date_of.Tie as tie
 use Rattle.feed_abi.proofs.parts.date_of.Reads as reads
 use Rattle.feed_abi.proofs.parts.date_of.Lts as lts
+use Rattle.feed_abi.proofs.parts.part_16.Reads as part-16-reads
+use Rattle.feed_abi.proofs.parts.part_8.Reads as part-8-reads
 
-shared-slice-read-t3 : tie.Need-shared-slice-read-t3
+part-16-requires : tie.Need-part-16-requires
 unfolding topsOf
-shared-slice-read-t3 c = fit-at (topsOf 8) (c .before .args .parts .now) 0 (c .before .pre) (omega arith) .0
+part-16-requires c κs = fit-at (topsOf 8) (c .before .args .parts .now) 0 (c .before .pre) (omega arith)
 
-cast-t4 : tie.Need-cast-t4
+part-8-requires : tie.Need-part-8-requires
 unfolding topsOf
-cast-t4 c = let h : getD (c .before .args .parts .now) 0 0 ≤ 65535 = fit-at (topsOf 8) (c .before .args .parts .now) 0 (c .before .pre) (omega arith) .1 in omega arith
+part-8-requires c κs = fit-at (topsOf 8) (c .before .before .args .parts .now) 1 (c .before .before .pre) (omega arith)
 
-shared-slice-read-t6 : tie.Need-shared-slice-read-t6
+part-8-requires-2 : tie.Need-part-8-requires-2
 unfolding topsOf
-shared-slice-read-t6 c = fit-at (topsOf 8) (c .before .before .args .parts .now) 1 (c .before .before .pre) (omega arith) .0
-
-cast-t7 : tie.Need-cast-t7
-unfolding topsOf
-cast-t7 c = let h : getD (c .before .before .args .parts .now) 1 0 ≤ 255 = fit-at (topsOf 8) (c .before .before .args .parts .now) 1 (c .before .before .pre) (omega arith) .1 in omega arith
-
-shared-slice-read-t9 : tie.Need-shared-slice-read-t9
-unfolding topsOf
-shared-slice-read-t9 c = fit-at (topsOf 8) (c .before .before .before .args .parts .now) 2 (c .before .before .before .pre) (omega arith) .0
-
-cast-t10 : tie.Need-cast-t10
-unfolding topsOf
-cast-t10 c = let h : getD (c .before .before .before .args .parts .now) 2 0 ≤ 255 = fit-at (topsOf 8) (c .before .before .before .args .parts .now) 2 (c .before .before .before .pre) (omega arith) .1 in omega arith
+part-8-requires-2 c κs = fit-at (topsOf 8) (c .before .before .before .args .parts .now) 2 (c .before .before .before .pre) (omega arith)
 
 returns : tie.Need-returns
-returns c = search needs
+returns c = rw (c .before .before .part-16 .ensures, c .before .part-8 .ensures, c .part-82 .ensures)
 
 pub date-of-spec : {M : Type 1} → statement M
-date-of-spec =
-    tie.close
-    (tie.spec
-    shared-slice-read-t3
-    cast-t4
-    shared-slice-read-t6
-    cast-t7
-    shared-slice-read-t9
-    cast-t10
-    returns)
+date-of-spec = tie.close (tie.spec part-16-requires part-8-requires part-8-requires-2 returns)

@@ -1,12 +1,12 @@
 -- `feed_abi::parts::make_value` meets its contract. Assumes nothing.
 use mathlib.Core.Path.{ap, _∙_}
+use native.Mathlib.Omega.{arith}
 use mir.Syntax.{w64}
 use mir.ValLaws.{toZ-ofZ}
-use Rattle.value.specs.declared.datum.Value.the-variants.{Int}
-use Prim.Native.Nat.{_≤_}
-use native.Mathlib.Omega.{arith}
-use lib.ListN.{getD}
+use Prim.Native.Nat.{_^_}
+use Rattle.wire.specs.Signed.{signedOf}
 use Rattle.wire.proofs.Rules.{tests}
+use Rattle.value.specs.declared.datum.Value.the-variants.{Int}
 use Rattle.feed_abi.specs.Parts.{topsOf, made}
 use Rattle.feed_abi.proofs.Takes.{fit-at, taken-fit}
 use borrow.Author.Needs.{needs}
@@ -16,43 +16,37 @@ use Rattle.feed_abi.proofs.parts.make_value.Reads as reads
 use Rattle.feed_abi.proofs.parts.make_value.Lts as lts
 use Rattle.feed_abi.proofs.parts.date_of.Reads as date-of-reads
 use Rattle.feed_abi.proofs.parts.moment_of.Reads as moment-of-reads
+use Rattle.feed_abi.proofs.parts.part.Reads as part-reads
+use Rattle.feed_abi.proofs.parts.part_16.Reads as part-16-reads
+use Rattle.feed_abi.proofs.parts.part_32.Reads as part-32-reads
 use Rattle.feed_abi.proofs.parts.stamp_of.Reads as stamp-of-reads
 use Rattle.feed_abi.proofs.parts.time_of.Reads as time-of-reads
 use Rattle.feed_abi.proofs.twos.signed.Reads as signed-reads
 
-shared-slice-read-signed : tie.Need-shared-slice-read-signed
-unfolding topsOf
-shared-slice-read-signed c = fit-at (topsOf 2) (c .before .before .before .args .parts .now) 0 (taken-fit _ 2 (c .before .before .before .args .parts .now) (c .before .before .before .pre) (c .before .match .keys1)) (omega arith) .0
+part-requires : tie.Need-part-requires
+part-requires c κs = search needs
 
 signed-requires : tie.Need-signed-requires
 signed-requires c κs = search needs
 
-shared-slice-read-t8 : tie.Need-shared-slice-read-t8
-unfolding topsOf
-shared-slice-read-t8 c = fit-at (topsOf 3) (c .before .before .before .args .parts .now) 0 (taken-fit _ 3 (c .before .before .before .args .parts .now) (c .before .before .before .pre) (c .before .match .keys2)) (omega arith) .0
+part-requires-2 : tie.Need-part-requires-2
+part-requires-2 c κs = search needs
 
-shared-slice-read-t10 : tie.Need-shared-slice-read-t10
+part-32-requires : tie.Need-part-32-requires
 unfolding topsOf
-shared-slice-read-t10 c = fit-at (topsOf 4) (c .before .before .before .args .parts .now) 0 (taken-fit _ 4 (c .before .before .before .args .parts .now) (c .before .before .before .pre) (c .before .match .keys3)) (omega arith) .0
+part-32-requires c κs = let a = c .before .before .args in
+    fit-at (topsOf 4) (a .parts .now) 0 (taken-fit _ 4 (a .parts .now) (c .before .before .pre) (c .match .keys3)) (omega arith)
 
-cast-t11 : tie.Need-cast-t11
-unfolding topsOf
-cast-t11 c = let h : getD (c .before .before .before .args .parts .now) 0 0 ≤ 4294967295 = fit-at (topsOf 4) (c .before .before .before .args .parts .now) 0 (taken-fit _ 4 (c .before .before .before .args .parts .now) (c .before .before .before .pre) (c .before .match .keys3)) (omega arith) .1 in omega arith
-
-shared-slice-read-t13 : tie.Need-shared-slice-read-t13
-unfolding topsOf
-shared-slice-read-t13 c = fit-at (topsOf 5) (c .before .before .before .args .parts .now) 0 (taken-fit _ 5 (c .before .before .before .args .parts .now) (c .before .before .before .pre) (c .before .match .keys4)) (omega arith) .0
+part-requires-3 : tie.Need-part-requires-3
+part-requires-3 c κs = search needs
 
 stamp-of-requires : tie.Need-stamp-of-requires
 stamp-of-requires c κs = taken-fit _ 6 (c .before .before .args .parts .now) (c .before .before .pre) (c .match .keys5)
 
-shared-slice-read-t17 : tie.Need-shared-slice-read-t17
+part-16-requires : tie.Need-part-16-requires
 unfolding topsOf
-shared-slice-read-t17 c = fit-at (topsOf 7) (c .before .before .before .args .parts .now) 0 (taken-fit _ 7 (c .before .before .before .args .parts .now) (c .before .before .before .pre) (c .before .match .keys6)) (omega arith) .0
-
-cast-t18 : tie.Need-cast-t18
-unfolding topsOf
-cast-t18 c = let h : getD (c .before .before .before .args .parts .now) 0 0 ≤ 65535 = fit-at (topsOf 7) (c .before .before .before .args .parts .now) 0 (taken-fit _ 7 (c .before .before .before .args .parts .now) (c .before .before .before .pre) (c .before .match .keys6)) (omega arith) .1 in omega arith
+part-16-requires c κs = let a = c .before .before .args in
+    fit-at (topsOf 7) (a .parts .now) 0 (taken-fit _ 7 (a .parts .now) (c .before .before .pre) (c .match .keys6)) (omega arith)
 
 date-of-requires : tie.Need-date-of-requires
 date-of-requires c κs = taken-fit _ 8 (c .before .before .args .parts .now) (c .before .before .pre) (c .match .keys7)
@@ -63,29 +57,27 @@ moment-of-requires c κs = taken-fit _ 9 (c .before .before .args .parts .now) (
 time-of-requires : tie.Need-time-of-requires
 time-of-requires c κs = taken-fit _ 10 (c .before .before .args .parts .now) (c .before .before .pre) (c .match .keys9)
 
-shared-slice-read-t26 : tie.Need-shared-slice-read-t26
-unfolding topsOf
-shared-slice-read-t26 c = fit-at (topsOf 11) (c .before .before .before .args .parts .now) 0 (taken-fit _ 11 (c .before .before .before .args .parts .now) (c .before .before .before .pre) (c .before .match .keys10)) (omega arith) .0
+part-requires-4 : tie.Need-part-requires-4
+part-requires-4 c κs = search needs
 
-shared-slice-read-t29 : tie.Need-shared-slice-read-t29
-unfolding topsOf
-shared-slice-read-t29 c = fit-at (topsOf 11) (c .before .before .before .before .args .parts .now) 1 (taken-fit _ 11 (c .before .before .before .before .args .parts .now) (c .before .before .before .before .pre) (c .before .before .match .keys10)) (omega arith) .0
+part-requires-5 : tie.Need-part-requires-5
+part-requires-5 c κs = search needs
 
 returns : tie.Need-returns
 unfolding made
-returns c = rw (c .before .before .match .keys1) (ap Int (toZ-ofZ w64 (c .signed .result) (record { sfits = c .signed .ok }) ∙ c .signed .ensures))
+returns c = rw (c .before .before .match .keys1) (ap Int (toZ-ofZ w64 (c .signed .result) (record { sfits = c .signed .ok }) ∙ c .signed .ensures ∙ ap (signedOf (2 ^ 64)) (c .before .part .ensures)))
 
 returns-2 : tie.Need-returns-2
 unfolding made
-returns-2 c = rw (c .before .match .keys2)
+returns-2 c = rw (c .before .match .keys2, c .part2 .ensures)
 
 returns-3 : tie.Need-returns-3
 unfolding made
-returns-3 c = rw (c .before .match .keys3)
+returns-3 c = rw (c .before .match .keys3, c .part-32 .ensures)
 
 returns-4 : tie.Need-returns-4
 unfolding made
-returns-4 c = rw (c .before .match .keys4)
+returns-4 c = rw (c .before .match .keys4, c .part3 .ensures)
 
 returns-5 : tie.Need-returns-5
 unfolding made
@@ -93,7 +85,7 @@ returns-5 c = rw (c .before .match .keys5, c .stamp-of .ensures)
 
 returns-6 : tie.Need-returns-6
 unfolding made
-returns-6 c = rw (c .before .match .keys6)
+returns-6 c = rw (c .before .match .keys6, c .part-16 .ensures)
 
 returns-7 : tie.Need-returns-7
 unfolding made
@@ -109,7 +101,7 @@ returns-9 c = rw (c .before .match .keys9, c .time-of .ensures)
 
 returns-10 : tie.Need-returns-10
 unfolding made
-returns-10 c = rw (c .before .before .match .keys10)
+returns-10 c = rw (c .before .before .match .keys10, c .before .part4 .ensures, c .part5 .ensures)
 
 returns-11 : tie.Need-returns-11
 unfolding made
@@ -119,20 +111,18 @@ pub make-value-spec : {M : Type 1} → statement M
 make-value-spec =
     tie.close
     (tie.spec
-    shared-slice-read-signed
+    part-requires
     signed-requires
-    shared-slice-read-t8
-    shared-slice-read-t10
-    cast-t11
-    shared-slice-read-t13
+    part-requires-2
+    part-32-requires
+    part-requires-3
     stamp-of-requires
-    shared-slice-read-t17
-    cast-t18
+    part-16-requires
     date-of-requires
     moment-of-requires
     time-of-requires
-    shared-slice-read-t26
-    shared-slice-read-t29
+    part-requires-4
+    part-requires-5
     returns
     returns-2
     returns-3

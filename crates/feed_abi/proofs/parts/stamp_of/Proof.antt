@@ -1,34 +1,23 @@
 -- `feed_abi::parts::stamp_of` meets its contract. Assumes nothing.
 use native.Mathlib.Omega.{arith}
-use Prim.Native.Nat.{_≤_}
-use lib.ListN.{getD}
 use Rattle.feed_abi.specs.Parts.{topsOf}
 use Rattle.feed_abi.proofs.Takes.{fit-at}
-use borrow.Author.Needs.{needs}
 use Rattle.feed_abi.proofs.parts.stamp_of.Statement.{statement}
 use Rattle.feed_abi.proofs.parts.stamp_of.Tie as tie
 use Rattle.feed_abi.proofs.parts.stamp_of.Reads as reads
 use Rattle.feed_abi.proofs.parts.stamp_of.Lts as lts
+use Rattle.feed_abi.proofs.parts.part_32.Reads as part-32-reads
 
-shared-slice-read-t3 : tie.Need-shared-slice-read-t3
+part-32-requires : tie.Need-part-32-requires
 unfolding topsOf
-shared-slice-read-t3 c = fit-at (topsOf 6) (c .before .args .parts .now) 0 (c .before .pre) (omega arith) .0
+part-32-requires c κs = fit-at (topsOf 6) (c .before .args .parts .now) 0 (c .before .pre) (omega arith)
 
-cast-t4 : tie.Need-cast-t4
+part-32-requires-2 : tie.Need-part-32-requires-2
 unfolding topsOf
-cast-t4 c = let h : getD (c .before .args .parts .now) 0 0 ≤ 4294967295 = fit-at (topsOf 6) (c .before .args .parts .now) 0 (c .before .pre) (omega arith) .1 in omega arith
-
-shared-slice-read-t6 : tie.Need-shared-slice-read-t6
-unfolding topsOf
-shared-slice-read-t6 c = fit-at (topsOf 6) (c .before .before .args .parts .now) 1 (c .before .before .pre) (omega arith) .0
-
-cast-t7 : tie.Need-cast-t7
-unfolding topsOf
-cast-t7 c = let h : getD (c .before .before .args .parts .now) 1 0 ≤ 4294967295 = fit-at (topsOf 6) (c .before .before .args .parts .now) 1 (c .before .before .pre) (omega arith) .1 in omega arith
+part-32-requires-2 c κs = fit-at (topsOf 6) (c .before .before .args .parts .now) 1 (c .before .before .pre) (omega arith)
 
 returns : tie.Need-returns
-returns c = search needs
+returns c = rw (c .before .part-32 .ensures, c .part-322 .ensures)
 
 pub stamp-of-spec : {M : Type 1} → statement M
-stamp-of-spec =
-    tie.close (tie.spec shared-slice-read-t3 cast-t4 shared-slice-read-t6 cast-t7 returns)
+stamp-of-spec = tie.close (tie.spec part-32-requires part-32-requires-2 returns)

@@ -1,7 +1,5 @@
 -- `feed_abi::parts::time_of` meets its contract. Assumes nothing.
 use native.Mathlib.Omega.{arith}
-use Prim.Native.Nat.{_≤_}
-use lib.ListN.{getD}
 use Rattle.feed_abi.specs.Parts.{topsOf}
 use Rattle.feed_abi.proofs.Takes.{fit-at}
 use borrow.Author.Needs.{needs}
@@ -9,57 +7,40 @@ use Rattle.feed_abi.proofs.parts.time_of.Statement.{statement}
 use Rattle.feed_abi.proofs.parts.time_of.Tie as tie
 use Rattle.feed_abi.proofs.parts.time_of.Reads as reads
 use Rattle.feed_abi.proofs.parts.time_of.Lts as lts
+use Rattle.feed_abi.proofs.parts.part.Reads as part-reads
+use Rattle.feed_abi.proofs.parts.part_16.Reads as part-16-reads
+use Rattle.feed_abi.proofs.parts.part_32.Reads as part-32-reads
+use Rattle.feed_abi.proofs.parts.part_8.Reads as part-8-reads
 
-shared-slice-read-t3 : tie.Need-shared-slice-read-t3
-unfolding topsOf
-shared-slice-read-t3 c = fit-at (topsOf 10) (c .before .args .parts .now) 0 (c .before .pre) (omega arith) .0
+part-requires : tie.Need-part-requires
+part-requires c κs = search needs
 
-shared-slice-read-t6 : tie.Need-shared-slice-read-t6
+part-16-requires : tie.Need-part-16-requires
 unfolding topsOf
-shared-slice-read-t6 c = fit-at (topsOf 10) (c .before .before .args .parts .now) 1 (c .before .before .pre) (omega arith) .0
+part-16-requires c κs = fit-at (topsOf 10) (c .before .before .args .parts .now) 1 (c .before .before .pre) (omega arith)
 
-cast-t7 : tie.Need-cast-t7
+part-8-requires : tie.Need-part-8-requires
 unfolding topsOf
-cast-t7 c = let h : getD (c .before .before .args .parts .now) 1 0 ≤ 65535 = fit-at (topsOf 10) (c .before .before .args .parts .now) 1 (c .before .before .pre) (omega arith) .1 in omega arith
+part-8-requires c κs = fit-at (topsOf 10) (c .before .before .before .args .parts .now) 2 (c .before .before .before .pre) (omega arith)
 
-shared-slice-read-t9 : tie.Need-shared-slice-read-t9
+part-8-requires-2 : tie.Need-part-8-requires-2
 unfolding topsOf
-shared-slice-read-t9 c = fit-at (topsOf 10) (c .before .before .before .args .parts .now) 2 (c .before .before .before .pre) (omega arith) .0
+part-8-requires-2 c κs = fit-at (topsOf 10) (c .before .before .before .before .args .parts .now) 3 (c .before .before .before .before .pre) (omega arith)
 
-cast-t10 : tie.Need-cast-t10
+part-32-requires : tie.Need-part-32-requires
 unfolding topsOf
-cast-t10 c = let h : getD (c .before .before .before .args .parts .now) 2 0 ≤ 255 = fit-at (topsOf 10) (c .before .before .before .args .parts .now) 2 (c .before .before .before .pre) (omega arith) .1 in omega arith
-
-shared-slice-read-t12 : tie.Need-shared-slice-read-t12
-unfolding topsOf
-shared-slice-read-t12 c = fit-at (topsOf 10) (c .before .before .before .before .args .parts .now) 3 (c .before .before .before .before .pre) (omega arith) .0
-
-cast-t13 : tie.Need-cast-t13
-unfolding topsOf
-cast-t13 c = let h : getD (c .before .before .before .before .args .parts .now) 3 0 ≤ 255 = fit-at (topsOf 10) (c .before .before .before .before .args .parts .now) 3 (c .before .before .before .before .pre) (omega arith) .1 in omega arith
-
-shared-slice-read-t15 : tie.Need-shared-slice-read-t15
-unfolding topsOf
-shared-slice-read-t15 c = fit-at (topsOf 10) (c .before .before .before .before .before .args .parts .now) 4 (c .before .before .before .before .before .pre) (omega arith) .0
-
-cast-t16 : tie.Need-cast-t16
-unfolding topsOf
-cast-t16 c = let h : getD (c .before .before .before .before .before .args .parts .now) 4 0 ≤ 4294967295 = fit-at (topsOf 10) (c .before .before .before .before .before .args .parts .now) 4 (c .before .before .before .before .before .pre) (omega arith) .1 in omega arith
+part-32-requires c κs = fit-at (topsOf 10) (c .before .before .before .before .before .args .parts .now) 4 (c .before .before .before .before .before .pre) (omega arith)
 
 returns : tie.Need-returns
-returns c = search needs
+returns c = rw (c .before .before .before .before .part .ensures, c .before .before .before .part-16 .ensures, c .before .before .part-8 .ensures, c .before .part-82 .ensures, c .part-32 .ensures)
 
 pub time-of-spec : {M : Type 1} → statement M
 time-of-spec =
     tie.close
     (tie.spec
-    shared-slice-read-t3
-    shared-slice-read-t6
-    cast-t7
-    shared-slice-read-t9
-    cast-t10
-    shared-slice-read-t12
-    cast-t13
-    shared-slice-read-t15
-    cast-t16
+    part-requires
+    part-16-requires
+    part-8-requires
+    part-8-requires-2
+    part-32-requires
     returns)

@@ -17,7 +17,8 @@ use Rattle.feed_abi.proofs.rows.tell_put.Reads as tell-put-reads
 use Rattle.image.proofs.cursor.Cursor.put.Reads as put-reads
 
 returns : tie.Need-returns
-returns c = no-bytes 2 (c .before .before .before .before .before .before .before .before .args .out .now) (c .before .before .before .before .before .before .before .before .args .image .now) _ (c .if1 .taken)
+returns c = let a = c .before .before .before .before .before .before .before .before .args in
+    no-bytes 2 (a .out .now) (a .image .now) _ (c .if1 .taken)
 
 value-of-requires : tie.Need-value-of-requires
 value-of-requires c κs = search needs
@@ -36,7 +37,8 @@ same-length c = search needs
 
 returns-2 : tie.Need-returns-2
 unfolding feedPut
-returns-2 c = not-called 2 (c .before .before .before .before .before .before .before .before .before .before .before .before .before .before .before .before .args .out .now) (c .before .before .before .before .before .before .before .before .before .before .before .before .before .before .before .before .args .image .now) (feedPut (c .before .before .before .before .before .before .before .before .before .before .before .before .before .before .before .before .args .profile .now) (c .before .before .before .before .before .before .before .before .before .before .before .before .before .before .before .before .args .presence .now) (c .before .before .before .before .before .before .before .before .before .before .before .before .before .before .before .before .args .nulls .now) (c .before .before .before .before .before .before .before .before .before .before .before .before .before .before .before .before .args .column) (c .before .before .before .before .before .before .before .before .before .before .before .before .before .before .before .before .args .offset) (c .before .before .before .before .before .before .before .before .before .before .before .before .before .before .before .before .args .kind) (c .before .before .before .before .before .before .before .before .before .before .before .before .before .before .before .before .args .parts .now) (c .before .before .before .before .before .before .before .before .before .before .before .before .before .before .before .before .args .lent .now) (c .before .before .before .before .before .before .before .before .before .before .before .before .before .before .before .before .args .image .now)) _ _ _ (omega arith) (rw (sym (c .before .before .before .before .before .before .before .value-of .ensures) ∙ ap madeOf (c .before .before .before .before .before .r .given .1))) (c .before .before .tell-refusal .ensures .0) (c .before .before .tell-refusal .ensures .1)
+returns-2 c = let a = c .before .before .before .before .before .before .before .before .before .before .before .before .before .before .before .before .args in
+    not-called 2 (a .out .now) (a .image .now) (feedPut (a .profile .now) (a .presence .now) (a .nulls .now) (a .column) (a .offset) (a .kind) (a .parts .now) (a .lent .now) (a .image .now)) _ _ _ (omega arith) (rw (sym (c .before .before .before .before .before .before .before .value-of .ensures) ∙ ap madeOf (c .before .before .before .before .before .r .given .1))) (c .before .before .tell-refusal .ensures .0) (c .before .before .tell-refusal .ensures .1)
 
 put-requires : tie.Need-put-requires
 put-requires c κs = search needs
@@ -52,7 +54,8 @@ same-length-3 c = search needs
 
 returns-3 : tie.Need-returns-3
 unfolding feedPut
-returns-3 c = wrote-told 2 (c .before .before .before .before .before .before .before .before .before .before .before .before .before .before .before .before .before .before .before .before .args .out .now) (c .before .before .before .before .before .before .before .before .before .before .before .before .before .before .before .before .before .before .before .before .args .image .now) cursorNumbers (putFrom (c .before .before .before .before .before .before .before .before .before .before .before .before .before .before .before .before .before .before .before .before .args .profile .now) (c .before .before .before .before .before .before .before .before .before .before .before .before .before .before .before .before .before .before .before .before .args .presence .now) (c .before .before .before .before .before .before .before .before .before .before .before .before .before .before .before .before .before .before .before .before .args .nulls .now) (cursor (c .before .before .before .before .before .before .before .before .before .before .before .before .before .before .before .before .before .before .before .before .args .column) (c .before .before .before .before .before .before .before .before .before .before .before .before .before .before .before .before .before .before .before .before .args .offset)) (c .before .before .before .before .before .before .before .before .before .before .before .before .before .before .before .before .before .before .before .before .args .lent .now) _ (c .before .before .before .before .before .before .before .before .before .before .before .before .before .before .before .before .before .before .before .before .args .image .now)) (feedPut (c .before .before .before .before .before .before .before .before .before .before .before .before .before .before .before .before .before .before .before .before .args .profile .now) (c .before .before .before .before .before .before .before .before .before .before .before .before .before .before .before .before .before .before .before .before .args .presence .now) (c .before .before .before .before .before .before .before .before .before .before .before .before .before .before .before .before .before .before .before .before .args .nulls .now) (c .before .before .before .before .before .before .before .before .before .before .before .before .before .before .before .before .before .before .before .before .args .column) (c .before .before .before .before .before .before .before .before .before .before .before .before .before .before .before .before .before .before .before .before .args .offset) (c .before .before .before .before .before .before .before .before .before .before .before .before .before .before .before .before .before .before .before .before .args .kind) (c .before .before .before .before .before .before .before .before .before .before .before .before .before .before .before .before .before .before .before .before .args .parts .now) (c .before .before .before .before .before .before .before .before .before .before .before .before .before .before .before .before .before .before .before .before .args .lent .now) (c .before .before .before .before .before .before .before .before .before .before .before .before .before .before .before .before .before .before .before .before .args .image .now)) _ _ _ _ (omega arith) (rw (sym (c .before .before .before .before .before .before .before .before .before .before .before .value-of .ensures) ∙ ap madeOf (c .before .before .before .before .before .before .before .before .before .value .given .1))) (c .before .before .before .before .before .put .ensures .0) (c .before .before .tell-put .ensures .0) (c .before .before .tell-put .ensures .1) (c .before .before .before .before .before .put .ensures .1)
+returns-3 c = let a = c .before .before .before .before .before .before .before .before .before .before .before .before .before .before .before .before .before .before .before .before .args in
+    wrote-told 2 (a .out .now) (a .image .now) cursorNumbers (putFrom (a .profile .now) (a .presence .now) (a .nulls .now) (cursor (a .column) (a .offset)) (a .lent .now) _ (a .image .now)) (feedPut (a .profile .now) (a .presence .now) (a .nulls .now) (a .column) (a .offset) (a .kind) (a .parts .now) (a .lent .now) (a .image .now)) _ _ _ _ (omega arith) (rw (sym (c .before .before .before .before .before .before .before .before .before .before .before .value-of .ensures) ∙ ap madeOf (c .before .before .before .before .before .before .before .before .before .value .given .1))) (c .before .before .before .before .before .put .ensures .0) (c .before .before .tell-put .ensures .0) (c .before .before .tell-put .ensures .1) (c .before .before .before .before .before .put .ensures .1)
 
 pub feed-put-spec : {M : Type 1} → statement M
 feed-put-spec =

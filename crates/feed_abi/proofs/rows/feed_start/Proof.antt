@@ -13,7 +13,8 @@ use Rattle.feed_abi.proofs.rows.tell_put.Reads as tell-put-reads
 use Rattle.image.proofs.start.Reads as start-reads
 
 returns : tie.Need-returns
-returns c = no-bytes 2 (c .before .before .before .before .before .before .args .out .now) (c .before .before .before .before .before .before .args .image .now) _ (c .if1 .taken)
+returns c = let a = c .before .before .before .before .before .before .args in
+    no-bytes 2 (a .out .now) (a .image .now) _ (c .if1 .taken)
 
 start-requires : tie.Need-start-requires
 start-requires c κs = search needs
@@ -29,7 +30,8 @@ same-length-2 c = search needs
 
 returns-2 : tie.Need-returns-2
 unfolding feedStart
-returns-2 c = wrote-told 2 (c .before .before .before .before .before .before .before .before .before .before .before .before .before .before .args .out .now) (c .before .before .before .before .before .before .before .before .before .before .before .before .before .before .args .image .now) cursorNumbers (startImage (c .before .before .before .before .before .before .before .before .before .before .before .before .before .before .args .profile .now) (c .before .before .before .before .before .before .before .before .before .before .before .before .before .before .args .presence .now) (c .before .before .before .before .before .before .before .before .before .before .before .before .before .before .args .nulls .now) (c .before .before .before .before .before .before .before .before .before .before .before .before .before .before .args .image .now)) _ _ _ _ _ (omega arith) refl (c .before .before .before .before .before .start .ensures .0) (c .before .before .tell-put .ensures .0) (c .before .before .tell-put .ensures .1) (c .before .before .before .before .before .start .ensures .1)
+returns-2 c = let a = c .before .before .before .before .before .before .before .before .before .before .before .before .before .before .args in
+    wrote-told 2 (a .out .now) (a .image .now) cursorNumbers (startImage (a .profile .now) (a .presence .now) (a .nulls .now) (a .image .now)) _ _ _ _ _ (omega arith) refl (c .before .before .before .before .before .start .ensures .0) (c .before .before .tell-put .ensures .0) (c .before .before .tell-put .ensures .1) (c .before .before .before .before .before .start .ensures .1)
 
 pub feed-start-spec : {M : Type 1} → statement M
 feed-start-spec =

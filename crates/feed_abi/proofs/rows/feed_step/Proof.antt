@@ -49,28 +49,32 @@ same-length c = search needs
 
 returns-2 : tie.Need-returns-2
 unfolding feedStep toldNumbers
-returns-2 c = said-ok 11 (c .before .before .before .before .before .before .before .before .before .before .before .before .before .args .out .now) toldNumbers (stepFrom (c .before .before .before .before .before .before .before .before .before .before .before .before .before .args .profile .now) (c .before .before .before .before .before .before .before .before .before .before .before .before .before .args .presence .now) (c .before .before .before .before .before .before .before .before .before .before .before .before .before .args .image .now) (cursor (c .before .before .before .before .before .before .before .before .before .before .before .before .before .args .column) (c .before .before .before .before .before .before .before .before .before .before .before .before .before .args .offset))) _ _ _ (omega arith) (sym (c .before .before .before .before .before .before .before .step .ensures) ∙ ap told (c .before .before .before .before .before .column .given .1)) (c .before .before .tell-value .ensures .0) (c .before .before .tell-value .ensures .1)
+returns-2 c = let a = c .before .before .before .before .before .before .before .before .before .before .before .before .before .args in
+    said-ok 11 (a .out .now) toldNumbers (stepFrom (a .profile .now) (a .presence .now) (a .image .now) (cursor (a .column) (a .offset))) _ _ _ (omega arith) (sym (c .before .before .before .before .before .before .before .step .ensures) ∙ ap told (c .before .before .before .before .before .column .given .1)) (c .before .before .tell-value .ensures .0) (c .before .before .tell-value .ensures .1)
 
 same-length-2 : tie.Need-same-length-2
 same-length-2 c = search needs
 
 returns-3 : tie.Need-returns-3
 unfolding feedStep toldNumbers
-returns-3 c = said-ok 11 (c .before .before .before .before .before .before .before .before .before .before .before .before .before .args .out .now) toldNumbers (stepFrom (c .before .before .before .before .before .before .before .before .before .before .before .before .before .args .profile .now) (c .before .before .before .before .before .before .before .before .before .before .before .before .before .args .presence .now) (c .before .before .before .before .before .before .before .before .before .before .before .before .before .args .image .now) (cursor (c .before .before .before .before .before .before .before .before .before .before .before .before .before .args .column) (c .before .before .before .before .before .before .before .before .before .before .before .before .before .args .offset))) _ _ _ (omega arith) (sym (c .before .before .before .before .before .before .before .step .ensures) ∙ ap told (c .before .before .before .before .before .column2 .given .1)) (c .before .before .tell-value2 .ensures .0) (c .before .before .tell-value2 .ensures .1)
+returns-3 c = let a = c .before .before .before .before .before .before .before .before .before .before .before .before .before .args in
+    said-ok 11 (a .out .now) toldNumbers (stepFrom (a .profile .now) (a .presence .now) (a .image .now) (cursor (a .column) (a .offset))) _ _ _ (omega arith) (sym (c .before .before .before .before .before .before .before .step .ensures) ∙ ap told (c .before .before .before .before .before .column2 .given .1)) (c .before .before .tell-value2 .ensures .0) (c .before .before .tell-value2 .ensures .1)
 
 same-length-3 : tie.Need-same-length-3
 same-length-3 c = search needs
 
 returns-4 : tie.Need-returns-4
 unfolding feedStep toldNumbers
-returns-4 c = said-ok 11 (c .before .before .before .before .before .before .before .before .before .before .before .before .before .args .out .now) toldNumbers (stepFrom (c .before .before .before .before .before .before .before .before .before .before .before .before .before .args .profile .now) (c .before .before .before .before .before .before .before .before .before .before .before .before .before .args .presence .now) (c .before .before .before .before .before .before .before .before .before .before .before .before .before .args .image .now) (cursor (c .before .before .before .before .before .before .before .before .before .before .before .before .before .args .column) (c .before .before .before .before .before .before .before .before .before .before .before .before .before .args .offset))) _ _ _ (omega arith) (sym (c .before .before .before .before .before .before .before .step .ensures) ∙ ap told (c .before .before .before .before .before .used .given .1)) (c .before .before .tell-end .ensures .0) (c .before .before .tell-end .ensures .1)
+returns-4 c = let a = c .before .before .before .before .before .before .before .before .before .before .before .before .before .args in
+    said-ok 11 (a .out .now) toldNumbers (stepFrom (a .profile .now) (a .presence .now) (a .image .now) (cursor (a .column) (a .offset))) _ _ _ (omega arith) (sym (c .before .before .before .before .before .before .before .step .ensures) ∙ ap told (c .before .before .before .before .before .used .given .1)) (c .before .before .tell-end .ensures .0) (c .before .before .tell-end .ensures .1)
 
 same-length-4 : tie.Need-same-length-4
 same-length-4 c = search needs
 
 returns-5 : tie.Need-returns-5
 unfolding feedStep toldNumbers
-returns-5 c = said-refused 11 (c .before .before .before .before .before .before .before .before .before .before .before .before .before .args .out .now) toldNumbers (stepFrom (c .before .before .before .before .before .before .before .before .before .before .before .before .before .args .profile .now) (c .before .before .before .before .before .before .before .before .before .before .before .before .before .args .presence .now) (c .before .before .before .before .before .before .before .before .before .before .before .before .before .args .image .now) (cursor (c .before .before .before .before .before .before .before .before .before .before .before .before .before .args .column) (c .before .before .before .before .before .before .before .before .before .before .before .before .before .args .offset))) _ _ _ (omega arith) (sym (c .before .before .before .before .before .before .before .step .ensures) ∙ ap told (c .before .before .before .before .before .r .given .1)) (c .before .before .tell-refusal .ensures .0) (c .before .before .tell-refusal .ensures .1)
+returns-5 c = let a = c .before .before .before .before .before .before .before .before .before .before .before .before .before .args in
+    said-refused 11 (a .out .now) toldNumbers (stepFrom (a .profile .now) (a .presence .now) (a .image .now) (cursor (a .column) (a .offset))) _ _ _ (omega arith) (sym (c .before .before .before .before .before .before .before .step .ensures) ∙ ap told (c .before .before .before .before .before .r .given .1)) (c .before .before .tell-refusal .ensures .0) (c .before .before .tell-refusal .ensures .1)
 
 pub feed-step-spec : {M : Type 1} → statement M
 feed-step-spec =
