@@ -1,8 +1,8 @@
 -- A value's kind and parts make the same value again, so what a step tells of a value is taken as that value where it is put. Assumes nothing.
 use Prim.Native.Nat.{ℕ, _+_, _^_, _≤_}
-use mathlib.Core.Path.{_≡_, refl, sym, ap, _∙_}
+use mathlib.Core.Path.{_≡_, refl, ap, _∙_}
 use mathlib.Core.Bool.{Bool, true, false, cond}
-use mathlib.Core.List.{List, [], _∷_, _++_}
+use mathlib.Core.List.{List, [], _++_, append-assoc}
 use native.Mathlib.Omega.{arith}
 use lib.ListN.{getD, drop}
 use lib.Dec.{eqb}
@@ -17,10 +17,11 @@ use Rattle.value.specs.Data.{intIn}
 use Rattle.value.specs.Reading.{datumOf}
 use Rattle.value.proofs.Facts.{both}
 use Rattle.image.specs.declared.cursor.Cursor.{Cursor}
-use Rattle.image.specs.Split.{value}
+use Rattle.image.specs.Split.{null, value}
 use Rattle.feed_abi.specs.Parts.{kindOf, partsOf, padded, topsOf, fit, isTaken, made, valueOf, isHeld}
 use Rattle.feed_abi.specs.Calls.{toldNumbers}
 use Rattle.feed_abi.proofs.Takes.{fit-more, taken-is}
+use Rattle.feed_abi.proofs.Holds.{held-null}
 
 -- ---- every kind of a value is one that is taken
 least : (v : Value) → 1 ≤ kindOf v
@@ -81,7 +82,7 @@ value-back v rest h =
     let t : isTaken (kindOf v) (partsOf v ++ rest) ≡ true = taken-is (kindOf v) (partsOf v ++ rest) (least v) (most v) ∙ fit-more (topsOf (kindOf v)) (partsOf v) rest (w .1) in
     rw t (ap ok (makes v rest (w .0)))
 
--- ---- so it is of the numbers that a step tells: the first is the kind, and the parts begin with the fifth
+-- ---- so it is of the numbers that a step leaves: the first is the kind, and the parts begin with the fifth
 seven : (v : Value) → (rest : List ℕ) × (padded 7 (partsOf v) ≡ partsOf v ++ rest)
 unfolding padded partsOf
 seven Null = (_, refl)
@@ -96,8 +97,15 @@ seven (When (At m)) = (_, refl)
 seven (When (Lasts t)) = (_, refl)
 seven (Bytes start len) = (_, refl)
 
-pub told-back : (column : ℕ) (v : Value) (next : Cursor) → isHeld v ≡ true
-    → valueOf (getD (toldNumbers (value column v next)) 0 0) (drop 4 (toldNumbers (value column v next))) ≡ ok v
+pub told-back : (column : ℕ) (v : Value) (next : Cursor) (rest : List ℕ) → isHeld v ≡ true
+    → valueOf (getD (toldNumbers (value column v next) ++ rest) 0 0) (drop 4 (toldNumbers (value column v next) ++ rest)) ≡ ok v
 unfolding toldNumbers
-told-back column v next h = let s = seven v in
-    ap (valueOf (kindOf v)) (s .1) ∙ value-back v (s .0) h
+told-back column v next rest h =
+    let s = seven v in
+    let e : padded 7 (partsOf v) ++ rest ≡ partsOf v ++ (s .0 ++ rest) = ap (λ (l : List ℕ). l ++ rest) (s .1) ∙ append-assoc (partsOf v) (s .0) rest in
+    ap (valueOf (kindOf v)) e ∙ value-back v (s .0 ++ rest) h
+
+pub null-back : (column : ℕ) (next : Cursor) (rest : List ℕ)
+    → valueOf (getD (toldNumbers (null column next) ++ rest) 0 0) (drop 4 (toldNumbers (null column next) ++ rest)) ≡ ok Null
+unfolding toldNumbers
+null-back column next rest = told-back column Null next rest held-null

@@ -1,4 +1,6 @@
--- The laws of the crate. `Tells`: what a call leaves, from what its code did. `Takes`: the parts that a kind takes. `Backs`: a value's kind and parts make the same value again.
+-- The laws of the crate. `Tells`: what a call leaves, from what its code did. `Takes`: the parts that a kind takes. `Holds`: values whose parts are within their bits. `Backs`: a value's kind
+-- and parts make the same value again.
 pub mod Tells
 pub mod Takes
+pub mod Holds
 pub mod Backs

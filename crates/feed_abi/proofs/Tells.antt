@@ -6,12 +6,13 @@ use native.Mathlib.Omega.{arith}
 use borrow.Author.Tests.{le-leb, lt-leb, lt-ltb, le-ltb}
 use lib.ListN.{length}
 use Rattle.wire.specs.declared.refusal.Refusal.{Refusal}
-use Rattle.wire.specs.Outcome.{Outcome, ok, refused, refuse, after}
+use Rattle.wire.specs.Outcome.{Outcome, ok, refused, refuse}
 use Rattle.wire.specs.Stored.{stored, answerOf, leftOf}
 use Rattle.wire.proofs.Stores.{stored-stored}
 use Rattle.record.specs.Records.{entryIn, readRecord}
 use Rattle.feed_abi.specs.Answers.{numberOf, toldOf, statusOf, numbersLeft, bytesLeft}
-use Rattle.feed_abi.specs.Calls.{said, saidWith, entryNumbers, feedColumn}
+use Rattle.image.specs.Split.{Told}
+use Rattle.feed_abi.specs.Calls.{said, saidWith, entryNumbers, toldNumbers, Held, feedColumn}
 
 -- the status s and the numbers x that a call leaves
 abbrev pub Tells : ℕ → List ℕ → Outcome (List ℕ) → ℕ → List ℕ → Type 0
@@ -90,6 +91,25 @@ column-none r j n e h = rw (e, le-ltb j n h)
 pub column-at : (r : List ℕ) (j n : ℕ) → readRecord r ≡ ok n → j < n → feedColumn r j ≡ ok (entryNumbers (entryIn r j))
 unfolding feedColumn
 column-at r j n e h = rw (e, lt-ltb j n h)
+
+-- ---- a step, which says too that a value told is one that the machine can hold
+abbrev Steps : List ℕ → Outcome Told → ℕ → List ℕ → Type 0
+Steps out o s x = (s ≡ statusOf 11 out (said toldNumbers o)) × ((x ≡ numbersLeft 11 out (said toldNumbers o)) × (s ≡ 0 → Held o))
+
+pub no-step : (out : List ℕ) (o : Outcome Told) → length out < 11 → Steps out o 8 out
+no-step out o h =
+    let t = no-numbers 11 out (said toldNumbers o) h in
+    (t .0, (t .1, λ e. absurd (omega arith)))
+
+pub step-ok : (out : List ℕ) (o : Outcome Told) (a : Told) (s : ℕ) (x : List ℕ) → 11 ≤ length out → o ≡ ok a → s ≡ 0 → x ≡ stored out 0 (toldNumbers a) → Held (ok a) → Steps out o s x
+step-ok out o a s x h e p q u =
+    let t = said-ok 11 out toldNumbers o a s x h e p q in
+    (t .0, (t .1, λ z. subst Held (sym e) u))
+
+pub step-refused : (out : List ℕ) (o : Outcome Told) (r : Refusal) (s : ℕ) (x : List ℕ) → 11 ≤ length out → o ≡ refused r → s ≡ r .number → x ≡ stored out 0 (r .place ∷ []) → Steps out o s x
+step-refused out o r s x h e p q =
+    let t = said-refused 11 out toldNumbers o r s x h e p q in
+    (t .0, (t .1, λ z. subst Held (sym e) tt))
 
 -- ---- four numbers, and the parts behind them
 pub head-then : (out x y head ps : List ℕ) → length head ≡ 4 → 4 ≤ length out → x ≡ stored out 0 head → y ≡ stored x 4 ps → y ≡ stored out 0 (head ++ ps)

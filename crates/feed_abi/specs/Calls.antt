@@ -1,12 +1,12 @@
 -- What each call answers: the rule of the library's call, its answer in numbers. Assumes nothing.
 use Prim.Native.Nat.{ℕ}
-use mathlib.Core.Bool.{cond}
+use mathlib.Core.Path.{_≡_}
+use mathlib.Core.Bool.{true, cond}
 use mathlib.Core.List.{List, [], _∷_, _++_}
 use lib.Dec.{ltb, eqb}
 use Rattle.wire.specs.Outcome.{Outcome, ok, refused, refuse, after}
 use Rattle.value.specs.declared.column.Dialect.{Dialect}
 use Rattle.value.specs.declared.column.Dialect.the-variants.{Document, Mysql, Mariadb}
-use Rattle.value.specs.declared.datum.Value.{Value}
 use Rattle.value.specs.declared.datum.Value.the-variants.{Null}
 use Rattle.table_map.specs.declared.event.Part.{Part}
 use Rattle.table_map.specs.Events.{readEvent}
@@ -20,7 +20,7 @@ use Rattle.image.specs.Split.{Told, null, value, end, cursor, firstCursor, step
 use Rattle.image.specs.Puts.{startImage, putFrom}
 use Rattle.feed_abi.specs.declared.maps.Asked.{Asked}
 use Rattle.feed_abi.specs.declared.maps.Asked.the-variants.{For, Refused}
-use Rattle.feed_abi.specs.Parts.{kindOf, partsOf, padded, valueOf}
+use Rattle.feed_abi.specs.Parts.{kindOf, partsOf, padded, valueOf, isHeld}
 
 -- ---- answers in numbers
 abbrev pub said : {A : Type 0} → (A → List ℕ) → Outcome A → Outcome (List ℕ)
@@ -58,35 +58,50 @@ toldNumbers (end used) = stepNumbers 0 0 (cursor 0 used) []
 unfoldable pub dialectOf : ℕ → Outcome Dialect
 dialectOf d = cond (eqb d 0) (ok Document) (cond (eqb d 1) (ok Mysql) (cond (eqb d 2) (ok Mariadb) (refuse 13 0)))
 
+-- the record's length, with the record at the buffer's start
 unfoldable pub feedCheck : List ℕ → ℕ → ℕ → List ℕ → Outcome (List ℕ × List ℕ)
 unfolding dialectOf
 feedCheck event postHeader d buf = after (dialectOf d) (λ d. saidWith one (check d event postHeader buf))
 
+-- 11 for a record that is not valid, 14 for a column that it has not
 unfoldable pub feedColumn : List ℕ → ℕ → Outcome (List ℕ)
 unfolding readRecord entryIn
 feedColumn r j = after (readRecord r) (λ n. cond (ltb j n) (ok (entryNumbers (entryIn r j))) (refuse 14 j))
 
+-- start and length of the names in the event, 0 and 0 where there are none
 unfoldable pub feedNames : List ℕ → ℕ → ℕ → Outcome (List ℕ)
 unfolding dialectOf readEvent
 feedNames event postHeader d = said (λ d. partNumbers (namesPart d event (readEvent event postHeader))) (dialectOf d)
 
+-- start and length of a name in the list that is looked at
 unfoldable pub feedName : List ℕ → List ℕ → ℕ → Outcome (List ℕ)
 unfolding columnName
 feedName names operator column = said partNumbers (columnName names operator (place column))
 
 -- ---- rows
+-- the first cursor
 unfoldable pub feedFirst : List ℕ → List ℕ → Outcome (List ℕ)
 unfolding firstCursor
 feedFirst r p = said cursorNumbers (firstCursor r p)
 
+-- a step from any cursor
 unfoldable pub feedStep : List ℕ → List ℕ → List ℕ → ℕ → ℕ → Outcome (List ℕ)
 unfolding stepFrom toldNumbers
 feedStep r p im column offset = said toldNumbers (stepFrom r p im (cursor column offset))
 
+-- the value that a step tells, if it tells one, is one that the machine can hold, so its kind and parts make it again
+abbrev pub Held : Outcome Told → Type 0
+Held (ok (null column next)) = Unit {0}
+Held (ok (value column v next)) = isHeld v ≡ true
+Held (ok (end used)) = Unit {0}
+Held (refused r) = Unit {0}
+
+-- the null bits stored, and the cursor of the first value
 unfoldable pub feedStart : List ℕ → List ℕ → List ℕ → List ℕ → Outcome (List ℕ × List ℕ)
 unfolding startImage
 feedStart r p nulls im = saidWith cursorNumbers (startImage r p nulls im)
 
+-- a value stored, and the cursor of the next
 unfoldable pub feedPut : List ℕ → List ℕ → List ℕ → ℕ → ℕ → ℕ → List ℕ → List ℕ → List ℕ → Outcome (List ℕ × List ℕ)
 unfolding valueOf putFrom
 feedPut r p nulls column offset kind ps lent im =

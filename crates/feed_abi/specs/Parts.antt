@@ -10,7 +10,6 @@ use Rattle.temporal.specs.declared.parts.Stamp.{Stamp}
 use Rattle.temporal.specs.declared.parts.Date.{Date}
 use Rattle.temporal.specs.declared.parts.Moment.{Moment}
 use Rattle.temporal.specs.declared.parts.Time.{Time}
-use Rattle.temporal.specs.declared.parts.Temporal.{Temporal}
 use Rattle.temporal.specs.declared.parts.Temporal.the-variants.{Since, On, At, Lasts}
 use Rattle.value.specs.declared.datum.Value.{Value}
 use Rattle.value.specs.declared.datum.Value.the-variants.{Null, Int, Uint, Float, Double, Year, When, Bytes}

@@ -15,7 +15,7 @@ ghost use mathlib.Core.List.{_∷_, []};
 ghost use Prim.Native.Nat.{_≤_};
 ghost use lib.ListN.{getD};
 ghost use Rattle.value.specs.declared.datum.Value.the-variants.{When};
-ghost use Rattle.feed_abi.specs.Parts.{kindOf, partsOf, padded, top, topsOf, fit, isTaken, stampOf, dateOf, momentOf, timeOf, made, valueOf, madeOf};
+ghost use Rattle.feed_abi.specs.Parts.{kindOf, partsOf, padded, top, topsOf, fit, isTaken, stampOf, dateOf, momentOf, timeOf, made, valueOf, madeOf, isHeld};
 
 // The kinds of values; 0 is the end of an image.
 const NULL: u64 = 1;
@@ -85,6 +85,7 @@ pub(crate) fn kind_of(value: Value) -> u64
 
 fn temporal_parts(t: Temporal) -> [u64; 7]
     ensures { λ r. ⌜ r ≡ padded 7 (partsOf (When t)) ⌝ }
+    ensures { λ _. ⌜ isHeld (When t) ≡ true ⌝ }
 {
     match t {
         Temporal::Since(s) => [s.seconds as u64, s.micros as u64, 0, 0, 0, 0, 0],
@@ -116,9 +117,10 @@ fn one(n: u64) -> [u64; 7]
     [n, 0, 0, 0, 0, 0, 0]
 }
 
-// The seven parts of a value, 0 for each that its kind has not.
+// The seven parts of a value, 0 for each that its kind has not. Every value that there is has each part within its bits, and so is made again of its kind and parts.
 pub(crate) fn parts_of(value: Value) -> [u64; 7]
     ensures { λ r. ⌜ r ≡ padded 7 (partsOf value) ⌝ }
+    ensures { λ _. ⌜ isHeld value ≡ true ⌝ }
 {
     match value {
         Value::Null => [0, 0, 0, 0, 0, 0, 0],

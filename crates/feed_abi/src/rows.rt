@@ -13,15 +13,16 @@ use image::Put;
 use image::Step;
 use value::Value;
 ghost use mathlib.Core.Path.{_≡_};
+ghost use mathlib.Core.Bool.{true};
 ghost use mathlib.Core.List.{[]};
 ghost use Prim.Native.Nat.{_≤_};
 ghost use lib.ListN.{length};
 ghost use Rattle.wire.specs.Stored.{stored, answerOf};
-ghost use Rattle.image.specs.Split.{cursor};
+ghost use Rattle.image.specs.Split.{cursor, stepFrom};
 ghost use Rattle.image.specs.Puts.{putTold};
 ghost use Rattle.feed_abi.specs.Answers.{numberOf, toldOf, statusOf, numbersLeft, bytesLeft};
-ghost use Rattle.feed_abi.specs.Parts.{kindOf, partsOf};
-ghost use Rattle.feed_abi.specs.Calls.{said, cursorNumbers, stepNumbers, feedFirst, feedStep, feedStart, feedPut};
+ghost use Rattle.feed_abi.specs.Parts.{kindOf, partsOf, isHeld};
+ghost use Rattle.feed_abi.specs.Calls.{said, cursorNumbers, stepNumbers, Held, feedFirst, feedStep, feedStart, feedPut};
 
 fn tell_cursor(out: &mut [u64], at: Cursor) -> u64
     requires { ⌜ 2 ≤ length (now out) ⌝ }
@@ -37,6 +38,7 @@ fn tell_value(out: &mut [u64], column: usize, value: Value, next: Cursor) -> u64
     requires { ⌜ 11 ≤ length (now out) ⌝ }
     ensures { λ r. ⌜ r ≡ 0 ⌝ }
     ensures { λ _. ⌜ now (out .exit) ≡ stored (now (out .entry)) 0 (stepNumbers (kindOf value) column next (partsOf value)) ⌝ }
+    ensures { λ _. ⌜ isHeld value ≡ true ⌝ }
 {
     let head = [
         kind_of(value),
@@ -99,6 +101,7 @@ pub extern "C" fn feed_step(
 ) -> u64
     ensures { λ r. ⌜ r ≡ statusOf 11 (now (out .entry)) (feedStep (now (profile .entry)) (now (presence .entry)) (now (image .entry)) column offset) ⌝ }
     ensures { λ _. ⌜ now (out .exit) ≡ numbersLeft 11 (now (out .entry)) (feedStep (now (profile .entry)) (now (presence .entry)) (now (image .entry)) column offset) ⌝ }
+    ensures { λ r. ⌜ (r ≡ 0 → Held (stepFrom (now (profile .entry)) (now (presence .entry)) (now (image .entry)) (cursor column offset))) ⌝ }
 {
     if out.len() < 11 {
         return NO_NUMBERS;

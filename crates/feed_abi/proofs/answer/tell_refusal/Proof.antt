@@ -1,5 +1,4 @@
 -- `feed_abi::answer::tell_refusal` meets its contract. Assumes nothing.
-use Rattle.wire.specs.Stored.{stored}
 use mathlib.Core.Path.{refl}
 use Rattle.wire.proofs.Stores.{stored-one}
 use native.Mathlib.Omega.{arith}

@@ -1,7 +1,5 @@
 -- `feed_abi::maps::dialect_of` meets its contract. Assumes nothing.
-use mathlib.Core.Path.{ap}
 use Rattle.wire.proofs.Rules.{tests}
-use Rattle.wire.specs.Outcome.{refused}
 use Rattle.feed_abi.specs.Calls.{dialectOf}
 use borrow.Author.Needs.{needs}
 use Rattle.feed_abi.proofs.maps.dialect_of.Statement.{statement}

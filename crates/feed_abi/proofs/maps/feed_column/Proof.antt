@@ -2,7 +2,7 @@
 use mathlib.Core.Path.{sym, ap, _∙_}
 use native.Mathlib.Omega.{arith}
 use Rattle.wire.specs.declared.refusal.Refusal.{Refusal}
-use mathlib.Core.List.{List, [], _∷_}
+use mathlib.Core.List.{[], _∷_}
 use Rattle.wire.specs.Stored.{stored}
 use Rattle.record.specs.declared.entry.Entry.{Entry}
 use Rattle.record.specs.Records.{recordOf}

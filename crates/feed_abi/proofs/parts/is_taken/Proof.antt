@@ -1,6 +1,5 @@
 -- `feed_abi::parts::is_taken` meets its contract. Assumes nothing.
-use native.Mathlib.Omega.{arith}
-use mathlib.Core.Path.{sym, _∙_}
+use mathlib.Core.Path.{sym}
 use Rattle.feed_abi.specs.Parts.{topsOf, fit, isTaken}
 use Rattle.feed_abi.proofs.Takes.{beyond, not-taken}
 use borrow.Author.Needs.{needs}

@@ -3,7 +3,7 @@ use mathlib.Core.Path.{sym, ap, _∙_}
 use native.Mathlib.Omega.{arith}
 use Rattle.image.specs.Split.{cursor, stepFrom, told}
 use Rattle.feed_abi.specs.Calls.{toldNumbers, feedStep}
-use Rattle.feed_abi.proofs.Tells.{no-numbers, said-ok, said-refused}
+use Rattle.feed_abi.proofs.Tells.{no-step, step-ok, step-refused}
 use borrow.Author.Needs.{needs}
 use Rattle.feed_abi.proofs.rows.feed_step.Statement.{statement}
 use Rattle.feed_abi.proofs.rows.feed_step.Tie as tie
@@ -15,7 +15,9 @@ use Rattle.feed_abi.proofs.rows.tell_value.Reads as tell-value-reads
 use Rattle.image.proofs.cursor.Cursor.step.Reads as step-reads
 
 returns : tie.Need-returns
-returns c = no-numbers 11 (c .before .before .before .before .before .args .out .now) _ (c .if1 .taken)
+unfolding feedStep
+returns c = let a = c .before .before .before .before .before .args in
+    no-step (a .out .now) (stepFrom (a .profile .now) (a .presence .now) (a .image .now) (cursor (a .column) (a .offset))) (c .if1 .taken)
 
 step-requires : tie.Need-step-requires
 step-requires c κs = search needs
@@ -50,7 +52,7 @@ same-length c = search needs
 returns-2 : tie.Need-returns-2
 unfolding feedStep toldNumbers
 returns-2 c = let a = c .before .before .before .before .before .before .before .before .before .before .before .before .before .args in
-    said-ok 11 (a .out .now) toldNumbers (stepFrom (a .profile .now) (a .presence .now) (a .image .now) (cursor (a .column) (a .offset))) _ _ _ (omega arith) (sym (c .before .before .before .before .before .before .before .step .ensures) ∙ ap told (c .before .before .before .before .before .column .given .1)) (c .before .before .tell-value .ensures .0) (c .before .before .tell-value .ensures .1)
+    step-ok (a .out .now) (stepFrom (a .profile .now) (a .presence .now) (a .image .now) (cursor (a .column) (a .offset))) _ _ _ (omega arith) (sym (c .before .before .before .before .before .before .before .step .ensures) ∙ ap told (c .before .before .before .before .before .column .given .1)) (c .before .before .tell-value .ensures .0) (c .before .before .tell-value .ensures .1 .0) tt
 
 same-length-2 : tie.Need-same-length-2
 same-length-2 c = search needs
@@ -58,7 +60,7 @@ same-length-2 c = search needs
 returns-3 : tie.Need-returns-3
 unfolding feedStep toldNumbers
 returns-3 c = let a = c .before .before .before .before .before .before .before .before .before .before .before .before .before .args in
-    said-ok 11 (a .out .now) toldNumbers (stepFrom (a .profile .now) (a .presence .now) (a .image .now) (cursor (a .column) (a .offset))) _ _ _ (omega arith) (sym (c .before .before .before .before .before .before .before .step .ensures) ∙ ap told (c .before .before .before .before .before .column2 .given .1)) (c .before .before .tell-value2 .ensures .0) (c .before .before .tell-value2 .ensures .1)
+    step-ok (a .out .now) (stepFrom (a .profile .now) (a .presence .now) (a .image .now) (cursor (a .column) (a .offset))) _ _ _ (omega arith) (sym (c .before .before .before .before .before .before .before .step .ensures) ∙ ap told (c .before .before .before .before .before .column2 .given .1)) (c .before .before .tell-value2 .ensures .0) (c .before .before .tell-value2 .ensures .1 .0) (c .before .before .tell-value2 .ensures .1 .1)
 
 same-length-3 : tie.Need-same-length-3
 same-length-3 c = search needs
@@ -66,7 +68,7 @@ same-length-3 c = search needs
 returns-4 : tie.Need-returns-4
 unfolding feedStep toldNumbers
 returns-4 c = let a = c .before .before .before .before .before .before .before .before .before .before .before .before .before .args in
-    said-ok 11 (a .out .now) toldNumbers (stepFrom (a .profile .now) (a .presence .now) (a .image .now) (cursor (a .column) (a .offset))) _ _ _ (omega arith) (sym (c .before .before .before .before .before .before .before .step .ensures) ∙ ap told (c .before .before .before .before .before .used .given .1)) (c .before .before .tell-end .ensures .0) (c .before .before .tell-end .ensures .1)
+    step-ok (a .out .now) (stepFrom (a .profile .now) (a .presence .now) (a .image .now) (cursor (a .column) (a .offset))) _ _ _ (omega arith) (sym (c .before .before .before .before .before .before .before .step .ensures) ∙ ap told (c .before .before .before .before .before .used .given .1)) (c .before .before .tell-end .ensures .0) (c .before .before .tell-end .ensures .1) tt
 
 same-length-4 : tie.Need-same-length-4
 same-length-4 c = search needs
@@ -74,7 +76,7 @@ same-length-4 c = search needs
 returns-5 : tie.Need-returns-5
 unfolding feedStep toldNumbers
 returns-5 c = let a = c .before .before .before .before .before .before .before .before .before .before .before .before .before .args in
-    said-refused 11 (a .out .now) toldNumbers (stepFrom (a .profile .now) (a .presence .now) (a .image .now) (cursor (a .column) (a .offset))) _ _ _ (omega arith) (sym (c .before .before .before .before .before .before .before .step .ensures) ∙ ap told (c .before .before .before .before .before .r .given .1)) (c .before .before .tell-refusal .ensures .0) (c .before .before .tell-refusal .ensures .1)
+    step-refused (a .out .now) (stepFrom (a .profile .now) (a .presence .now) (a .image .now) (cursor (a .column) (a .offset))) _ _ _ (omega arith) (sym (c .before .before .before .before .before .before .before .step .ensures) ∙ ap told (c .before .before .before .before .before .r .given .1)) (c .before .before .tell-refusal .ensures .0) (c .before .before .tell-refusal .ensures .1)
 
 pub feed-step-spec : {M : Type 1} → statement M
 feed-step-spec =

@@ -33,7 +33,7 @@ same-length : tie.Need-same-length
 same-length c = search needs
 
 returns : tie.Need-returns
-returns c = (refl, head-then _ _ _ _ _ refl (omega arith) (c .before .before .before .before .before .before .before .put-numbers .ensures) (c .before .before .put-numbers2 .ensures) ∙ rw (c .before .before .before .before .before .before .before .before .before .before .before .kind-of .ensures, c .before .before .before .before .before .before .before .before .before .before .parts-of .ensures))
+returns c = (refl, (head-then _ _ _ _ _ refl (omega arith) (c .before .before .before .before .before .before .before .put-numbers .ensures) (c .before .before .put-numbers2 .ensures) ∙ rw (c .before .before .before .before .before .before .before .before .before .before .before .kind-of .ensures, c .before .before .before .before .before .before .before .before .before .before .parts-of .ensures .0), c .before .before .before .before .before .before .before .before .before .before .parts-of .ensures .1))
 
 pub tell-value-spec : {M : Type 1} → statement M
 tell-value-spec =

@@ -1,6 +1,6 @@
 -- `feed_abi::twos::signed` meets its contract. Assumes nothing.
-use Prim.Native.Nat.{_+_, _-_, _/_, _^_, _≤_, _<_}
-use mathlib.Core.Path.{_≡_, ap, _∙_}
+use Prim.Native.Nat.{_-_, _^_}
+use mathlib.Core.Path.{_∙_}
 use native.Mathlib.Omega.{arith}
 use borrow.Author.Tests.{lt-ltb, le-ltb}
 use Rattle.wire.specs.Signed.{signedOf}

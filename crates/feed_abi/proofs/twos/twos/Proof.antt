@@ -1,6 +1,5 @@
 -- `feed_abi::twos::twos` meets its contract. Assumes nothing.
-use Prim.Native.Nat.{_-_, _^_}
-use mathlib.Core.Path.{_≡_, sym, ap, subst, _∙_}
+use mathlib.Core.Path.{sym, ap, subst}
 use native.Mathlib.Nat.{lt-trans}
 use native.Mathlib.Omega.{arith}
 use lib.Dec.{T, lit<}
