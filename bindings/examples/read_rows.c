@@ -1,0 +1,312 @@
+/*
+ * read_rows FILE: prints the tables of FILE, whose lines rows.txt explains: the columns with their types, then a line for each row.
+ * Every row is also written again from its values, and must have the bytes that it was read from, but for the spare null bits.
+ */
+#include "../feed.h"
+
+#include <inttypes.h>
+#include <stdio.h>
+#include <stdlib.h>
+#include <string.h>
+
+enum { LINE_MOST = 4096, COLUMNS_MOST = 255, PARTS = 7, POST_HEADER = 8 };
+
+struct bytes {
+    uint8_t at[LINE_MOST];
+    size_t length;
+};
+
+/* a checked map */
+struct table {
+    uint8_t record[FEED_RECORD_MOST];
+    size_t record_length;
+    size_t columns;
+};
+
+struct value {
+    uint64_t column;
+    uint64_t kind;
+    uint64_t parts[PARTS];
+};
+
+struct row {
+    struct bytes presence;
+    struct bytes image;
+    struct value values[COLUMNS_MOST];
+    size_t count;
+};
+
+static void stop(const char *why)
+{
+    fprintf(stderr, "read_rows: %s\n", why);
+    exit(1);
+}
+
+/* A refusal ends the program: the number tells the rule that was broken, the first number of out the place. */
+static void answered(const char *call, uint64_t status, const uint64_t *out)
+{
+    if (status == FEED_OK)
+        return;
+    fprintf(stderr, "read_rows: %s refused %" PRIu64 " %" PRIu64 "\n", call, status, out[FEED_PLACE]);
+    exit(1);
+}
+
+static void from_hex(const char *word, struct bytes *bytes)
+{
+    unsigned byte;
+
+    bytes->length = 0;
+    if (word == NULL)
+        stop("a word is missing");
+    for (; *word != '\0'; word += 2) {
+        if (sscanf(word, "%2x", &byte) != 1 || word[1] == '\0')
+            stop("a word is not hexadecimal");
+        bytes->at[bytes->length++] = (uint8_t)byte;
+    }
+}
+
+static void print_hex(const uint8_t *bytes, size_t length)
+{
+    size_t i;
+
+    for (i = 0; i < length; i++)
+        printf("%02x", bytes[i]);
+}
+
+/* 'text' where every byte is a plain character, else x'hexadecimal' */
+static void print_bytes(const uint8_t *bytes, size_t length)
+{
+    size_t i;
+
+    for (i = 0; i < length; i++)
+        if (bytes[i] < ' ' || bytes[i] > '~' || bytes[i] == '\'')
+            break;
+    if (i == length) {
+        printf("'%.*s'", (int)length, (const char *)bytes);
+        return;
+    }
+    printf("x'");
+    print_hex(bytes, length);
+    printf("'");
+}
+
+static void print_value(const struct value *value, const uint8_t *image)
+{
+    const uint64_t *p = value->parts;
+
+    switch (value->kind) {
+    case FEED_NULL:
+        printf("NULL");
+        break;
+    case FEED_INT:
+        printf("%" PRId64, (int64_t)p[0]);
+        break;
+    case FEED_UINT:
+    case FEED_YEAR:
+        printf("%" PRIu64, p[0]);
+        break;
+    case FEED_FLOAT:
+    case FEED_DOUBLE:
+        printf("bits %016" PRIx64, p[0]);
+        break;
+    case FEED_SECONDS:
+        printf("%" PRIu64 ".%06" PRIu64, p[0], p[1]);
+        break;
+    case FEED_DATE:
+        printf("%04" PRIu64 "-%02" PRIu64 "-%02" PRIu64, p[0], p[1], p[2]);
+        break;
+    case FEED_DATETIME:
+        printf("%04" PRIu64 "-%02" PRIu64 "-%02" PRIu64 " ", p[0], p[1], p[2]);
+        printf("%02" PRIu64 ":%02" PRIu64 ":%02" PRIu64 ".%06" PRIu64, p[3], p[4], p[5], p[6]);
+        break;
+    case FEED_TIME:
+        printf("%s%02" PRIu64 ":%02" PRIu64 ":%02" PRIu64 ".%06" PRIu64, p[0] ? "-" : "", p[1], p[2], p[3], p[4]);
+        break;
+    case FEED_BYTES:
+        print_bytes(image + p[0], (size_t)p[1]);
+        break;
+    }
+}
+
+static void read_map(const struct bytes *event, uint8_t dialect, struct table *table)
+{
+    uint64_t out[FEED_OUT_NUMBERS];
+
+    answered("feed_check",
+             feed_check(event->at, event->length, POST_HEADER, dialect, table->record, FEED_RECORD_MOST, out, FEED_OUT_NUMBERS), out);
+    table->record_length = (size_t)out[FEED_RECORD_LENGTH];
+    table->columns = (table->record_length - FEED_RECORD_BYTES(0)) / 6;
+}
+
+/* the real type of a column, and whether it is known to be unsigned */
+static void print_type(const struct table *table, size_t column)
+{
+    uint64_t out[FEED_OUT_NUMBERS];
+
+    answered("feed_column", feed_column(table->record, table->record_length, column, out, FEED_OUT_NUMBERS), out);
+    printf(" %" PRIu64 "%s", out[FEED_COLUMN_TYPE], out[FEED_COLUMN_FLAGS] & FEED_UNSIGNED ? " unsigned" : "");
+}
+
+static void print_columns(const struct bytes *event, uint8_t dialect, const struct table *table)
+{
+    uint64_t out[FEED_OUT_NUMBERS];
+    const uint8_t *names;
+    size_t names_length, i;
+
+    answered("feed_names", feed_names(event->at, event->length, POST_HEADER, dialect, out, FEED_OUT_NUMBERS), out);
+    names = event->at + out[FEED_NAME_START];
+    names_length = (size_t)out[FEED_NAME_LENGTH];
+    for (i = 0; i < table->columns; i++) {
+        answered("feed_name", feed_name(names, names_length, names, 0, i, out, FEED_OUT_NUMBERS), out);
+        printf("%s%.*s", i == 0 ? "" : " | ", (int)out[FEED_NAME_LENGTH], (const char *)names + out[FEED_NAME_START]);
+        print_type(table, i);
+    }
+    printf("\n");
+}
+
+/* Reads the values of a row. Returns the bytes that it took. */
+static size_t read_row(const struct table *table, struct row *row)
+{
+    uint64_t out[FEED_OUT_NUMBERS];
+    size_t column, offset;
+    struct value *value;
+
+    answered("feed_first",
+             feed_first(table->record, table->record_length, row->presence.at, row->presence.length, out, FEED_OUT_NUMBERS), out);
+    column = (size_t)out[FEED_CURSOR_COLUMN];
+    offset = (size_t)out[FEED_CURSOR_OFFSET];
+    for (row->count = 0;; row->count++) {
+        answered("feed_step",
+                 feed_step(table->record, table->record_length, row->presence.at, row->presence.length, row->image.at, row->image.length,
+                           column, offset, out, FEED_OUT_NUMBERS), out);
+        column = (size_t)out[FEED_STEP_NEXT_COLUMN];
+        offset = (size_t)out[FEED_STEP_NEXT_OFFSET];
+        if (out[FEED_STEP_KIND] == FEED_END)
+            return offset;
+        value = &row->values[row->count];
+        value->kind = out[FEED_STEP_KIND];
+        value->column = out[FEED_STEP_COLUMN];
+        memcpy(value->parts, out + FEED_STEP_PARTS, sizeof value->parts);
+    }
+}
+
+static void print_row(const struct table *table, const struct row *row)
+{
+    size_t column, next = 0;
+
+    for (column = 0; column < table->columns; column++) {
+        printf("%s", column == 0 ? "" : " | ");
+        if (next < row->count && row->values[next].column == column)
+            print_value(&row->values[next++], row->image.at);
+        else
+            printf("absent");
+    }
+    printf("\n");
+}
+
+/* Writes the row again from its values. Values of bytes are taken from the image that they were read from. Returns the bytes written. */
+static size_t write_row(const struct table *table, const struct row *row, uint8_t *written, size_t room)
+{
+    uint64_t out[FEED_OUT_NUMBERS];
+    uint8_t nulls[FEED_BYTES_FOR(COLUMNS_MOST)] = {0};
+    size_t nulls_length = FEED_BYTES_FOR(row->count);
+    size_t i;
+
+    for (i = 0; i < row->count; i++)
+        if (row->values[i].kind == FEED_NULL)
+            nulls[i / 8] |= (uint8_t)(1 << i % 8);
+    answered("feed_start",
+             feed_start(table->record, table->record_length, row->presence.at, row->presence.length, nulls, nulls_length,
+                        written, room, out, FEED_OUT_NUMBERS), out);
+    for (i = 0; i < row->count; i++)
+        answered("feed_put",
+                 feed_put(table->record, table->record_length, row->presence.at, row->presence.length, nulls, nulls_length,
+                          (size_t)out[FEED_CURSOR_COLUMN], (size_t)out[FEED_CURSOR_OFFSET], row->values[i].kind,
+                          row->values[i].parts, PARTS, row->image.at, row->image.length, written, room, out, FEED_OUT_NUMBERS), out);
+    return (size_t)out[FEED_CURSOR_OFFSET];
+}
+
+/* Whether two images of so many present columns are the same but for the spare bits in the last byte of their null bits. */
+static int same_row(const uint8_t *a, const uint8_t *b, size_t length, size_t present)
+{
+    size_t i;
+    uint8_t mask;
+
+    for (i = 0; i < length; i++) {
+        mask = i == present / 8 && present % 8 != 0 ? (uint8_t)((1 << present % 8) - 1) : 0xff;
+        if ((a[i] & mask) != (b[i] & mask))
+            return 0;
+    }
+    return 1;
+}
+
+static void do_row(const struct table *table, struct row *row, int show)
+{
+    uint8_t written[LINE_MOST];
+    size_t used = read_row(table, row);
+
+    print_row(table, row);
+    if (used != row->image.length)
+        stop("the row does not take its whole image");
+    if (write_row(table, row, written, sizeof written) != used || !same_row(row->image.at, written, used, row->count))
+        stop("the row that was written is not the one that was read");
+    if (show) {
+        printf("  logged  ");
+        print_hex(row->image.at, used);
+        printf("\n  written ");
+        print_hex(written, used);
+        printf("\n");
+    }
+}
+
+static uint8_t dialect_of(const char *server)
+{
+    if (server != NULL && strcmp(server, "mysql") == 0)
+        return FEED_MYSQL;
+    if (server != NULL && strcmp(server, "mariadb") == 0)
+        return FEED_MARIADB;
+    stop("a server is mysql or mariadb");
+    return FEED_DOCUMENT;
+}
+
+int main(int argc, char **argv)
+{
+    static char line[LINE_MOST];
+    static struct table table;
+    static struct row row;
+    static struct bytes event;
+    uint8_t dialect = FEED_DOCUMENT;
+    unsigned long rows = 0;
+    int first = 0, checked = 0;
+    const char *word;
+    FILE *file;
+
+    if (argc != 2 || (file = fopen(argv[1], "r")) == NULL)
+        stop("usage: read_rows FILE");
+    while (fgets(line, sizeof line, file) != NULL) {
+        if (strchr(line, '\n') == NULL)
+            stop("a line is too long, or its end is missing");
+        word = strtok(line, " \n");
+        if (word == NULL || word[0] == '#')
+            continue;
+        if (strcmp(word, "server") == 0) {
+            dialect = dialect_of(strtok(NULL, " \n"));
+        } else if (strcmp(word, "map") == 0) {
+            from_hex(strtok(NULL, " \n"), &event);
+            read_map(&event, dialect, &table);
+            print_columns(&event, dialect, &table);
+            first = checked = 1;
+        } else if (strcmp(word, "row") == 0 && checked) {
+            from_hex(strtok(NULL, " \n"), &row.presence);
+            from_hex(strtok(NULL, " \n"), &row.image);
+            do_row(&table, &row, first);
+            first = 0;
+            rows++;
+        } else {
+            stop("a line is none of server, map and row, or a row has no map before it");
+        }
+    }
+    fclose(file);
+    printf("%lu rows read, and written again: the same bytes but for the spare null bits\n", rows);
+    return 0;
+}

@@ -1,0 +1,180 @@
+/*
+ * feed.h: the calls of libfeed_abi.a, which reads MySQL's table map event and row images, and writes row images.
+ *
+ * The library is for x86-64 Linux. docs/ABI.md tells the calls in full; this file has what is needed beside the code.
+ *
+ * A slice is a pointer and then a length, counted in elements: bytes, or 64-bit numbers. What the proofs of the library
+ * take for granted, and C does not check:
+ *  - a pointer is not NULL, also where the length is 0 (any pointer will do there), and one to numbers is aligned to 8;
+ *  - as many elements as the length says can be read, or written where the parameter is not const;
+ *  - what is written (image, profile, out) overlaps nothing else that the same call is lent;
+ *  - the elements lent for reading have been written before.
+ * Given that, every call returns, whatever the bytes and numbers are. The library keeps no state and takes no memory.
+ *
+ * Every call returns a status: 0 for an answer, else the number of a refusal. The last parameter is a buffer of numbers, out.
+ *  - Status 0: the first numbers of out are the answer (the count stands with each call), all behind them are as they were.
+ *  - A refusal: out[0] is its place, and every other byte that was lent is as it was.
+ *  - out shorter than the answer: the status is FEED_NO_ROOM, and nothing is changed, not even out[0]. Lend FEED_OUT_NUMBERS
+ *    numbers to every call, and this cannot happen.
+ */
+#ifndef FEED_H
+#define FEED_H
+
+#include <stddef.h>
+#include <stdint.h>
+
+#ifdef __cplusplus
+extern "C" {
+#endif
+
+/* Numbers that are enough for the answer of any call. */
+#define FEED_OUT_NUMBERS 11
+
+/* Bytes of the record of a map with n columns, and of the longest record there is (255 columns). */
+#define FEED_RECORD_BYTES(n) (6 + 6 * (size_t)(n))
+#define FEED_RECORD_MOST FEED_RECORD_BYTES(255)
+
+/* Bytes that so many bits take: presence bits of n columns, null bits of p present columns. */
+#define FEED_BYTES_FOR(bits) (((size_t)(bits) + 7) / 8)
+
+/* Which columns a server counts where its map has a bit or a charset per column. Use the one of the server that wrote the map. */
+enum {
+    FEED_DOCUMENT = 0, /* the specification to the letter: refuses or misreads real maps with YEAR, VECTOR or geometry columns */
+    FEED_MYSQL = 1,
+    FEED_MARIADB = 2
+};
+
+/* The status of a call. Places are offsets in the lent bytes, or columns counted from 0, or 0. */
+enum {
+    FEED_OK = 0,
+    FEED_SHORT = 1,            /* bytes end inside a part of the event, an optional field, or an item of a list; place: its first byte, or its length's */
+    FEED_NOT_PACKED = 2,       /* first byte 251 or 255 of a packed integer; place: that byte */
+    FEED_TOO_MANY_COLUMNS = 3, /* more than 255 columns; place: 0 */
+    FEED_TYPE_NOT_TAKEN = 4,   /* a column type that is not taken; place: the column */
+    FEED_BAD_METADATA = 5,     /* metadata short, not accepted, or left over; place: the column, or the number of columns if left over */
+    FEED_UNKNOWN_FIELD = 6,    /* an optional field of unknown type; place: its type byte */
+    FEED_BAD_FIELD = 7,        /* contents of an optional field break a rule; place: its type byte, or the repeated key */
+    FEED_NO_ROOM = 8,          /* a lent buffer is too small; place: 0 */
+    FEED_IMAGE_SHORT = 9,      /* the image ends early; place: the column, or 0 in the null bits */
+    FEED_OUT_OF_RANGE = 10,    /* a part of a date or time is out of range; place: the column */
+    FEED_BAD_RECORD = 11,      /* the record is not valid; place: 0 */
+    FEED_BAD_BITS = 12,        /* presence or null bits have the wrong length; place: 0 */
+    FEED_NOT_TAKEN = 13,       /* a value that the column cannot hold, or a number that the call does not take; place: the column, or 0 */
+    FEED_NO_COLUMN = 14        /* there is no such column; place: the column asked */
+};
+
+/* Kinds of values, with their parts in order. feed_step answers them, feed_put takes all but FEED_END. */
+enum {
+    FEED_END = 0,      /* no value: the image is at its end */
+    FEED_NULL = 1,     /* (no part) */
+    FEED_INT = 2,      /* the signed integer, as two's complement in 64 bits */
+    FEED_UINT = 3,     /* the unsigned integer; also the number of an ENUM's string */
+    FEED_FLOAT = 4,    /* the 32 bits of a float */
+    FEED_DOUBLE = 5,   /* the 64 bits of a double */
+    FEED_SECONDS = 6,  /* seconds since 1970, microseconds */
+    FEED_YEAR = 7,     /* year */
+    FEED_DATE = 8,     /* year, month, day */
+    FEED_DATETIME = 9, /* year, month, day, hour, minute, second, microseconds */
+    FEED_TIME = 10,    /* 1 if negative else 0, hours, minutes, seconds, microseconds */
+    FEED_BYTES = 11    /* start, length: in the image for feed_step, in lent for feed_put. Strings, BLOB, SET, BIT, DECIMAL, JSON, geometry, VECTOR */
+};
+
+/* Flags of a column. */
+enum {
+    FEED_UNSIGNED = 1,
+    FEED_NULLABLE = 2,
+    FEED_SIGN_KNOWN = 4,
+    FEED_VISIBLE = 8
+};
+
+/* Where each number of an answer stands in out. */
+enum {
+    FEED_PLACE = 0, /* every refusal */
+
+    FEED_RECORD_LENGTH = 0, /* feed_check */
+
+    FEED_COLUMN_TYPE = 0, /* feed_column */
+    FEED_COLUMN_FLAGS = 1,
+    FEED_COLUMN_M0 = 2,
+    FEED_COLUMN_M1 = 3,
+    FEED_COLUMN_CHARSET = 4,
+
+    FEED_CURSOR_COLUMN = 0, /* feed_first, feed_start, feed_put */
+    FEED_CURSOR_OFFSET = 1,
+
+    FEED_STEP_KIND = 0, /* feed_step */
+    FEED_STEP_COLUMN = 1,
+    FEED_STEP_NEXT_COLUMN = 2,
+    FEED_STEP_NEXT_OFFSET = 3,
+    FEED_STEP_PARTS = 4, /* seven numbers from here on; those that the kind has not are 0 */
+
+    FEED_NAME_START = 0, /* feed_names, feed_name */
+    FEED_NAME_LENGTH = 1
+};
+
+/*
+ * Checks the body of a table map event (what follows the 19-byte event header, without a checksum) and writes the record that the
+ * other calls read. post_header is the event's post-header length from the format description event: 8, or 6 in very old logs.
+ * Lend FEED_RECORD_MOST bytes to be sure of the room.
+ * Answer, 1 number: the length of the record, which stands at the start of profile.
+ */
+uint64_t feed_check(const uint8_t *event, size_t event_length, uint8_t post_header, uint8_t dialect,
+                    uint8_t *profile, size_t profile_length, uint64_t *out, size_t out_length);
+
+/* One column of a record. Answer, 5 numbers: real type, flags, m0, m1, charset (0 if none was given). */
+uint64_t feed_column(const uint8_t *profile, size_t profile_length, size_t column, uint64_t *out, size_t out_length);
+
+/*
+ * The cursor that a walk over a row image begins with. presence has a bit for each column, lowest first, in FEED_BYTES_FOR(columns)
+ * bytes: set where the column is in the image. It comes with the rows event.
+ * Answer, 2 numbers: column, offset.
+ */
+uint64_t feed_first(const uint8_t *profile, size_t profile_length, const uint8_t *presence, size_t presence_length,
+                    uint64_t *out, size_t out_length);
+
+/*
+ * Reads the first present column at or behind the cursor (column, offset). image may be longer than the row: bytes behind it are not read.
+ * Answer, 11 numbers: kind, column, next column, next offset, and seven parts of the value. At the end the kind is FEED_END,
+ * column and next column are 0, and next offset is the number of bytes that the row took.
+ */
+uint64_t feed_step(const uint8_t *profile, size_t profile_length, const uint8_t *presence, size_t presence_length,
+                   const uint8_t *image, size_t image_length, size_t column, size_t offset, uint64_t *out, size_t out_length);
+
+/*
+ * Begins a row image: stores the null bits, one for each present column, lowest first, in FEED_BYTES_FOR(present columns) bytes.
+ * The spare bits of the last byte are set in the image.
+ * Answer, 2 numbers: the cursor for the first value, column and offset.
+ */
+uint64_t feed_start(const uint8_t *profile, size_t profile_length, const uint8_t *presence, size_t presence_length,
+                    const uint8_t *nulls, size_t nulls_length, uint8_t *image, size_t image_length, uint64_t *out, size_t out_length);
+
+/*
+ * Stores one value at the cursor, nothing for NULL. The null bits are lent again, and value and bit must agree. parts are those of the
+ * kind, more are ignored; lent has the bytes of a FEED_BYTES value, and may be empty for other kinds.
+ * Put a value for each present column, NULL too. There is no call for the end: after the last value the next offset is the image's length.
+ * Answer, 2 numbers: the next cursor, column and offset.
+ */
+uint64_t feed_put(const uint8_t *profile, size_t profile_length, const uint8_t *presence, size_t presence_length,
+                  const uint8_t *nulls, size_t nulls_length, size_t column, size_t offset, uint64_t kind,
+                  const uint64_t *parts, size_t parts_length, const uint8_t *lent, size_t lent_length,
+                  uint8_t *image, size_t image_length, uint64_t *out, size_t out_length);
+
+/*
+ * Where the column names of an event stand. Answer, 2 numbers: start and length, in the event, of the value of its first names field;
+ * 0 and 0 if it has none, or is refused before it.
+ */
+uint64_t feed_names(const uint8_t *event, size_t event_length, uint8_t post_header, uint8_t dialect, uint64_t *out, size_t out_length);
+
+/*
+ * The name of one column, looked up in names (what feed_names found), or in fallback where names is empty: a list of your own in the same
+ * layout, each name a length byte (for up to 250 bytes) and its bytes.
+ * Answer, 2 numbers: start and length in the list that was looked at.
+ */
+uint64_t feed_name(const uint8_t *names, size_t names_length, const uint8_t *fallback, size_t fallback_length,
+                   size_t column, uint64_t *out, size_t out_length);
+
+#ifdef __cplusplus
+}
+#endif
+
+#endif

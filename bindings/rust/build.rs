@@ -1,0 +1,10 @@
+// Tells the linker where libfeed_abi.a is: in the folder FEED_ABI_DIR, or where `rt staticlib feed_abi` writes it.
+use std::env;
+
+fn main() {
+    let written = concat!(env!("CARGO_MANIFEST_DIR"), "/../../target/staticlib");
+    let dir = env::var("FEED_ABI_DIR").unwrap_or_else(|_| written.to_string());
+    println!("cargo:rerun-if-env-changed=FEED_ABI_DIR");
+    println!("cargo:rerun-if-changed={dir}/libfeed_abi.a");
+    println!("cargo:rustc-link-search=native={dir}");
+}

@@ -1,0 +1,290 @@
+//! The calls of libfeed_abi.a as they are declared in feed.h, and for each one a function on slices. All `unsafe` of the crate is here.
+
+use crate::Refusal;
+
+/// Numbers that are enough for the answer of any call.
+const NUMBERS: usize = 11;
+
+/// The numbers of an answer, from the first on; those that a call has not are 0.
+pub(crate) type Answer = [u64; NUMBERS];
+
+/// A value as the calls take it apart: kind, parts, and the bytes that a value of bytes points into.
+pub(crate) struct Taken<'a> {
+    pub(crate) kind: u64,
+    pub(crate) parts: [u64; 7],
+    pub(crate) lent: &'a [u8],
+}
+
+#[link(name = "feed_abi", kind = "static")]
+extern "C" {
+    fn feed_check(
+        event: *const u8,
+        event_length: usize,
+        post_header: u8,
+        dialect: u8,
+        profile: *mut u8,
+        profile_length: usize,
+        out: *mut u64,
+        out_length: usize,
+    ) -> u64;
+
+    fn feed_column(
+        profile: *const u8,
+        profile_length: usize,
+        column: usize,
+        out: *mut u64,
+        out_length: usize,
+    ) -> u64;
+
+    fn feed_first(
+        profile: *const u8,
+        profile_length: usize,
+        presence: *const u8,
+        presence_length: usize,
+        out: *mut u64,
+        out_length: usize,
+    ) -> u64;
+
+    fn feed_step(
+        profile: *const u8,
+        profile_length: usize,
+        presence: *const u8,
+        presence_length: usize,
+        image: *const u8,
+        image_length: usize,
+        column: usize,
+        offset: usize,
+        out: *mut u64,
+        out_length: usize,
+    ) -> u64;
+
+    fn feed_start(
+        profile: *const u8,
+        profile_length: usize,
+        presence: *const u8,
+        presence_length: usize,
+        nulls: *const u8,
+        nulls_length: usize,
+        image: *mut u8,
+        image_length: usize,
+        out: *mut u64,
+        out_length: usize,
+    ) -> u64;
+
+    fn feed_put(
+        profile: *const u8,
+        profile_length: usize,
+        presence: *const u8,
+        presence_length: usize,
+        nulls: *const u8,
+        nulls_length: usize,
+        column: usize,
+        offset: usize,
+        kind: u64,
+        parts: *const u64,
+        parts_length: usize,
+        lent: *const u8,
+        lent_length: usize,
+        image: *mut u8,
+        image_length: usize,
+        out: *mut u64,
+        out_length: usize,
+    ) -> u64;
+
+    fn feed_names(
+        event: *const u8,
+        event_length: usize,
+        post_header: u8,
+        dialect: u8,
+        out: *mut u64,
+        out_length: usize,
+    ) -> u64;
+
+    fn feed_name(
+        names: *const u8,
+        names_length: usize,
+        fallback: *const u8,
+        fallback_length: usize,
+        column: usize,
+        out: *mut u64,
+        out_length: usize,
+    ) -> u64;
+}
+
+// One comment for all the calls below. SAFETY: each pointer comes with the length of the slice it was taken from, so the library reads and
+// writes only what was lent; a `&mut` overlaps nothing else; the library keeps no pointer; and its functions ask nothing else of a caller.
+
+pub(crate) fn check(
+    event: &[u8],
+    post_header: u8,
+    dialect: u8,
+    profile: &mut [u8],
+) -> Result<Answer, Refusal> {
+    let mut out = [0; NUMBERS];
+    let status = unsafe {
+        feed_check(
+            event.as_ptr(),
+            event.len(),
+            post_header,
+            dialect,
+            profile.as_mut_ptr(),
+            profile.len(),
+            out.as_mut_ptr(),
+            out.len(),
+        )
+    };
+    answered(status, out)
+}
+
+pub(crate) fn column(profile: &[u8], column: usize) -> Result<Answer, Refusal> {
+    let mut out = [0; NUMBERS];
+    let status = unsafe {
+        feed_column(
+            profile.as_ptr(),
+            profile.len(),
+            column,
+            out.as_mut_ptr(),
+            out.len(),
+        )
+    };
+    answered(status, out)
+}
+
+pub(crate) fn first(profile: &[u8], presence: &[u8]) -> Result<Answer, Refusal> {
+    let mut out = [0; NUMBERS];
+    let status = unsafe {
+        feed_first(
+            profile.as_ptr(),
+            profile.len(),
+            presence.as_ptr(),
+            presence.len(),
+            out.as_mut_ptr(),
+            out.len(),
+        )
+    };
+    answered(status, out)
+}
+
+pub(crate) fn step(
+    profile: &[u8],
+    presence: &[u8],
+    image: &[u8],
+    column: usize,
+    offset: usize,
+) -> Result<Answer, Refusal> {
+    let mut out = [0; NUMBERS];
+    let status = unsafe {
+        feed_step(
+            profile.as_ptr(),
+            profile.len(),
+            presence.as_ptr(),
+            presence.len(),
+            image.as_ptr(),
+            image.len(),
+            column,
+            offset,
+            out.as_mut_ptr(),
+            out.len(),
+        )
+    };
+    answered(status, out)
+}
+
+pub(crate) fn start(
+    profile: &[u8],
+    presence: &[u8],
+    nulls: &[u8],
+    image: &mut [u8],
+) -> Result<Answer, Refusal> {
+    let mut out = [0; NUMBERS];
+    let status = unsafe {
+        feed_start(
+            profile.as_ptr(),
+            profile.len(),
+            presence.as_ptr(),
+            presence.len(),
+            nulls.as_ptr(),
+            nulls.len(),
+            image.as_mut_ptr(),
+            image.len(),
+            out.as_mut_ptr(),
+            out.len(),
+        )
+    };
+    answered(status, out)
+}
+
+pub(crate) fn put(
+    profile: &[u8],
+    presence: &[u8],
+    nulls: &[u8],
+    (column, offset): (usize, usize),
+    value: &Taken,
+    image: &mut [u8],
+) -> Result<Answer, Refusal> {
+    let mut out = [0; NUMBERS];
+    let status = unsafe {
+        feed_put(
+            profile.as_ptr(),
+            profile.len(),
+            presence.as_ptr(),
+            presence.len(),
+            nulls.as_ptr(),
+            nulls.len(),
+            column,
+            offset,
+            value.kind,
+            value.parts.as_ptr(),
+            value.parts.len(),
+            value.lent.as_ptr(),
+            value.lent.len(),
+            image.as_mut_ptr(),
+            image.len(),
+            out.as_mut_ptr(),
+            out.len(),
+        )
+    };
+    answered(status, out)
+}
+
+pub(crate) fn names(event: &[u8], post_header: u8, dialect: u8) -> Result<Answer, Refusal> {
+    let mut out = [0; NUMBERS];
+    let status = unsafe {
+        feed_names(
+            event.as_ptr(),
+            event.len(),
+            post_header,
+            dialect,
+            out.as_mut_ptr(),
+            out.len(),
+        )
+    };
+    answered(status, out)
+}
+
+pub(crate) fn name(names: &[u8], fallback: &[u8], column: usize) -> Result<Answer, Refusal> {
+    let mut out = [0; NUMBERS];
+    let status = unsafe {
+        feed_name(
+            names.as_ptr(),
+            names.len(),
+            fallback.as_ptr(),
+            fallback.len(),
+            column,
+            out.as_mut_ptr(),
+            out.len(),
+        )
+    };
+    answered(status, out)
+}
+
+/// A status with what the call left in its numbers.
+fn answered(status: u64, out: Answer) -> Result<Answer, Refusal> {
+    if status == 0 {
+        return Ok(out);
+    }
+    Err(Refusal {
+        number: status,
+        place: out[0],
+    })
+}

@@ -1,0 +1,221 @@
+//! The calls of the crate, on the worked readings of the specification, on maps that a server logged, and on bytes that are refused.
+
+use feed::{check, column_name, name, names, refusal, Column, Dialect, Record, Refusal, Value};
+
+// three columns: INT, VARCHAR(20), TINYINT UNSIGNED
+const EVENT: &[u8] = &[
+    0x2a, 0, 0, 0, 0, 0, 1, 0, 1, b't', 0, 1, b'r', 0, 3, 3, 0x0f, 1, 2, 0x14, 0, 2, 1, 1, 0x40,
+];
+const RECORD: &[u8] = &[
+    0x18, 0, 1, 0, 3, 0, 3, 0x0c, 0, 0, 0, 0, 0x0f, 0x0a, 0x14, 0, 0, 0, 1, 0x0d, 0, 0, 0, 0,
+];
+const IMAGE: &[u8] = &[0xf8, 0xfe, 0xff, 0xff, 0xff, 2, b'a', b'b', 0xc8];
+
+// MySQL 9.7.4: INT, YEAR, INT UNSIGNED, TINYINT, with their names
+const YEAR_EVENT: &[u8] = &[
+    0xdb, 0, 0, 0, 0, 0, 1, 0, 7, b'c', b'a', b'p', b'f', b'u', b'l', b'l', 0, 13, b'y', b'e',
+    b'a', b'r', b'_', b's', b'i', b'l', b'e', b'n', b't', b'_', b'a', 0, 4, 3, 13, 3, 1, 0, 0x0f,
+    1, 1, 0x60, 4, 12, 2, b'c', b'0', 2, b'c', b'1', 2, b'c', b'2', 2, b'c', b'3', 12, 1, 0xf0,
+];
+
+fn record() -> Record {
+    check(EVENT, 8, Dialect::Document).unwrap()
+}
+
+fn refused<T>(number: u64, place: u64) -> Result<T, Refusal> {
+    Err(Refusal { number, place })
+}
+
+#[test]
+fn a_map_gives_its_record() {
+    assert_eq!(record().as_bytes(), RECORD);
+    assert_eq!(record().columns(), 3);
+    let tiny = Column {
+        real_type: 1,
+        unsigned: true,
+        nullable: false,
+        sign_known: true,
+        visible: true,
+        m0: 0,
+        m1: 0,
+        charset: 0,
+    };
+    assert_eq!(record().column(2), Ok(tiny));
+    assert_eq!(record().column(3), refused(refusal::NO_COLUMN, 3));
+}
+
+#[test]
+fn the_dialect_decides_whose_bits_are_whose() {
+    let unsigned = |dialect| {
+        let record = check(YEAR_EVENT, 8, dialect).unwrap();
+        [0, 2, 3].map(|column| record.column(column).unwrap().unsigned)
+    };
+    assert_eq!(unsigned(Dialect::Mysql), [false, true, false]);
+    assert_eq!(unsigned(Dialect::Mariadb), [false, true, false]);
+    assert_eq!(unsigned(Dialect::Document), [false, true, true]);
+}
+
+#[test]
+fn a_map_that_ends_early_is_refused() {
+    assert_eq!(check(&[], 8, Dialect::Mysql), refused(refusal::SHORT, 0));
+    for length in 0..EVENT.len() {
+        let got = check(&EVENT[..length], 8, Dialect::Mysql);
+        // the optional fields may be missing as a whole
+        assert_eq!(got.is_ok(), length == 22, "{length}");
+    }
+}
+
+#[test]
+fn a_stored_record_is_taken_up() {
+    assert_eq!(Record::from_bytes(RECORD.to_vec()), Ok(record()));
+    let mut wrong = RECORD.to_vec();
+    wrong[2] = 9;
+    assert_eq!(Record::from_bytes(wrong), refused(refusal::BAD_RECORD, 0));
+    assert_eq!(
+        Record::from_bytes(Vec::new()),
+        refused(refusal::BAD_RECORD, 0)
+    );
+}
+
+#[test]
+fn an_image_gives_its_values() {
+    let record = record();
+    let mut longer = IMAGE.to_vec();
+    longer.push(7);
+    let mut row = record.row(&[7], &longer).unwrap();
+    assert_eq!(row.bytes_used(), None);
+    assert_eq!(row.next(), Some(Ok((0, Value::Int(-2)))));
+    assert_eq!(row.next(), Some(Ok((1, Value::Bytes(b"ab")))));
+    assert_eq!(row.next(), Some(Ok((2, Value::Uint(200)))));
+    assert_eq!(row.next(), None);
+    assert_eq!(row.next(), None);
+    assert_eq!(row.bytes_used(), Some(9));
+}
+
+#[test]
+fn absent_columns_and_nulls_are_told_apart() {
+    let record = record();
+    let row = record.row(&[0b101], &[0b01, 0xc8]).unwrap();
+    let got: Vec<_> = row.map(Result::unwrap).collect();
+    assert_eq!(got, [(0, Value::Null), (2, Value::Uint(200))]);
+}
+
+#[test]
+fn an_image_that_ends_early_is_refused_once() {
+    let record = record();
+    let mut row = record.row(&[7], &IMAGE[..7]).unwrap();
+    assert_eq!(row.next(), Some(Ok((0, Value::Int(-2)))));
+    assert_eq!(row.next(), Some(refused(refusal::IMAGE_SHORT, 1)));
+    assert_eq!(row.next(), None);
+    assert_eq!(row.bytes_used(), None);
+    assert_eq!(
+        record.row(&[7, 7], IMAGE).err(),
+        refused::<()>(refusal::BAD_BITS, 0).err()
+    );
+}
+
+#[test]
+fn a_row_is_written() {
+    let values = [Value::Int(-2), Value::Bytes(b"ab"), Value::Uint(200)];
+    assert_eq!(record().write_row(&[7], &values), Ok(IMAGE.to_vec()));
+    let nulls = [Value::Null, Value::Uint(200)];
+    assert_eq!(
+        record().write_row(&[0b101], &nulls),
+        Ok(vec![0b1111_1101, 0xc8])
+    );
+}
+
+#[test]
+fn a_row_that_no_image_can_hold_is_refused() {
+    let record = record();
+    let row = |values: &[Value]| record.write_row(&[7], values);
+    assert_eq!(row(&[]), refused(refusal::BAD_BITS, 0));
+    assert_eq!(row(&[Value::Null; 4]), refused(refusal::BAD_BITS, 0));
+    assert_eq!(row(&[Value::Null; 300]), refused(refusal::BAD_BITS, 0));
+    let year = [Value::Int(1), Value::Year(2000), Value::Null];
+    assert_eq!(row(&year), refused(refusal::NOT_TAKEN, 1));
+    let long = vec![b'x'; 256];
+    let long = [Value::Int(1), Value::Bytes(&long), Value::Null];
+    assert_eq!(row(&long), refused(refusal::NOT_TAKEN, 1));
+}
+
+#[test]
+fn every_kind_goes_there_and_back() {
+    // one column for each kind: FLOAT, DOUBLE, TIMESTAMP2(6), YEAR, DATE, DATETIME2(6), TIME2(6), BIGINT, ENUM
+    let columns: [[u8; 3]; 9] = [
+        [4, 4, 0],
+        [5, 8, 0],
+        [17, 6, 0],
+        [13, 0, 0],
+        [14, 0, 0],
+        [18, 6, 0],
+        [19, 6, 0],
+        [8, 0, 0],
+        [247, 0xf7, 2],
+    ];
+    let mut bytes = vec![6 + 6 * 9, 0, 1, 0, 9, 0];
+    for [real_type, m0, m1] in columns {
+        bytes.extend([real_type, 8, m0, m1, 0, 0]);
+    }
+    let record = Record::from_bytes(bytes).unwrap();
+    let values = [
+        Value::Float(-1.5),
+        Value::Double(0.1),
+        Value::Seconds {
+            seconds: u32::MAX,
+            micros: 999_999,
+        },
+        Value::Year(2155),
+        Value::Date {
+            year: 9999,
+            month: 12,
+            day: 31,
+        },
+        Value::Datetime {
+            year: 2024,
+            month: 2,
+            day: 29,
+            hour: 23,
+            minute: 59,
+            second: 58,
+            micros: 1,
+        },
+        Value::Time {
+            negative: true,
+            hours: 838,
+            minutes: 59,
+            seconds: 58,
+            micros: 999_999,
+        },
+        Value::Int(i64::MIN),
+        Value::Uint(65_535),
+    ];
+    let image = record.write_row(&[0xff, 0xff], &values).unwrap();
+    let mut row = record.row(&[0xff, 0xff], &image).unwrap();
+    let back: Vec<_> = row.by_ref().map(|item| item.unwrap().1).collect();
+    assert_eq!(back, values);
+    assert_eq!(row.bytes_used(), Some(image.len()));
+}
+
+#[test]
+fn names_come_from_the_map_or_else_from_the_list_beside_it() {
+    assert_eq!(
+        column_name(YEAR_EVENT, 8, Dialect::Mysql, 2),
+        Ok(&b"c2"[..])
+    );
+    assert_eq!(
+        column_name(YEAR_EVENT, 8, Dialect::Mysql, 4),
+        refused(refusal::NO_COLUMN, 4)
+    );
+    assert_eq!(names(EVENT, 8, Dialect::Mysql), b"");
+    assert_eq!(
+        column_name(EVENT, 8, Dialect::Mysql, 0),
+        refused(refusal::NO_COLUMN, 0)
+    );
+    assert_eq!(name(b"", b"\x02id\x01v", 1), Ok(&b"v"[..]));
+    assert_eq!(
+        name(b"\x01a", b"\x02id\x01v", 1),
+        refused(refusal::NO_COLUMN, 1)
+    );
+    assert_eq!(name(b"\x05ab", b"", 0), refused(refusal::SHORT, 0));
+}
