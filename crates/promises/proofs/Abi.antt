@@ -7,7 +7,7 @@ use native.Mathlib.Omega.{arith}
 use borrow.Author.Tests.{le-leb, leb-true}
 use lib.ListN.{length}
 use lib.Dec.{leb, ltb, eqb}
-use Rattle.wire.specs.Outcome.{Outcome, ok, refused, refuse, after, why}
+use Rattle.wire.specs.Outcome.{Outcome, ok, refused, after, why}
 use Rattle.wire.specs.Stored.{stored, store, answerOf, leftOf}
 use Rattle.wire.proofs.Outcomes.{after-is-ok, test-is-ok, by-test, ok-not-refused, same-ok}
 use Rattle.value.specs.declared.datum.Value.the-variants.{Null}
