@@ -7,7 +7,7 @@ use lib.Dec.{leb}
 use Rattle.wire.specs.Outcome.{Outcome, ok, refused}
 use Rattle.wire.specs.Stored.{stored, leftOf}
 
--- "0 for an answer, else the number of a refusal"
+-- 0 for an answer, else the number of the refusal
 abbrev pub numberOf : Outcome (List ℕ) → ℕ
 numberOf (ok ns) = 0
 numberOf (refused r) = r .number

@@ -12,7 +12,7 @@ use borrow.Author.Tests.{le-ltb, lt-ltb}
 use lib.ListN.{length, take, drop, length-append, take-append-drop}
 use lib.Seq.{length-take-le, drop-append-seam}
 use Rattle.wire.specs.declared.refusal.Refusal.{Refusal}
-use Rattle.wire.specs.Outcome.{ok, refused, refuse, why}
+use Rattle.wire.specs.Outcome.{ok, refused, refuse}
 use Rattle.wire.specs.Number.{Bytes}
 use Rattle.wire.specs.Bits.{bytesFor, bitLsb0}
 use Rattle.wire.proofs.Inverse.{bytes-drop}

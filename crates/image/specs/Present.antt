@@ -1,6 +1,6 @@
 -- Which columns an image has: bits of presence, the lowest of each byte first, as many as the record has columns. Assumes nothing.
-use Prim.Native.Nat.{ℕ, zero, suc, _+_, _-_}
-use mathlib.Core.Bool.{Bool, cond}
+use Prim.Native.Nat.{ℕ, zero, suc, _+_}
+use mathlib.Core.Bool.{cond}
 use mathlib.Core.List.{List, [], _∷_}
 use Rattle.wire.specs.Bits.{bitLsb0}
 use Rattle.value.specs.declared.shape.Shape.{Shape}

@@ -1,16 +1,14 @@
 -- The image writer: "a start stores lent null bits; a step, lent them again, one value at its cursor, nothing for NULL". Assumes nothing.
-use Prim.Native.Nat.{ℕ, zero, suc, _+_, _-_, _*_, _/_, _%_, _^_}
-use mathlib.Core.Bool.{Bool, true, false, cond, _&&_}
+use Prim.Native.Nat.{ℕ, _+_, _-_, _/_, _%_, _^_}
+use mathlib.Core.Bool.{cond}
 use mathlib.Core.List.{List, [], _∷_, _++_}
 use lib.ListN.{length, getD, take}
 use lib.Dec.{eqb, ltb}
 use Rattle.wire.specs.Outcome.{Outcome, ok, refused, refuse, after}
-use Rattle.wire.specs.Bits.{bytesFor}
 use Rattle.wire.specs.Stored.{store}
 use Rattle.value.specs.declared.datum.Value.{Value}
-use Rattle.value.specs.Data.{Datum}
 use Rattle.value.specs.Reading.{datumOf}
-use Rattle.value.specs.Storing.{isIn, storedBytes}
+use Rattle.value.specs.Storing.{storedBytes}
 use Rattle.image.specs.declared.cursor.Cursor.{Cursor}
 use Rattle.image.specs.declared.cursor.Head.{Head}
 use Rattle.image.specs.declared.put.Put.{Put}

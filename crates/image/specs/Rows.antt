@@ -14,7 +14,7 @@ use Rattle.value.specs.Shapes.{bytesOf}
 use Rattle.value.specs.Domains.{domain}
 use Rattle.value.specs.Reading.{Fails}
 use Rattle.record.specs.Records.{countOf}
-use Rattle.image.specs.Present.{Present, presentFrom, present}
+use Rattle.image.specs.Present.{Present, present}
 use Rattle.image.specs.Walk.{Walked}
 
 -- NULL is the datum `null`, which is in no column's domain

@@ -1,6 +1,6 @@
 -- The check link by link: each refuses as its own test does, and a map that passes all of them has its entries. Assumes nothing.
 use Prim.Native.Nat.{ℕ, _≤_, _<_}
-use mathlib.Core.Path.{_≡_, sym, ap, subst, _∙_}
+use mathlib.Core.Path.{_≡_, ap, subst, _∙_}
 use mathlib.Core.Bool.{true, false}
 use mathlib.Core.List.{List}
 use mathlib.Core.Logic.{⊎-elim}
@@ -11,19 +11,17 @@ use Rattle.wire.specs.Outcome.{Outcome, ok, refused, refuse, after}
 use Rattle.wire.proofs.Outcomes.{after-is-ok, after-refuses, ok-not-refused, same-ok}
 use Rattle.value.specs.declared.column.Dialect.{Dialect}
 use Rattle.table_map.specs.declared.event.Event.{Event}
-use Rattle.table_map.specs.declared.event.Part.{Part}
 use Rattle.table_map.specs.declared.field.Fields.{Fields as FieldCursor}
 use Rattle.table_map.specs.Parts.{lentPart}
 use Rattle.map_check.specs.declared.column.Declared.{Declared}
 use Rattle.map_check.specs.declared.rank.Ranks.{Ranks}
-use Rattle.map_check.specs.declared.field.Found.the-variants.{Value}
 use Rattle.map_check.specs.Columns.{takeColumns, declareAll}
 use Rattle.map_check.specs.Ranks.{place, noRanks, sizesOf}
 use Rattle.map_check.specs.Contents.{contentsFull}
 use Rattle.map_check.specs.Fields.{done, fieldsAt, fieldsFrom, firstOf, keepFields}
 use Rattle.map_check.specs.Keys.{onceIn, keysHold}
 use Rattle.map_check.specs.Profile.{factsOf, entriesFrom}
-use Rattle.map_check.specs.Standing.{ClassHolds, Takes}
+use Rattle.map_check.specs.Standing.{Takes}
 use Rattle.map_check.specs.Check.{fewEnough, entriesOf, checkEvent}
 use Rattle.map_check.proofs.Declares.{taken-all}
 use Rattle.map_check.proofs.KeptFields.{kept-done, kept-refused, kept-first}

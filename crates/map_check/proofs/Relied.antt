@@ -1,18 +1,16 @@
 -- What a row can rely on: the record of a map that passes is valid. Assumes nothing.
 use Prim.Native.Nat.{ℕ, zero, suc, _≤_, _<_}
 use mathlib.Core.Path.{_≡_, refl, sym, ap, subst, _∙_}
-use mathlib.Core.Bool.{Bool, true}
+use mathlib.Core.Bool.{true}
 use mathlib.Core.List.{List, [], _∷_}
 use native.Mathlib.Omega.{arith}
 use borrow.Author.Tests.{le-leb, leb-true}
 use lib.ListN.{length, getD, drop}
 use lib.Dec.{leb, eqb}
-use Rattle.wire.specs.Outcome.{Outcome, ok, refused, refuse, why, after}
+use Rattle.wire.specs.Outcome.{ok, why}
 use Rattle.wire.proofs.Outcomes.{after-is-ok, test-is-ok, same-ok}
 use Rattle.value.specs.declared.column.Dialect.{Dialect}
 use Rattle.table_map.specs.declared.event.Event.{Event}
-use Rattle.table_map.specs.declared.event.Part.{Part}
-use Rattle.table_map.specs.declared.field.Fields.{Fields as FieldCursor}
 use Rattle.table_map.specs.Parts.{lentPart}
 use Rattle.record.specs.declared.entry.Entry.{Entry}
 use Rattle.record.specs.Entries.{isUnsigned, entryHolds}
@@ -28,7 +26,7 @@ use Rattle.map_check.specs.Contents.{contentsFull}
 use Rattle.map_check.specs.Fields.{fieldsAt, keepFields}
 use Rattle.map_check.specs.Keys.{keysHold}
 use Rattle.map_check.specs.Profile.{factsOf, flagsOf, entryFor, entriesFrom}
-use Rattle.map_check.specs.Standing.{ClassHolds, Takes}
+use Rattle.map_check.specs.Standing.{ClassHolds}
 use Rattle.map_check.specs.Check.{fewEnough, entriesOf, checkEvent, Passes}
 use Rattle.map_check.proofs.Declares.{taken-turn, taken-all, declared-length}
 use Rattle.map_check.proofs.Accepts.{accepted-taken, accepted-numeric}

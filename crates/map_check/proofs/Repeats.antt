@@ -9,10 +9,8 @@ use borrow.Author.Tests.{eq-eqb, ne-eqb}
 use lib.ListN.{length, getD}
 use lib.Dec.{eqb}
 use Rattle.wire.specs.declared.refusal.Refusal.{Refusal}
-use Rattle.wire.specs.Outcome.{Outcome, ok, refused, refuse, after}
-use Rattle.wire.specs.Packed.{readPacked}
+use Rattle.wire.specs.Outcome.{Outcome, ok, refused, refuse}
 use Rattle.wire.proofs.Outcomes.{after-is-ok, ok-not-refused, same-ok}
-use Rattle.wire.proofs.Forms.{read-moves}
 use Rattle.table_map.specs.Lists.{Rule, Stepped, end, item, step, onward, walkSteps}
 use Rattle.table_map.proofs.Steps.{item-read}
 use Rattle.table_map.proofs.Items.{Moves}

@@ -1,9 +1,9 @@
 -- Document 01's worked event, and small maps that break one rule each, computed on the definitions. Assumes nothing.
 use Prim.Native.Nat.{ℕ}
 use mathlib.Core.Path.{_≡_, refl}
-use mathlib.Core.List.{List, [], _∷_, _++_}
-use Rattle.wire.specs.Outcome.{Outcome, ok, refuse, after}
-use Rattle.value.specs.declared.column.Dialect.the-variants.{Document, Mysql, Mariadb}
+use mathlib.Core.List.{List, [], _∷_}
+use Rattle.wire.specs.Outcome.{ok, after}
+use Rattle.value.specs.declared.column.Dialect.the-variants.{Document}
 use Rattle.wire.specs.Number.{leValue, leBytes}
 use Rattle.wire.specs.Packed.{readPacked, formOf, longForm}
 use Rattle.wire.specs.Bits.{digit, bitLsb0, bitMsb0}

@@ -5,12 +5,11 @@ use mathlib.Core.Bool.{cond}
 use mathlib.Core.List.{List, []}
 use lib.ListN.{length}
 use lib.Dec.{eqb}
-use Rattle.wire.specs.Outcome.{Outcome, ok, refused, refuse, after}
+use Rattle.wire.specs.Outcome.{Outcome, ok, refused, refuse}
 use Rattle.value.specs.declared.column.Dialect.{Dialect}
 use Rattle.table_map.specs.declared.event.Event.{Event}
 use Rattle.table_map.specs.declared.event.Part.{Part}
 use Rattle.table_map.specs.Parts.{part, lentPart}
-use Rattle.table_map.specs.Events.{readEvent}
 use Rattle.table_map.specs.Lists.{Stepped, end, item, step, stringItem}
 use Rattle.map_check.specs.declared.rank.Place.{Place}
 use Rattle.map_check.specs.declared.field.Found.{Found}

@@ -17,7 +17,7 @@ place n = record { 0 = n }
 abbrev pub rank : ℕ → Rank
 rank n = record { 0 = n }
 
--- a rank with no column, and the next rank of a class after a column, which may be of the class
+-- the next rank of a class after a column, which may be of the class
 abbrev pub passed : Rank → Bool → Rank
 passed r member = rank (r .0 + cond member 1 0)
 

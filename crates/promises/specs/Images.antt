@@ -1,7 +1,7 @@
 -- Demand 3. Under a valid record and presence bits of its length, every image is walked to its end or refused exactly where its split says; and every row in the domains is read back from the
 -- image that the writer makes of it. The record that the check writes of an accepted map is valid, in every dialect, so all this holds under it. Assumes nothing.
 use Prim.Native.Nat.{ℕ, _≤_, _<_}
-use mathlib.Core.Path.{_≡_, sym, subst}
+use mathlib.Core.Path.{_≡_}
 use mathlib.Core.Bool.{true}
 use mathlib.Core.List.{List}
 use lib.ListN.{length, take}
