@@ -6,7 +6,7 @@ use lib.ListN.{take, drop}
 use Rattle.value.specs.declared.datum.Value.{Value}
 use Rattle.value.specs.Storing.{startOf, lenOf, isLent}
 
--- "empty for a value that is not bytes, for a NULL, and where a made-up start and length run past the image"
+-- empty for a value that is not bytes, for a NULL, and where a made-up start and length run past the image
 unfoldable pub valueBytes : List ℕ → Value → List ℕ
 unfolding startOf lenOf isLent
 valueBytes im v = cond (isLent im v) (take (lenOf v) (drop (startOf v) im)) []
