@@ -34,42 +34,6 @@ fit-listed (t ∷ ts) (p ∷ ps) h = ap (λ (l : List ℕ). p ∷ l) (fit-listed
 abbrev Given : ℕ → Type 0
 Given k = (ps : List ℕ) → fit (topsOf k) ps ≡ true → (kindOf (made k ps) ≡ k) × (partsOf (made k ps) ≡ take (length (topsOf k)) ps)
 
-given-null : Given 1
-unfolding kindOf partsOf made topsOf
-given-null ps h = (refl, sym (fit-listed (topsOf 1) ps h))
-
-given-uint : Given 3
-unfolding kindOf partsOf made topsOf
-given-uint ps h = (refl, sym (fit-listed (topsOf 3) ps h))
-
-given-float : Given 4
-unfolding kindOf partsOf made topsOf
-given-float ps h = (refl, sym (fit-listed (topsOf 4) ps h))
-
-given-double : Given 5
-unfolding kindOf partsOf made topsOf
-given-double ps h = (refl, sym (fit-listed (topsOf 5) ps h))
-
-given-stamp : Given 6
-unfolding kindOf partsOf made topsOf
-given-stamp ps h = (refl, sym (fit-listed (topsOf 6) ps h))
-
-given-year : Given 7
-unfolding kindOf partsOf made topsOf
-given-year ps h = (refl, sym (fit-listed (topsOf 7) ps h))
-
-given-date : Given 8
-unfolding kindOf partsOf made topsOf
-given-date ps h = (refl, sym (fit-listed (topsOf 8) ps h))
-
-given-moment : Given 9
-unfolding kindOf partsOf made topsOf
-given-moment ps h = (refl, sym (fit-listed (topsOf 9) ps h))
-
-given-bytes : Given 11
-unfolding kindOf partsOf made topsOf
-given-bytes ps h = (refl, sym (fit-listed (topsOf 11) ps h))
-
 given-int : Given 2
 unfolding kindOf partsOf made topsOf
 given-int ps h =
@@ -90,19 +54,20 @@ given-time ps h =
 
 -- ---- all kinds
 given : (k : ℕ) → 1 ≤ k → k ≤ 11 → Given k
-given zero a b = absurd (omega arith)
-given (suc zero) a b = given-null
-given (suc (suc zero)) a b = given-int
-given (suc (suc (suc zero))) a b = given-uint
-given (suc (suc (suc (suc zero)))) a b = given-float
-given (suc (suc (suc (suc (suc zero))))) a b = given-double
-given (suc (suc (suc (suc (suc (suc zero)))))) a b = given-stamp
-given (suc (suc (suc (suc (suc (suc (suc zero))))))) a b = given-year
-given (suc (suc (suc (suc (suc (suc (suc (suc zero)))))))) a b = given-date
-given (suc (suc (suc (suc (suc (suc (suc (suc (suc zero))))))))) a b = given-moment
-given (suc (suc (suc (suc (suc (suc (suc (suc (suc (suc zero)))))))))) a b = given-time
-given (suc (suc (suc (suc (suc (suc (suc (suc (suc (suc (suc zero))))))))))) a b = given-bytes
-given (suc (suc (suc (suc (suc (suc (suc (suc (suc (suc (suc (suc n)))))))))))) a b = absurd (omega arith)
+unfolding kindOf partsOf made topsOf
+given zero a b ps h = absurd (omega arith)
+given (suc zero) a b ps h = (refl, sym (fit-listed (topsOf 1) ps h))
+given (suc (suc zero)) a b ps h = given-int ps h
+given (suc (suc (suc zero))) a b ps h = (refl, sym (fit-listed (topsOf 3) ps h))
+given (suc (suc (suc (suc zero)))) a b ps h = (refl, sym (fit-listed (topsOf 4) ps h))
+given (suc (suc (suc (suc (suc zero))))) a b ps h = (refl, sym (fit-listed (topsOf 5) ps h))
+given (suc (suc (suc (suc (suc (suc zero)))))) a b ps h = (refl, sym (fit-listed (topsOf 6) ps h))
+given (suc (suc (suc (suc (suc (suc (suc zero))))))) a b ps h = (refl, sym (fit-listed (topsOf 7) ps h))
+given (suc (suc (suc (suc (suc (suc (suc (suc zero)))))))) a b ps h = (refl, sym (fit-listed (topsOf 8) ps h))
+given (suc (suc (suc (suc (suc (suc (suc (suc (suc zero))))))))) a b ps h = (refl, sym (fit-listed (topsOf 9) ps h))
+given (suc (suc (suc (suc (suc (suc (suc (suc (suc (suc zero)))))))))) a b ps h = given-time ps h
+given (suc (suc (suc (suc (suc (suc (suc (suc (suc (suc (suc zero))))))))))) a b ps h = (refl, sym (fit-listed (topsOf 11) ps h))
+given (suc (suc (suc (suc (suc (suc (suc (suc (suc (suc (suc (suc n)))))))))))) a b ps h = absurd (omega arith)
 
 pub parts-back : (kind : ℕ) (ps : List ℕ) (v : Value) → valueOf kind ps ≡ ok v → (kindOf v ≡ kind) × (partsOf v ≡ take (length (topsOf kind)) ps)
 unfolding valueOf isTaken
