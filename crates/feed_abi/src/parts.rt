@@ -252,6 +252,7 @@ fn time_of(parts: &[u64]) -> Time
     }
 }
 
+// The value of a kind and of parts that were judged.
 fn make_value(kind: u64, parts: &[u64]) -> Value
     requires { ⌜ isTaken kind (now parts) ≡ true ⌝ }
     ensures { λ r. ⌜ r ≡ made kind (now (parts .entry)) ⌝ }
