@@ -253,10 +253,11 @@ def lists(rng, folder):
 
 # ---- maps and images
 def check(rng, folder):
-    for m in captured_maps(folder, ("mysql",)):
-        yield "check-as mysql 8 %s 1536" % word(m)
-        for _ in range(120):
-            yield "check-as mysql 8 %s 1536" % word(damaged(rng, m))
+    for server in SERVERS:
+        for m in captured_maps(folder, (server,)):
+            yield "check-as %s 8 %s 1536" % (server, word(m))
+            for _ in range(100):
+                yield "check-as %s 8 %s 1536" % (server, word(damaged(rng, m)))
 
 
 def image(folder):
@@ -270,7 +271,7 @@ HEX = "(?:-|(?:[0-9a-f]{2})+)"
 NUMBER = "[0-9]{1,18}"
 BYTE = "(?:[0-9]|[1-9][0-9]|1[0-9][0-9]|2[0-4][0-9]|25[0-5])"
 ASKED = re.compile("|".join(("packed %s %s" % (HEX, NUMBER), "pack %s [0-9]{1,5}" % NUMBER, "value %s %s %s [01] %s" % (BYTE, BYTE, BYTE, HEX), "event %s %s" % (BYTE, HEX),
-                             "fields-as mysql %s %s" % (HEX, HEX), "list (?:integers|pairs|charsets|strings|groups) %s" % HEX, "check-as mysql %s %s [0-9]{1,5}" % (BYTE, HEX))))
+                             "fields-as mysql %s %s" % (HEX, HEX), "list (?:integers|pairs|charsets|strings|groups) %s" % HEX, "check-as (?:mysql|mariadb) %s %s [0-9]{1,5}" % (BYTE, HEX))))
 
 
 def has_metadata_of_none(words):

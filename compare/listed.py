@@ -331,15 +331,27 @@ def is_hostile(s, ours):
     return fault_of(ours) is not None and packed_at(s, at)[0] > len(s) - at
 
 
+def judge_stopped(s, ours):
+    """where the Rust panics or its process dies: at a count that is hostile, or behind a 251 or 255 that it took for 0"""
+    fault = fault_of(ours)
+    if fault and fault[0] == 2 and s[fault[1]] in NOT_PACKED:
+        return "5c first byte 251 or 255 in an event"
+    return "5d a hostile count of strings" if is_hostile(s, ours) else None
+
+
 def judge_list(words, ours, rust):
     s = unhex(words[2])
     if rust == ABORT or PANIC in rust.split(" | "):
-        return "5d a hostile count of strings" if words[1] == "groups" and is_hostile(s, ours) else None
+        return judge_stopped(s, ours) if words[1] == "groups" else None
     hows = [judge_list_of(kind, s, ours, told) for kind, told in zip(LIST_FIELDS[words[1]], rust.split(" | "))]
     if None in hows:
         return None
     listed = sorted(set(hows) - {EQUAL, BOTH_REFUSE})
     return listed[0] if listed else hows[0]
+
+
+# the type to which a server gives a charset and the Rust does not
+COUNTED_TOO = {"mysql": (242, "1c charsets with a VECTOR column"), "mariadb": (255, "1d charsets with a geometry column")}
 
 
 def judge_check(words, ours, rust):
@@ -348,10 +360,11 @@ def judge_check(words, ours, rust):
     if ours == rust:
         return EQUAL
     mine, theirs = unhex(ours.split(" ")[1]), unhex(rust.split(" ")[-1]) if rust.startswith("ok ") else b""
-    if len(mine) != len(theirs) or 242 not in mine[6::6]:
+    counted, entry = COUNTED_TOO[words[1]]
+    if len(mine) != len(theirs) or counted not in mine[6::6]:
         return None
     other = [i for i in range(len(mine)) if mine[i] != theirs[i] and i % 6 not in (4, 5)]
-    return "1c charsets with a VECTOR column" if not other else None
+    return entry if not other else None
 
 
 def value_entry(kind, m0, one, other):
