@@ -6,10 +6,11 @@ pub data Outcome (A : Type 0) : Type 0 where
   ok : A → Outcome A
   refused : Refusal → Outcome A
 
+-- refusal `number` at `place`
 abbrev pub why : ℕ → ℕ → Refusal
 why number place = record { number = number; place = place }
 
--- "refusal `number` at `place`"
+-- the answer that is that refusal
 abbrev pub refuse : {A : Type 0} → ℕ → ℕ → Outcome A
 refuse number place = refused (why number place)
 

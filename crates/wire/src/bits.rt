@@ -45,6 +45,7 @@ pub fn write_bit_msb0(buf: &mut [u8], i: usize, on: bool) -> Written
     write_digit(buf, i / 8, 7 - i % 8, on)
 }
 
+// Digit j of a byte is the one that weighs 2 to the j, whichever order the bits are numbered in: both orders come down to digits.
 fn digit_at(s: &[u8], at: usize, j: usize) -> bool
     requires { ⌜ j < 8 ⌝ }
     ensures { λ r. ⌜ r ≡ digit (getD (now (s .entry)) at 0) j ⌝ }

@@ -10,6 +10,7 @@ ghost use lib.ListN.{length, take, drop};
 ghost use Rattle.wire.specs.Number.{leValue, beValue, leBytes, beBytes};
 ghost use Rattle.wire.specs.Stored.{store, stored, answerOf, leftOf, writtenOf};
 
+// A byte as a u64. By its contract those who call it know that the number is the same.
 pub(crate) fn wide(x: u8) -> u64
     ensures { λ r. ⌜ r ≡ x ⌝ }
 {
@@ -48,6 +49,7 @@ pub fn read_be(s: &[u8], at: usize, k: usize) -> u64
     be(s, at, there(s, at, k))
 }
 
+// The same as read_le, for those who know that all k bytes are there. It goes down from the most significant byte.
 pub(crate) fn le(s: &[u8], at: usize, k: usize) -> u64
     requires { ⌜ (k ≤ 8) × (k ≤ length (now s) - at) ⌝ }
     ensures { λ r. ⌜ (r ≡ leValue (take k (drop at (now (s .entry))))) × (r < 256 ^ k) ⌝ }
@@ -61,6 +63,7 @@ pub(crate) fn le(s: &[u8], at: usize, k: usize) -> u64
     acc
 }
 
+// The same as read_be, for those who know that all k bytes are there.
 fn be(s: &[u8], at: usize, k: usize) -> u64
     requires { ⌜ (k ≤ 8) × (k ≤ length (now s) - at) ⌝ }
     ensures { λ r. ⌜ (r ≡ beValue (take k (drop at (now (s .entry))))) × (r < 256 ^ k) ⌝ }
@@ -102,6 +105,7 @@ pub fn write_be(buf: &mut [u8], at: usize, k: usize, v: u64) -> Written
     Written::Refused(refuse(NO_ROOM, 0))
 }
 
+// The same as write_le, for those who know that there is room.
 pub(crate) fn put_le(buf: &mut [u8], at: usize, k: usize, v: u64)
     requires { ⌜ at + k ≤ length (now buf) ⌝ }
     ensures { λ _. ⌜ now (buf .exit) ≡ stored (now (buf .entry)) at (leBytes k v) ⌝ }
@@ -115,6 +119,7 @@ pub(crate) fn put_le(buf: &mut [u8], at: usize, k: usize, v: u64)
     }
 }
 
+// The same as write_be, for those who know that there is room. It goes down from the least significant byte.
 fn put_be(buf: &mut [u8], at: usize, k: usize, v: u64)
     requires { ⌜ at + k ≤ length (now buf) ⌝ }
     ensures { λ _. ⌜ now (buf .exit) ≡ stored (now (buf .entry)) at (beBytes k v) ⌝ }

@@ -50,6 +50,7 @@ pub fn read_packed(s: &[u8], at: usize) -> Packed
     Packed::Refused(refuse(NOT_PACKED, at))
 }
 
+// A form whose value is in the k bytes behind its first, which is at `at`.
 fn read_long(s: &[u8], at: usize, k: usize) -> Packed
     requires { ⌜ (k ≤ 8) × (at < length (now s)) ⌝ }
     ensures { λ r. ⌜ packedOf r ≡ longForm (now (s .entry)) at k ⌝ }

@@ -21,10 +21,7 @@ pub fn has_room(len: usize, at: usize, n: usize) -> bool
     if len < at {
         return false;
     }
-    if len - at < n {
-        return false;
-    }
-    true
+    n <= len - at
 }
 
 // Writes all of bytes from at on.
@@ -40,6 +37,7 @@ pub fn write_bytes(buf: &mut [u8], at: usize, bytes: &[u8]) -> Written
     Written::Refused(refuse(NO_ROOM, 0))
 }
 
+// The same as write_bytes, for those who know that there is room.
 fn put_bytes(buf: &mut [u8], at: usize, bytes: &[u8])
     requires { ⌜ at + length (now bytes) ≤ length (now buf) ⌝ }
     ensures { λ _. ⌜ now (buf .exit) ≡ stored (now (buf .entry)) at (now (bytes .entry)) ⌝ }
