@@ -3,8 +3,9 @@ use Prim.Native.Nat.{ℕ, zero, suc, _+_, _*_, _/_, _%_, _^_, _≤_, _<_}
 use mathlib.Core.Path.{_≡_, refl, sym, ap, _∙_}
 use mathlib.Core.Bool.{Bool, true, false, cond}
 use mathlib.Core.List.{List, [], _∷_}
-use mathlib.Core.Logic.{_⊎_, inl, inr, ⊎-elim}
+use mathlib.Core.Logic.{dite}
 use native.Mathlib.Nat.{pow-suc, pow-le-pow-right, mul-comm, div-div-eq-div-mul, le-div-iff-mul-le, zero-lt-suc}
+use native.Mathlib.Decide.{ℕ-discrete}
 use native.Mathlib.Omega.{arith}
 use borrow.Author.Tests.{eqb-true, eqb-false}
 use lib.ListN.{length, getD}
@@ -22,13 +23,14 @@ half-digit x j =
     let e : x / 2 ^ suc j ≡ x / 2 / 2 ^ j = rw (pow-suc 2 j, mul-comm (2 ^ j) 2) (sym (div-div-eq-div-mul x 2 (2 ^ j))) in
     ap (λ (q : ℕ). eqb (q % 2) 1) e
 
+-- digit 0 is what is left over of halving
 low-digit : (x : ℕ) → digit x 0 ≡ eqb (x % 2) 1
 unfolding digit
 low-digit x =
     let e : x / 1 ≡ x = omega arith in
     ap (λ (q : ℕ). eqb (q % 2) 1) e
 
--- no number has a digit at 0
+-- zero has no digit that is 1
 pub digit-none : (j : ℕ) → digit 0 j ≡ false
 digit-none zero = low-digit 0
 digit-none (suc j) = half-digit 0 j ∙ digit-none j
@@ -119,13 +121,6 @@ digit-kept x (suc j) (suc k) on n =
     rw (half-with x j on (digit (x / 2) j) refl)
     (half-digit _ k ∙ rw h (digit-kept (x / 2) j k on (λ e. n (ap suc e))) ∙ sym (half-digit x k))
 
-same-or-not : (a b : ℕ) → (a ≡ b) ⊎ (a ≡ b → ⊥)
-same-or-not a b = go (eqb a b) refl
-  where
-    go : (t : Bool) → eqb a b ≡ t → (a ≡ b) ⊎ (a ≡ b → ⊥)
-    go true e = inl (eqb-true a b e)
-    go false e = inr (eqb-false a b e)
-
 -- ---- bits of a buffer, in either order: digit q of the byte p, after digit j of the byte `at` was written
 module _ (d : List ℕ) (at j : ℕ) (on : Bool) (h : at < length d) where
   abbrev written : List ℕ
@@ -137,8 +132,11 @@ module _ (d : List ℕ) (at j : ℕ) (on : Bool) (h : at < length d) where
   other-byte : (p : ℕ) → (p ≡ at → ⊥) → getD written p 0 ≡ getD d p 0
   other-byte p n = rw (← stored-one d at (withDigit (getD d at 0) j on)) (getD-set-other d at p (withDigit (getD d at 0) j on) 0 n)
 
-  kept-in-byte : (p q : ℕ) → p ≡ at → (q ≡ j → ⊥) → digit (getD written p 0) q ≡ digit (getD d p 0) q
-  kept-in-byte p q e n = rw (e, same-byte) (digit-kept (getD d at 0) j q on n)
+  kept : (p q : ℕ) → (p ≡ at → q ≡ j → ⊥) → digit (getD written p 0) q ≡ digit (getD d p 0) q
+  kept p q n =
+      dite (ℕ-discrete p at)
+      (λ e. rw (e, same-byte) (digit-kept (getD d at 0) j q on (n e)))
+      (λ e. rw (other-byte p e))
 
 -- the bit that a writer of bits wrote is read back, in either order
 pub lsb0-written : (d : List ℕ) (i : ℕ) (on : Bool) → i / 8 < length d → bitLsb0 (stored d (i / 8) (withDigit (getD d (i / 8) 0) (lsb0 i) on ∷ [])) i ≡ on
@@ -153,17 +151,9 @@ msb0-written d i on h = rw (same-byte d (i / 8) (msb0 i) on h) (digit-written (g
 -- and every other bit is what it was, in either order
 pub lsb0-kept : (d : List ℕ) (i k : ℕ) (on : Bool) → i / 8 < length d → (k ≡ i → ⊥) → bitLsb0 (stored d (i / 8) (withDigit (getD d (i / 8) 0) (lsb0 i) on ∷ [])) k ≡ bitLsb0 d k
 unfolding bitLsb0
-lsb0-kept d i k on h n =
-    ⊎-elim
-    (λ (e : k / 8 ≡ i / 8). kept-in-byte d (i / 8) (lsb0 i) on h (k / 8) (lsb0 k) e (λ f. n (omega arith)))
-    (λ (e : k / 8 ≡ i / 8 → ⊥). rw (other-byte d (i / 8) (lsb0 i) on h (k / 8) e))
-    (same-or-not (k / 8) (i / 8))
+lsb0-kept d i k on h n = kept d (i / 8) (lsb0 i) on h (k / 8) (lsb0 k) (λ e f. n (omega arith))
 
 -- the highest first
 pub msb0-kept : (d : List ℕ) (i k : ℕ) (on : Bool) → i / 8 < length d → (k ≡ i → ⊥) → bitMsb0 (stored d (i / 8) (withDigit (getD d (i / 8) 0) (msb0 i) on ∷ [])) k ≡ bitMsb0 d k
 unfolding bitMsb0
-msb0-kept d i k on h n =
-    ⊎-elim
-    (λ (e : k / 8 ≡ i / 8). kept-in-byte d (i / 8) (msb0 i) on h (k / 8) (msb0 k) e (λ f. n (omega arith)))
-    (λ (e : k / 8 ≡ i / 8 → ⊥). rw (other-byte d (i / 8) (msb0 i) on h (k / 8) e))
-    (same-or-not (k / 8) (i / 8))
+msb0-kept d i k on h n = kept d (i / 8) (msb0 i) on h (k / 8) (msb0 k) (λ e f. n (omega arith))

@@ -26,16 +26,12 @@ pub data Tag : ℕ → ℕ → ℕ → Type 0 where
   three : Tag 253 3 65536
   eight : Tag 254 8 16777216
 
-tag-least : {first k least : ℕ} → Tag first k least → 2 ≤ k
-tag-least two = omega arith
-tag-least three = omega arith
-tag-least eight = omega arith
+tag-width : {first k least : ℕ} → Tag first k least → (2 ≤ k) × (k ≤ 8)
+tag-width two = (omega arith, omega arith)
+tag-width three = (omega arith, omega arith)
+tag-width eight = (omega arith, omega arith)
 
-tag-most : {first k least : ℕ} → Tag first k least → k ≤ 8
-tag-most two = omega arith
-tag-most three = omega arith
-tag-most eight = omega arith
-
+-- the width tells the first byte
 same-first : {f k l f′ k′ l′ : ℕ} → Tag f k l → Tag f′ k′ l′ → k′ ≡ k → f′ ≡ f
 same-first two two e = refl
 same-first two three e = absurd (omega arith)
@@ -82,10 +78,11 @@ shortest v =
     let m : 16777216 ≤ v = omega arith in
     rw (lt-leb v 250 h, le-ltb v 65536 l, le-ltb v 16777216 m) (behind 254 8 16777216 eight m (λ n. n)))))
 
-length-one : (v : ℕ) → v ≤ 250 → packedBytes v ≡ v ∷ []
+one-byte : (v : ℕ) → v ≤ 250 → packedBytes v ≡ v ∷ []
 unfolding packedBytes
-length-one v h = rw (le-leb v 250 h)
+one-byte v h = rw (le-leb v 250 h)
 
+-- a value of k bytes is written in no more than the form of k bytes, and in that form where it is as long
 length-bound : {first k least : ℕ} (v : ℕ) → Tag first k least → v < 256 ^ k → length (packedBytes v) ≤ 1 + k
 length-bound {first} {k} {least} v t h = go (shortest v)
   where
@@ -97,7 +94,7 @@ of-length : {first k least : ℕ} (v : ℕ) → Tag first k least → length (pa
 of-length {first} {k} {least} v t n = go (shortest v) n
   where
     go : {bs : List ℕ} → Shortest v bs → length bs ≡ 1 + k → bs ≡ first ∷ leBytes k v
-    go (itself b) e = absurd (omega (arith, tag-least t))
+    go (itself b) e = absurd (omega (arith, tag-width t .0))
     go (behind f′ k′ l′ t′ g m) e =
         let d : k′ ≡ k = omega (arith, leBytes-length k′ v) in
         rw (d, same-first t t′ d)
@@ -152,14 +149,14 @@ read-fits s at v next h e = go (read-form s at v next e)
   where
     go : {v next : ℕ} → Form s at v next → v < 2 ^ 64
     go (itself l b) = omega arith
-    go (behind first k least t b l) = wider k 8 _ (tag-most t) (part-bound s (at + 1) k h l)
+    go (behind first k least t b l) = wider k 8 _ (tag-width t .1) (part-bound s (at + 1) k h l)
 
 -- the shortest form is shortest: no form that is read has fewer bytes than the one that is written for its value
 pub read-shortest : (s : List ℕ) (at v next : ℕ) → Bytes s → readPacked s at ≡ ok (v, next) → at + length (packedBytes v) ≤ next
 read-shortest s at v next h e = go (read-form s at v next e)
   where
     go : {v next : ℕ} → Form s at v next → at + length (packedBytes v) ≤ next
-    go (itself l b) = rw (length-one (getD s at 0) b) (omega arith)
+    go (itself l b) = rw (one-byte (getD s at 0) b) (omega arith)
     go (behind first k least t b l) = omega (arith, length-bound (leValue (take k (drop (at + 1) s))) t (part-bound s (at + 1) k h l))
 
 -- and it is the only one of its length: what was read in as many bytes is what is written
@@ -170,7 +167,7 @@ read-only s at v next h e = go (read-form s at v next e)
     go : {v next : ℕ} → Form s at v next → next ≡ at + length (packedBytes v) → take (next - at) (drop at s) ≡ packedBytes v
     go (itself l b) n =
         let o : at + 1 - at ≡ 1 = omega arith in
-        rw (o, length-one (getD s at 0) b, drop-cons s at 0)
+        rw (o, one-byte (getD s at 0) b, drop-cons s at 0)
     go (behind first k least t b l) n =
         let v = leValue (take k (drop (at + 1) s)) in
         let o : at + 1 + k - at ≡ suc k = omega arith in
