@@ -22,7 +22,9 @@ weight-requires : tie.Need-weight-requires
 weight-requires c κs = search needs
 
 sub-result : tie.Need-sub-result
-sub-result c = let l = digit-least (c .before .before .before .before .args .x) (c .before .before .before .before .args .j) (sym (c .before .before .before .digit-of .ensures) ∙ c .before .before .if1 .taken) in omega (arith, c .weight .ensures)
+sub-result c = let a = c .before .before .before .before .args in
+    let l = digit-least (a .x) (a .j) (sym (c .before .before .before .digit-of .ensures) ∙ c .before .before .if1 .taken) in
+    omega (arith, c .weight .ensures)
 
 returns-2 : tie.Need-returns-2
 unfolding withDigit
@@ -32,7 +34,9 @@ weight-requires-2 : tie.Need-weight-requires-2
 weight-requires-2 c κs = search needs
 
 add-result : tie.Need-add-result
-add-result c = let r = digit-room 8 (c .before .before .before .before .args .x) (c .before .before .before .before .args .j) (omega arith) (omega arith) (sym (c .before .before .before .digit-of .ensures) ∙ c .before .before .if1 .left) in omega (arith, c .weight2 .ensures)
+add-result c = let a = c .before .before .before .before .args in
+    let r = digit-room 8 (a .x) (a .j) (omega arith) (omega arith) (sym (c .before .before .before .digit-of .ensures) ∙ c .before .before .if1 .left) in
+    omega (arith, c .weight2 .ensures)
 
 returns-3 : tie.Need-returns-3
 unfolding withDigit

@@ -26,7 +26,9 @@ put-be-requires : tie.Need-put-be-requires
 put-be-requires c κs = room _ _ _ _ (c .before .before .has-room .ensures) (c .before .if1 .taken)
 
 add-next : tie.Need-add-next
-add-next c = let r : c .before .before .before .before .before .before .before .before .args .at + c .before .before .before .before .before .before .least .result ≤ length (c .before .before .before .before .before .before .before .before .args .buf .now) = room _ _ _ _ (c .before .before .before .before .before .has-room .ensures) (c .before .before .before .before .if1 .taken) in omega arith
+add-next c = let a = c .before .before .before .before .before .before .before .before .args in
+    let r : a .at + c .before .before .before .before .before .before .least .result ≤ length (a .buf .now) = room _ _ _ _ (c .before .before .before .before .before .has-room .ensures) (c .before .before .before .before .if1 .taken) in
+    omega arith
 
 same-length : tie.Need-same-length
 same-length c = search needs

@@ -23,23 +23,31 @@ has-room-requires : tie.Need-has-room-requires
 has-room-requires c κs = search needs
 
 slice-write-buf : tie.Need-slice-write-buf
-slice-write-buf c = let r : c .before .before .before .args .at + (c .before .before .before .args .k + 1) ≤ length (c .before .before .before .args .buf .now) = room _ _ _ _ (c .before .has-room .ensures) (c .if1 .taken) in omega arith
+slice-write-buf c = let a = c .before .before .before .args in
+    let r : a .at + (a .k + 1) ≤ length (a .buf .now) = room _ _ _ _ (c .before .has-room .ensures) (c .if1 .taken) in
+    omega arith
 
 add-body : tie.Need-add-body
-add-body c = let r : c .before .before .before .args .at + (c .before .before .before .args .k + 1) ≤ length (c .before .before .before .args .buf .now) = room _ _ _ _ (c .before .has-room .ensures) (c .if1 .taken) in omega arith
+add-body c = let a = c .before .before .before .args in
+    let r : a .at + (a .k + 1) ≤ length (a .buf .now) = room _ _ _ _ (c .before .has-room .ensures) (c .if1 .taken) in
+    omega arith
 
 put-le-requires : tie.Need-put-le-requires
-put-le-requires c κs = let r : c .before .before .before .before .args .at + (c .before .before .before .before .args .k + 1) ≤ length (c .before .before .before .before .args .buf .now) = room _ _ _ _ (c .before .before .has-room .ensures) (c .before .if1 .taken) in simp length-set (omega arith)
+put-le-requires c κs = let a = c .before .before .before .before .args in
+    let r : a .at + (a .k + 1) ≤ length (a .buf .now) = room _ _ _ _ (c .before .before .has-room .ensures) (c .before .if1 .taken) in
+    simp length-set (omega arith)
 
 add-next : tie.Need-add-next
-add-next c = let r : c .before .before .before .before .before .before .before .args .at + (c .before .before .before .before .before .before .before .args .k + 1) ≤ length (c .before .before .before .before .before .before .before .args .buf .now) = room _ _ _ _ (c .before .before .before .before .before .has-room .ensures) (c .before .before .before .before .if1 .taken) in omega arith
+add-next c = let a = c .before .before .before .before .before .before .before .args in
+    let r : a .at + (a .k + 1) ≤ length (a .buf .now) = room _ _ _ _ (c .before .before .before .before .before .has-room .ensures) (c .before .before .before .before .if1 .taken) in
+    omega arith
 
 same-length : tie.Need-same-length
 same-length c = c .before .before .put-le .kept .0 ∙ simp length-set
 
 returns : tie.Need-returns
 returns c = let a = c .before .before .before .before .before .before .before .args in
-    let r : c .before .before .before .before .before .before .before .args .at + (c .before .before .before .before .before .before .before .args .k + 1) ≤ length (c .before .before .before .before .before .before .before .args .buf .now) = room _ _ _ _ (c .before .before .before .before .before .has-room .ensures) (c .before .before .before .before .if1 .taken) in
+    let r : a .at + (a .k + 1) ≤ length (a .buf .now) = room _ _ _ _ (c .before .before .before .before .before .has-room .ensures) (c .before .before .before .before .if1 .taken) in
     wrote (a .buf .now) (a .first ∷ leBytes (a .k) (a .v)) _ (a .at) (a .k + 1) _ (rw leBytes-length (omega arith)) (omega arith) (omega arith)
     (c .before .before .put-le .ensures ∙ stored-first (a .buf .now) (a .at) (a .first) (leBytes (a .k) (a .v)) (omega (arith, leBytes-length (a .k) (a .v))))
 
