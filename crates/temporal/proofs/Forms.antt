@@ -16,12 +16,12 @@ use Rattle.wire.specs.Number.{Bytes, leValue, beValue, leBytes, beBytes}
 use Rattle.wire.specs.Stored.{store, stored}
 use Rattle.wire.proofs.Outcomes.{by-test, test-is-ok, test-refuses, ok-not-refused, same-refused}
 use Rattle.wire.proofs.Bytes.{leBytes-length, beBytes-length}
-use Rattle.wire.proofs.Inverse.{le-back, be-back, le-sound, be-sound, le-bound, be-bound, bytes-take, bytes-drop, bytes-append, leBytes-bytes, beBytes-bytes}
+use Rattle.wire.proofs.Inverse.{le-back, be-back, le-sound, be-sound, le-bound, be-bound, bytes-take, bytes-drop}
 use Rattle.wire.proofs.Stores.{store-fits, store-full}
 use Rattle.temporal.specs.declared.kind.Kind.{Kind}
 use Rattle.temporal.specs.declared.kind.Kind.the-variants.{Timestamp, OldTime, OldDatetime, Newdate, Timestamp2, Datetime2, Time2}
 use Rattle.temporal.specs.declared.parts.Temporal.{Temporal}
-use Rattle.temporal.specs.Kinds.{wholeBytes, fractionOf, isBig, wholeOf, unitsOf}
+use Rattle.temporal.specs.Kinds.{wholeBytes, fractionSize, isBig, wholeOf, unitsOf}
 use Rattle.temporal.specs.Domains.{domain}
 use Rattle.temporal.specs.Reading.{sizeOf, wholeIn, unitsIn, fault, decode, bytesOf, readTemporal, writeTemporal}
 use Rattle.temporal.proofs.Units.{fraction-small}
@@ -41,7 +41,7 @@ size-least (Time2 m0) = omega arith
 
 -- at most eight
 pub size-most : (k : Kind) → sizeOf k ≤ 8
-unfolding sizeOf wholeBytes fractionOf
+unfolding sizeOf wholeBytes fractionSize
 size-most Timestamp = omega arith
 size-most OldTime = omega arith
 size-most OldDatetime = omega arith
@@ -55,36 +55,24 @@ module _ (k : Kind) where
   -- every stored form of a kind has the kind's size
   sized-by : (b : Bool) → isBig k ≡ b → (t : Temporal) → length (bytesOf k t) ≡ sizeOf k
   unfolding bytesOf sizeOf
-  sized-by true e t = rw (e, length-append, beBytes-length (wholeBytes k) (wholeOf k t), beBytes-length (fractionOf k) (unitsOf k t))
+  sized-by true e t = rw (e, length-append, beBytes-length (wholeBytes k) (wholeOf k t), beBytes-length (fractionSize k) (unitsOf k t))
   sized-by false e t = rw (e, leBytes-length (wholeBytes k) (wholeOf k t), little-whole k e, add-zero (wholeBytes k))
 
   -- of every temporal
   pub sized : (t : Temporal) → length (bytesOf k t) ≡ sizeOf k
   sized = sized-by (isBig k) refl
 
-  -- and is bytes
-  form-bytes-by : (b : Bool) → isBig k ≡ b → (t : Temporal) → Bytes (bytesOf k t)
-  unfolding bytesOf
-  form-bytes-by true e t =
-      rw e
-      (bytes-append (beBytes (wholeBytes k) (wholeOf k t)) (beBytes (fractionOf k) (unitsOf k t)) (beBytes-bytes (wholeBytes k) (wholeOf k t)) (beBytes-bytes (fractionOf k) (unitsOf k t)))
-  form-bytes-by false e t = rw e (leBytes-bytes (wholeBytes k) (wholeOf k t))
-
-  -- of every temporal
-  pub form-bytes : (t : Temporal) → Bytes (bytesOf k t)
-  form-bytes = form-bytes-by (isBig k) refl
-
   -- the two numbers of a stored form are those that were stored
-  numbers-by : (b : Bool) → isBig k ≡ b → (t : Temporal) → wholeOf k t < 256 ^ wholeBytes k → unitsOf k t < 256 ^ fractionOf k
+  numbers-by : (b : Bool) → isBig k ≡ b → (t : Temporal) → wholeOf k t < 256 ^ wholeBytes k → unitsOf k t < 256 ^ fractionSize k
       → (wholeIn k (bytesOf k t) ≡ wholeOf k t) × (unitsIn k (bytesOf k t) ≡ unitsOf k t)
   unfolding bytesOf wholeIn unitsIn
   numbers-by true e t g h =
       let x = beBytes (wholeBytes k) (wholeOf k t) in
-      let y = beBytes (fractionOf k) (unitsOf k t) in
+      let y = beBytes (fractionSize k) (unitsOf k t) in
       let n = beBytes-length (wholeBytes k) (wholeOf k t) in
       rw e (
         ap beValue (take-at x y (wholeBytes k) n) ∙ be-back (wholeBytes k) (wholeOf k t) g,
-        ap beValue (drop-at x y (wholeBytes k) n) ∙ be-back (fractionOf k) (unitsOf k t) h,
+        ap beValue (drop-at x y (wholeBytes k) n) ∙ be-back (fractionSize k) (unitsOf k t) h,
       )
   numbers-by false e t g h =
       let z : unitsOf k t < 256 ^ 0 = rw (little-whole k e) at h in
@@ -105,14 +93,14 @@ module _ (k : Kind) where
   -- the numbers of a form's bytes are of so many bytes, and their bytes are these
   record Numbers (b : List ℕ) : Type 0 where
     whole : wholeIn k b < 256 ^ wholeBytes k
-    units : unitsIn k b < 256 ^ fractionOf k
+    units : unitsIn k b < 256 ^ fractionSize k
     again : (t : Temporal) → wholeOf k t ≡ wholeIn k b → unitsOf k t ≡ unitsIn k b → bytesOf k t ≡ b
 
   numbers-of : (big : Bool) → isBig k ≡ big → (b : List ℕ) → length b ≡ sizeOf k → Bytes b → Numbers b
   unfolding bytesOf wholeIn unitsIn sizeOf
   numbers-of true e b n h =
       let m = wholeBytes k in
-      let w = fractionOf k in
+      let w = fractionSize k in
       let n₁ : length (take m b) ≡ m = length-take-le m b (omega arith) in
       let n₂ : length (drop m b) ≡ w = length-drop m b ∙ omega arith in
       let b₁ = bytes-take m b h in

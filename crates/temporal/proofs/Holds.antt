@@ -1,7 +1,7 @@
 -- What the domains say. Assumes nothing.
 use Prim.Native.Nat.{ℕ, _+_, _%_, _≤_, _<_}
 use mathlib.Core.Path.{_≡_, refl, sym}
-use mathlib.Core.Bool.{Bool, true, false, not, _&&_}
+use mathlib.Core.Bool.{Bool, true, false, not, _&&_, false≢true}
 use native.Mathlib.Omega.{arith}
 use borrow.Author.Tests.{le-leb, leb-true, eq-eqb, ne-eqb, eqb-true, eqb-false}
 use lib.Dec.{eqb}
@@ -67,7 +67,7 @@ pub record HoldsTime (w : ℕ) (t : Time) : Type 0 where
 not-both : (a b : Bool) → not (a && b) ≡ true → a ≡ true → b ≡ false
 not-both true true e p = sym e
 not-both true false e p = refl
-not-both false b e p = let z : _≡_ {A = ℕ} 0 1 = cc in absurd (omega arith)
+not-both false b e p = absurd (false≢true p)
 
 not-zero : (b : Bool) (n : ℕ) → (b ≡ true → 0 < n) → not (b && eqb n 0) ≡ true
 not-zero true n h = let p = h refl in simp (ne-eqb n 0 (λ e. omega arith))

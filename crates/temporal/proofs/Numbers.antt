@@ -1,12 +1,11 @@
--- Each kind's two numbers, both ways: those of what it can hold say just that, and what two numbers say with no part out of range can be held, and
--- has
--- just these numbers. No bytes yet. Assumes nothing.
+-- Each kind's two stored numbers, both ways: those of a temporal that it can hold say that temporal again; and what two numbers say, with no part out
+-- of range, can be held and has just these numbers. No bytes yet. Assumes nothing.
 use Prim.Native.Nat.{ℕ, _+_, _-_, _*_, _/_, _%_, _^_, _≤_, _<_}
 use mathlib.Core.Path.{_≡_, refl, sym, ap, _∙_, subst}
 use mathlib.Core.Logic.{dite}
-use mathlib.Core.Bool.{Bool, true, false, not, _&&_}
+use mathlib.Core.Bool.{Bool, true, false, not, _&&_, false≢true}
 use native.Mathlib.Decide.{decLe}
-use native.Mathlib.Nat.{zero-mul, zero-mod}
+use native.Mathlib.Nat.{zero-mul, zero-mod, zero-div}
 use native.Mathlib.Omega.{arith}
 use borrow.Author.Tests.{le-leb, lt-leb, lt-ltb, le-ltb, eq-eqb, ne-eqb, not-true}
 use lib.Dec.{eqb}
@@ -19,11 +18,12 @@ use Rattle.temporal.specs.declared.parts.Temporal.{Temporal}
 use Rattle.temporal.specs.declared.parts.Temporal.the-variants.{Since, On, At, Lasts}
 use Rattle.temporal.specs.Fraction.{fractionBytes, unitOf}
 use Rattle.temporal.specs.Ranges.{clockFault}
-use Rattle.temporal.specs.Times.{timeBy, timeNumber, packedTime, time2Of, time2Whole, time2Fraction}
+use Rattle.temporal.specs.Times.{timeBy, timeNumber, timeFault, packedTime, time2Of, time2Whole, time2Fraction}
 use Rattle.temporal.specs.Moments.{momentBy, momentNumber, momentFault, packedDatetime, datetime2Of, datetime2Fault, datetimeOf, dateOf, dateNumber, dateFault, stampOf, stampFault}
-use Rattle.temporal.specs.Kinds.{wholeBytes, fractionOf, partsOf, faultOf, wholeOf, unitsOf, clockTimeFault, sort, stampIn, dateIn, momentIn, timeIn}
+use Rattle.temporal.specs.Kinds.{wholeBytes, fractionSize, partsOf, faultOf, wholeOf, unitsOf, sort, stampIn, dateIn, momentIn, timeIn}
 use Rattle.temporal.specs.Domains.{domain, stampDomain, dateDomain, momentDomain, timeDomain}
-use Rattle.temporal.proofs.Units.{fraction-small, unit-div, unit-mod, unit-whole, unit-fits, unit-some, unit-none, unit-zero}
+use Rattle.temporal.proofs.Units.{fraction-small, unit-div, unit-mod, unit-whole, unit-fits, unit-some, unit-zero}
+use Rattle.temporal.proofs.Sorts.{is-since, is-on, is-at, is-lasts}
 use Rattle.temporal.proofs.Ranges.{and-true, clock-clear, clock-none, day-clear, day-none, day-of, day-in}
 use Rattle.temporal.proofs.Radices.{Below, time-back, time-number, moment-back, moment-number}
 use Rattle.temporal.proofs.Holds.{HoldsStamp, HoldsMoment, HoldsTime, sum, stamp-of, stamp-in, moment-of, moment-in, time-of, time-in}
@@ -31,42 +31,10 @@ use Rattle.temporal.proofs.Holds.{HoldsStamp, HoldsMoment, HoldsTime, s
 -- what a kind's two numbers obey
 pub record NumberLaw (k : Kind) : Type 0 where
   pub back : (t : Temporal) → domain k t ≡ true
-      → (faultOf k (wholeOf k t) (unitsOf k t) ≡ 0) × (wholeOf k t < 256 ^ wholeBytes k) × (unitsOf k t < 256 ^ fractionOf k)
+      → (faultOf k (wholeOf k t) (unitsOf k t) ≡ 0) × (wholeOf k t < 256 ^ wholeBytes k) × (unitsOf k t < 256 ^ fractionSize k)
       × (partsOf k (wholeOf k t) (unitsOf k t) ≡ t)
-  pub sound : (a f : ℕ) → a < 256 ^ wholeBytes k → f < 256 ^ fractionOf k → faultOf k a f ≡ 0
+  pub sound : (a f : ℕ) → a < 256 ^ wholeBytes k → f < 256 ^ fractionSize k → faultOf k a f ≡ 0
       → (domain k (partsOf k a f) ≡ true) × (wholeOf k (partsOf k a f) ≡ a) × (unitsOf k (partsOf k a f) ≡ f)
-
--- ---- a temporal of the sort that was tested is one
-pub is-since : (t : Temporal) → eqb (sort t) 0 ≡ true → Since (stampIn t) ≡ t
-unfolding sort stampIn
-is-since (Since x) e = refl
-is-since (On x) e = let z : _≡_ {A = ℕ} 0 1 = cc in absurd (omega arith)
-is-since (At x) e = let z : _≡_ {A = ℕ} 0 1 = cc in absurd (omega arith)
-is-since (Lasts x) e = let z : _≡_ {A = ℕ} 0 1 = cc in absurd (omega arith)
-
--- a date
-pub is-on : (t : Temporal) → eqb (sort t) 1 ≡ true → On (dateIn t) ≡ t
-unfolding sort dateIn
-is-on (Since x) e = let z : _≡_ {A = ℕ} 0 1 = cc in absurd (omega arith)
-is-on (On x) e = refl
-is-on (At x) e = let z : _≡_ {A = ℕ} 0 1 = cc in absurd (omega arith)
-is-on (Lasts x) e = let z : _≡_ {A = ℕ} 0 1 = cc in absurd (omega arith)
-
--- a moment
-pub is-at : (t : Temporal) → eqb (sort t) 2 ≡ true → At (momentIn t) ≡ t
-unfolding sort momentIn
-is-at (Since x) e = let z : _≡_ {A = ℕ} 0 1 = cc in absurd (omega arith)
-is-at (On x) e = let z : _≡_ {A = ℕ} 0 1 = cc in absurd (omega arith)
-is-at (At x) e = refl
-is-at (Lasts x) e = let z : _≡_ {A = ℕ} 0 1 = cc in absurd (omega arith)
-
--- a time
-pub is-lasts : (t : Temporal) → eqb (sort t) 3 ≡ true → Lasts (timeIn t) ≡ t
-unfolding sort timeIn
-is-lasts (Since x) e = let z : _≡_ {A = ℕ} 0 1 = cc in absurd (omega arith)
-is-lasts (On x) e = let z : _≡_ {A = ℕ} 0 1 = cc in absurd (omega arith)
-is-lasts (At x) e = let z : _≡_ {A = ℕ} 0 1 = cc in absurd (omega arith)
-is-lasts (Lasts x) e = refl
 
 -- ---- seconds since 1970
 stamp-back : (w : ℕ) (t : Stamp) → HoldsStamp w t → stampOf w (t .seconds) (t .micros / unitOf w) ≡ t
@@ -83,7 +51,7 @@ stamp-sound w a f h z =
     stamp-in w (stampOf w a f) (record { seconds = omega arith; micros = c .micros; units = unit-mod w f })
 
 timestamp2-law : (m0 : ℕ) → NumberLaw (Timestamp2 m0)
-unfolding domain partsOf faultOf wholeOf unitsOf wholeBytes fractionOf sort stampIn
+unfolding domain partsOf faultOf wholeOf unitsOf wholeBytes fractionSize sort stampIn
 timestamp2-law m0 = record {
   back = λ t e.
       let w = fractionBytes m0 in
@@ -95,7 +63,7 @@ timestamp2-law m0 = record {
 }
 
 timestamp-law : NumberLaw Timestamp
-unfolding domain partsOf faultOf wholeOf unitsOf wholeBytes fractionOf sort stampIn stampOf
+unfolding domain partsOf faultOf wholeOf unitsOf wholeBytes fractionSize sort stampIn stampOf
 timestamp-law = record {
   back = λ t e.
       let a = and-true (eqb (sort t) 0) (stampDomain 0 (stampIn t)) e in
@@ -135,7 +103,7 @@ datetime2-back w m h =
     rw (x, unit-whole w (m .micros) (h .units)) (moment-back 64 32 32 13 m (below-64 m h))
 
 datetime2-law : (m0 : ℕ) → NumberLaw (Datetime2 m0)
-unfolding domain partsOf faultOf wholeOf unitsOf wholeBytes fractionOf sort momentIn datetime2Of datetime2Fault packedDatetime
+unfolding domain partsOf faultOf wholeOf unitsOf wholeBytes fractionSize sort momentIn datetime2Of datetime2Fault packedDatetime
 datetime2-law m0 = record {
   back = λ t e.
       let w = fractionBytes m0 in
@@ -163,7 +131,7 @@ datetime2-law m0 = record {
 }
 
 datetime-law : NumberLaw OldDatetime
-unfolding domain partsOf faultOf wholeOf unitsOf wholeBytes fractionOf sort momentIn datetimeOf
+unfolding domain partsOf faultOf wholeOf unitsOf wholeBytes fractionSize sort momentIn datetimeOf
 datetime-law = record {
   back = λ t e.
       let m = momentIn t in
@@ -180,7 +148,7 @@ datetime-law = record {
 
 -- ---- dates
 date-law : NumberLaw Newdate
-unfolding domain partsOf faultOf wholeOf unitsOf wholeBytes fractionOf sort dateIn dateOf dateDomain
+unfolding domain partsOf faultOf wholeOf unitsOf wholeBytes fractionSize sort dateIn dateOf dateDomain
 date-law = record {
   back = λ t e.
       let d = dateIn t in
@@ -196,14 +164,14 @@ date-law = record {
 }
 
 -- ---- times
-time-clear : (w : ℕ) (t : Time) → HoldsTime w t → clockTimeFault t ≡ 0
+time-clear : (w : ℕ) (t : Time) → HoldsTime w t → timeFault t ≡ 0
 time-clear w t h = clock-none (h .clock)
 
-time-sound : (w : ℕ) (t : Time) → clockTimeFault t ≡ 0 → t .micros % unitOf w ≡ 0 → (t .negative ≡ true → 0 < sum t) → timeDomain w t ≡ true
+time-sound : (w : ℕ) (t : Time) → timeFault t ≡ 0 → t .micros % unitOf w ≡ 0 → (t .negative ≡ true → 0 < sum t) → timeDomain w t ≡ true
 time-sound w t z u s = time-in w t (record { clock = clock-clear 838 (t .hours) (t .minutes) (t .seconds) (t .micros) z; units = u; signed = s })
 
 time-law : NumberLaw OldTime
-unfolding domain partsOf faultOf wholeOf unitsOf wholeBytes fractionOf sort timeIn timeBy
+unfolding domain partsOf faultOf wholeOf unitsOf wholeBytes fractionSize sort timeIn timeBy
 time-law = record {
   back = λ t e.
       let x = timeIn t in
@@ -214,8 +182,8 @@ time-law = record {
       let n = timeNumber 100 x in
       let z = unit-zero (x .micros) (c .micros) (h .units) in
       let p : timeBy 100 false n 0 ≡ x = rw (← not-true (x .negative) (b .0), ← z) (time-back 100 x (omega arith) (omega arith)) in
-      (ap clockTimeFault p ∙ time-clear 0 x h, omega arith, omega arith, ap Lasts p ∙ is-lasts t (a .0));
-  sound = λ a f k l z. (time-sound 0 (timeBy 100 false a 0) z (zero-mod (unitOf 0)) (λ q. let y : _≡_ {A = ℕ} 0 1 = cc in absurd (omega arith)), time-number 100 false a 0, omega arith);
+      (ap timeFault p ∙ time-clear 0 x h, omega arith, omega arith, ap Lasts p ∙ is-lasts t (a .0));
+  sound = λ a f k l z. (time-sound 0 (timeBy 100 false a 0) z (zero-mod (unitOf 0)) (λ q. absurd (false≢true q)), time-number 100 false a 0, omega arith);
 }
 
 abbrev units : ℕ → Time → ℕ
@@ -258,7 +226,7 @@ time2-back w h t d true p =
 abbrev Sound : ℕ → ℕ → ℕ → Time → Type 0
 Sound w a f t = (timeDomain w t ≡ true) × (time2Whole t (units w t) ≡ a) × (time2Fraction w (t .negative) (units w t) ≡ f)
 
-time2-sound : (w : ℕ) → w ≤ 3 → (a f : ℕ) → a < 256 ^ 3 → f < 256 ^ w → clockTimeFault (time2Of w a f) ≡ 0 → Sound w a f (time2Of w a f)
+time2-sound : (w : ℕ) → w ≤ 3 → (a f : ℕ) → a < 256 ^ 3 → f < 256 ^ w → timeFault (time2Of w a f) ≡ 0 → Sound w a f (time2Of w a f)
 unfolding time2Of packedTime time2Whole time2Fraction timeBy
 time2-sound w h a f k l z =
     dite (decLe 8388608 a)
@@ -266,9 +234,9 @@ time2-sound w h a f k l z =
     let n = a - 8388608 in
     let t = timeBy 64 false n (f * unitOf w) in
     let e : time2Of w a f ≡ t = rw (le-leb 8388608 a p) in
-    let z₁ : clockTimeFault t ≡ 0 = ap clockTimeFault (sym e) ∙ z in
+    let z₁ : timeFault t ≡ 0 = ap timeFault (sym e) ∙ z in
     subst (Sound w a f) (sym e) (
-      time-sound w t z₁ (unit-mod w f) (λ q. let y : _≡_ {A = ℕ} 0 1 = cc in absurd (omega arith)),
+      time-sound w t z₁ (unit-mod w f) (λ q. absurd (false≢true q)),
       ap (λ (m : ℕ). 8388608 + m) (time-number 64 false n (f * unitOf w)) ∙ omega arith,
       unit-div w f h,
     ))
@@ -277,22 +245,22 @@ time2-sound w h a f k l z =
     let n = 8388608 - a in
     let t = timeBy 64 true n 0 in
     let e : time2Of w a f ≡ t = rw (lt-leb 8388608 a (omega arith), eq-eqb f 0 (omega arith)) in
-    let z₁ : clockTimeFault t ≡ 0 = ap clockTimeFault (sym e) ∙ z in
+    let z₁ : timeFault t ≡ 0 = ap timeFault (sym e) ∙ z in
     let i = time-number 64 true n 0 in
-    subst (Sound w a f) (sym e) (time-sound w t z₁ (zero-mod (unitOf w)) (λ q. omega arith), rw (unit-none w h) (omega arith), rw (unit-none w h) (omega arith)))
+    subst (Sound w a f) (sym e) (time-sound w t z₁ (zero-mod (unitOf w)) (λ q. omega arith), rw (zero-div (unitOf w)) (omega arith), rw (zero-div (unitOf w)) (omega arith)))
     (λ q.
     let n = 8388608 - a - 1 in
     let u = 256 ^ w - f in
     let t = timeBy 64 true n (u * unitOf w) in
     let e : time2Of w a f ≡ t = rw (lt-leb 8388608 a (omega arith), ne-eqb f 0 (λ y. omega arith)) in
-    let z₁ : clockTimeFault t ≡ 0 = ap clockTimeFault (sym e) ∙ z in
+    let z₁ : timeFault t ≡ 0 = ap timeFault (sym e) ∙ z in
     let s = unit-some u w (omega arith) h in
     let i = ne-eqb u 0 (λ y. omega arith) in
     let j = time-number 64 true n (u * unitOf w) in
     subst (Sound w a f) (sym e) (time-sound w t z₁ (unit-mod w u) (λ q. omega arith), rw (unit-div w u h, i) (omega arith), rw (unit-div w u h, i) (omega arith))))
 
 time2-law : (m0 : ℕ) → NumberLaw (Time2 m0)
-unfolding domain partsOf faultOf wholeOf unitsOf wholeBytes fractionOf sort timeIn
+unfolding domain partsOf faultOf wholeOf unitsOf wholeBytes fractionSize sort timeIn
 time2-law m0 = record {
   back = λ t e.
       let w = fractionBytes m0 in
@@ -300,7 +268,7 @@ time2-law m0 = record {
       let a = and-true (eqb (sort t) 3) (timeDomain w x) e in
       let h = time-of w x (a .1) in
       let r = time2-back w (fraction-small m0) x h (x .negative) refl in
-      (ap clockTimeFault (r .2) ∙ time-clear w x h, r .0, r .1, ap Lasts (r .2) ∙ is-lasts t (a .0));
+      (ap timeFault (r .2) ∙ time-clear w x h, r .0, r .1, ap Lasts (r .2) ∙ is-lasts t (a .0));
   sound = λ a f k l z. time2-sound (fractionBytes m0) (fraction-small m0) a f k l z;
 }
 

@@ -1,9 +1,9 @@
 -- The fields of a number over their radices, whatever these are: a number of fields is split into them, and the fields of a number make it. Bits
 -- (64, 32, 32, 13) and decimals (100) are the same law. Assumes nothing.
-use Prim.Native.Nat.{ℕ, _+_, _*_, _/_, _%_, _≤_, _<_}
+use Prim.Native.Nat.{ℕ, _+_, _*_, _/_, _%_, _<_}
 use mathlib.Core.Path.{_≡_, ap, _∙_}
 use mathlib.Core.Bool.{Bool}
-use native.Mathlib.Nat.{mul-add-div-right, mul-add-mod-self-right, div-eq-of-lt, mod-eq-of-lt, div-add-mod', add-zero, mul-le-mul-left}
+use native.Mathlib.Nat.{mul-add-div-right, mul-add-mod-self-right, div-eq-of-lt, mod-eq-of-lt, div-add-mod', add-zero}
 use native.Mathlib.Omega.{arith}
 use Rattle.temporal.specs.declared.parts.Time.{Time}
 use Rattle.temporal.specs.declared.parts.Moment.{Moment}
@@ -17,10 +17,6 @@ field-div n r v h = mul-add-div-right {m = r} (omega arith) n v ∙ ap (λ (k : 
 -- and the field is what is left over
 pub field-mod : (n r v : ℕ) → v < r → (n * r + v) % r ≡ v
 field-mod n r v h = mul-add-mod-self-right n r v ∙ mod-eq-of-lt h
-
--- a radix up to 100 makes a number at most 100 times larger
-pub field-room : (n r : ℕ) → r ≤ 100 → n * r ≤ n * 100
-field-room n r h = mul-le-mul-left n h
 
 -- ---- a time
 pub time-back : (r : ℕ) (t : Time) → t .minutes < r → t .seconds < r → timeBy r (t .negative) (timeNumber r t) (t .micros) ≡ t

@@ -1,7 +1,7 @@
 -- Ranges: a judgement with no part out of range says that each is in it, and the other way round; and so does the domain's test. Assumes nothing.
 use Prim.Native.Nat.{ℕ, suc, _≤_}
 use mathlib.Core.Path.{_≡_, refl, sym}
-use mathlib.Core.Bool.{Bool, true, false, _&&_}
+use mathlib.Core.Bool.{Bool, true, false, _&&_, false≢true, and-eq-true-iff}
 use mathlib.Core.Logic.{dite}
 use native.Mathlib.Decide.{decLe}
 use native.Mathlib.Omega.{arith}
@@ -9,20 +9,9 @@ use borrow.Author.Tests.{le-leb, lt-leb, leb-true, eq-eqb, ne-eqb}
 use lib.Dec.{eqb}
 use Rattle.temporal.specs.Ranges.{over, clockFault, dayFault, inDay, inClock}
 
--- a conjunction of tests
+-- a conjunction of tests that holds
 pub and-true : (a b : Bool) → (a && b) ≡ true → (a ≡ true) × (b ≡ true)
-and-true true b e = (refl, e)
-and-true false b e = let z : _≡_ {A = ℕ} 0 1 = cc in absurd (omega arith)
-
--- one test that fails is enough
-pub and-no : (a : Bool) → (a && false) ≡ false
-and-no true = refl
-and-no false = refl
-
--- one that does not fail decides nothing
-pub and-yes : (a : Bool) → (a && true) ≡ a
-and-yes true = refl
-and-yes false = refl
+and-true a b = and-eq-true-iff a b .0
 
 -- a part, and the others behind it
 over-clear : (v top p o : ℕ) → over v top (suc p) o ≡ 0 → (v ≤ top) × (o ≡ 0)
@@ -113,7 +102,7 @@ day-first y mo d o h =
 -- the two judges agree: no part is out of range exactly where all are in it
 bool-same : (a : Bool) (n : ℕ) → (a ≡ true → n ≡ 0) → (n ≡ 0 → a ≡ true) → a ≡ eqb n 0
 bool-same true n f g = sym (eq-eqb n 0 (f refl))
-bool-same false n f g = sym (ne-eqb n 0 (λ e. let z : _≡_ {A = Bool} false true = g e in let y : _≡_ {A = ℕ} 0 1 = cc in omega arith))
+bool-same false n f g = sym (ne-eqb n 0 (λ e. false≢true (g e)))
 
 -- of a clock
 pub clock-same : (top h m s u : ℕ) → inClock top h m s u ≡ eqb (clockFault top h m s u) 0

@@ -1,26 +1,25 @@
 -- What the functions of the crate do, step by step, is what the definitions say. Assumes nothing.
 use Prim.Native.Nat.{ℕ, zero, suc, _+_, _^_, _≤_, _<_, min}
-use mathlib.Core.Path.{_≡_, refl, sym, ap, _∙_}
-use mathlib.Core.Bool.{true, false}
+use mathlib.Core.Path.{_≡_, refl, sym}
+use mathlib.Core.Bool.{true, false, true≢false}
 use mathlib.Core.List.{List, [], _∷_, _++_}
-use native.Mathlib.Nat.{zero-add, add-zero}
+use native.Mathlib.Nat.{zero-add, add-zero, min-eq-left}
 use native.Mathlib.Omega.{arith}
 use borrow.Author.Tests.{le-leb, lt-leb}
-use lib.ListN.{length, take, drop, length-append}
+use lib.ListN.{length, take, drop}
 use lib.Seq.{take-take, drop-drop, take-nil}
 use lib.Dec.{eqb}
 use Rattle.wire.specs.Outcome.{ok, refuse}
 use Rattle.wire.specs.Number.{leValue, beValue, leBytes, beBytes}
-use Rattle.wire.specs.Stored.{store, stored, answerOf, leftOf, writtenOf}
+use Rattle.wire.specs.Stored.{answerOf, leftOf, writtenOf}
 use Rattle.wire.specs.declared.store.Written.{Written}
-use Rattle.wire.specs.declared.store.Written.the-variants.{Done}
 use Rattle.wire.proofs.Outcomes.{by-test}
-use Rattle.wire.proofs.Stores.{Wrote, wrote, store-fits, length-stored, stored-stored}
+use Rattle.wire.proofs.Stores.{Wrote}
 use Rattle.temporal.specs.declared.kind.Kind.{Kind}
 use Rattle.temporal.specs.declared.kind.Kind.the-variants.{Timestamp, OldTime, OldDatetime, Newdate, Timestamp2, Datetime2, Time2}
 use Rattle.temporal.specs.declared.parts.Temporal.{Temporal}
 use Rattle.temporal.specs.declared.judge.Judged.the-variants.{In, Out}
-use Rattle.temporal.specs.Kinds.{wholeBytes, fractionOf, isBig, partsOf, faultOf, wholeOf, unitsOf}
+use Rattle.temporal.specs.Kinds.{wholeBytes, fractionSize, isBig, partsOf, faultOf, wholeOf, unitsOf}
 use Rattle.temporal.specs.Judgement.{judgement}
 use Rattle.temporal.specs.Domains.{domain}
 use Rattle.temporal.specs.Reading.{sizeOf, wholeIn, unitsIn, fault, decode, bytesOf, readTemporal, writeTemporal}
@@ -33,19 +32,15 @@ drop-take (suc k) w [] = let e : suc k + w ≡ suc (k + w) = omega arith in rw e
 drop-take (suc k) w (x ∷ l) = let e : suc k + w ≡ suc (k + w) = omega arith in rw e (drop-take k w l)
 
 -- what is stored the least significant byte first has no fraction
-pub little-whole : (k : Kind) → isBig k ≡ false → fractionOf k ≡ 0
-unfolding isBig fractionOf
+pub little-whole : (k : Kind) → isBig k ≡ false → fractionSize k ≡ 0
+unfolding isBig fractionSize
 little-whole Timestamp e = refl
 little-whole OldTime e = refl
 little-whole OldDatetime e = refl
 little-whole Newdate e = refl
-little-whole (Timestamp2 m0) e = let z : _≡_ {A = ℕ} 0 1 = cc in absurd (omega arith)
-little-whole (Datetime2 m0) e = let z : _≡_ {A = ℕ} 0 1 = cc in absurd (omega arith)
-little-whole (Time2 m0) e = let z : _≡_ {A = ℕ} 0 1 = cc in absurd (omega arith)
-
--- of k bytes read as so many of 8
-of-eight : (k : ℕ) → k ≤ 8 → min k 8 ≡ k
-of-eight k h = omega arith
+little-whole (Timestamp2 m0) e = absurd (true≢false e)
+little-whole (Datetime2 m0) e = absurd (true≢false e)
+little-whole (Time2 m0) e = absurd (true≢false e)
 
 module _ (kind : Kind) (s : List ℕ) (at r : ℕ) where
   -- the whole part, the most significant byte first
@@ -53,30 +48,31 @@ module _ (kind : Kind) (s : List ℕ) (at r : ℕ) where
       → (r ≡ wholeIn kind (take (sizeOf kind) (drop at s))) × (r < 256 ^ wholeBytes kind)
   unfolding wholeIn sizeOf
   whole-big k e h b p q =
-      let p₁ : r ≡ beValue (take k (drop at s)) = rw (of-eight k h) at p in
-      let q₁ : r < 256 ^ k = rw (of-eight k h) at q in
-      rw (b, ← e, take-take k (k + fractionOf kind) (drop at s) (omega arith)) (p₁, q₁)
+      let p₁ : r ≡ beValue (take k (drop at s)) = rw (min-eq-left h) at p in
+      let q₁ : r < 256 ^ k = rw (min-eq-left h) at q in
+      rw (b, ← e, take-take k (k + fractionSize kind) (drop at s) (omega arith)) (p₁, q₁)
 
   -- the whole part, the least significant byte first
   pub whole-little : (k : ℕ) → k ≡ wholeBytes kind → k ≤ 8 → isBig kind ≡ false → r ≡ leValue (take (min k 8) (drop at s)) → r < 256 ^ min k 8
       → (r ≡ wholeIn kind (take (sizeOf kind) (drop at s))) × (r < 256 ^ wholeBytes kind)
   unfolding wholeIn sizeOf
   whole-little k e h b p q =
-      let p₁ : r ≡ leValue (take k (drop at s)) = rw (of-eight k h) at p in
-      let q₁ : r < 256 ^ k = rw (of-eight k h) at q in
+      let p₁ : r ≡ leValue (take k (drop at s)) = rw (min-eq-left h) at p in
+      let q₁ : r < 256 ^ k = rw (min-eq-left h) at q in
       rw (b, ← e, little-whole kind b, add-zero k) (p₁, q₁)
 
   -- the fraction behind it
-  pub units-big : (k w : ℕ) → k ≡ wholeBytes kind → w ≡ fractionOf kind → w ≤ 3 → isBig kind ≡ true → r ≡ beValue (take (min w 8) (drop (at + k) s)) → r < 256 ^ min w 8
-      → (r ≡ unitsIn kind (take (sizeOf kind) (drop at s))) × (r < 256 ^ fractionOf kind)
+  pub units-big : (k w : ℕ) → k ≡ wholeBytes kind → w ≡ fractionSize kind → w ≤ 3 → isBig kind ≡ true → r ≡ beValue (take (min w 8) (drop (at + k) s)) → r < 256 ^ min w 8
+      → (r ≡ unitsIn kind (take (sizeOf kind) (drop at s))) × (r < 256 ^ fractionSize kind)
   unfolding unitsIn sizeOf
   units-big k w e f h b p q =
-      let p₁ : r ≡ beValue (take w (drop (at + k) s)) = rw (of-eight w (omega arith)) at p in
-      let q₁ : r < 256 ^ w = rw (of-eight w (omega arith)) at q in
+      let e₈ : w ≤ 8 = omega arith in
+      let p₁ : r ≡ beValue (take w (drop (at + k) s)) = rw (min-eq-left e₈) at p in
+      let q₁ : r < 256 ^ w = rw (min-eq-left e₈) at q in
       rw (b, ← e, ← f, drop-take k w (drop at s), drop-drop k at s) (p₁, q₁)
 
 -- no fraction
-pub units-little : (kind : Kind) (b : List ℕ) → isBig kind ≡ false → (0 ≡ unitsIn kind b) × (0 < 256 ^ fractionOf kind)
+pub units-little : (kind : Kind) (b : List ℕ) → isBig kind ≡ false → (0 ≡ unitsIn kind b) × (0 < 256 ^ fractionSize kind)
 unfolding unitsIn
 units-little kind b e = rw (e, little-whole kind e) (refl, omega arith)
 
@@ -111,7 +107,7 @@ Writes kind place d at t r x = (writtenOf r ≡ answerOf (writeTemporal kind pla
 
 module _ (kind : Kind) (place : ℕ) (d : List ℕ) (at : ℕ) (t : Temporal) where
   -- two numbers, the most significant byte first
-  pub write-big : (r : Written) (x : List ℕ) (k w a f : ℕ) → domain kind t ≡ true → isBig kind ≡ true → k ≡ wholeBytes kind → w ≡ fractionOf kind
+  pub write-big : (r : Written) (x : List ℕ) (k w a f : ℕ) → domain kind t ≡ true → isBig kind ≡ true → k ≡ wholeBytes kind → w ≡ fractionSize kind
       → a ≡ wholeOf kind t → f ≡ unitsOf kind t → Wrote d at (beBytes k a ++ beBytes w f) r x → Writes kind place d at t r x
   unfolding writeTemporal bytesOf
   write-big r x k w a f g b ek ew ea ef o = rw (g, b, ← ek, ← ew, ← ea, ← ef) (o .0, o .1)
@@ -121,23 +117,10 @@ module _ (kind : Kind) (place : ℕ) (d : List ℕ) (at : ℕ) (t : Temporal) wh
       → a ≡ wholeOf kind t → Wrote d at (leBytes (min k 8) a) r x → Writes kind place d at t r x
   unfolding writeTemporal bytesOf
   write-little r x k a g b ek h ea o =
-      let p : Wrote d at (leBytes k a) r x = rw (of-eight k h) at o in
+      let p : Wrote d at (leBytes k a) r x = rw (min-eq-left h) at o in
       rw (g, b, ← ek, ← ea) (p .0, p .1)
 
   -- what the column cannot hold
   pub write-none : domain kind t ≡ false → writeTemporal kind place d at t ≡ refuse 13 place
   unfolding writeTemporal
   write-none g = rw g
-
--- two runs of bytes written one behind the other, where there is room for both
-pub two-writes : (d bs cs x y : List ℕ) (at n m : ℕ) → length bs ≡ n → length cs ≡ m → at + (n + m) ≤ length d
-    → x ≡ leftOf d (store d at bs) → y ≡ leftOf x (store x (at + n) cs) → Wrote d at (bs ++ cs) (Done (at + n + m)) y
-two-writes d bs cs x y at n m e f h p q =
-    let a : at + length bs ≤ length d = omega arith in
-    let p₁ : x ≡ stored d at bs = p ∙ ap (leftOf d) (store-fits d bs at a) in
-    let l : length x ≡ length d = ap length p₁ ∙ length-stored d at bs a in
-    let b : at + n + length cs ≤ length x = omega arith in
-    let q₁ : y ≡ stored x (at + n) cs = q ∙ ap (leftOf x) (store-fits x cs (at + n) b) in
-    let g : stored x (at + n) cs ≡ stored d at (bs ++ cs) = rw (p₁, ← e) (stored-stored d at bs cs a) in
-    let k : length (bs ++ cs) ≡ n + m = rw (length-append, e, f) in
-    wrote d (bs ++ cs) y at (n + m) (at + n + m) k h (omega arith) (q₁ ∙ g)

@@ -1,8 +1,8 @@
 -- The fraction of a second, once over its width w and its unit. Assumes nothing.
 use Prim.Native.Nat.{ℕ, zero, suc, _+_, _*_, _/_, _%_, _^_, _≤_, _<_}
-use mathlib.Core.Path.{_≡_, refl, sym, ap, _∙_}
+use mathlib.Core.Path.{_≡_, sym, ap, _∙_}
 use mathlib.Core.Logic.{dite}
-use native.Mathlib.Nat.{mul-div-cancel, mul-mod-left, div-add-mod', add-zero}
+use native.Mathlib.Nat.{mul-div-cancel, mul-mod-left, div-add-mod', add-zero, mul-pos}
 use native.Mathlib.Decide.{decLe}
 use native.Mathlib.Omega.{arith}
 use borrow.Author.Tests.{le-leb, lt-leb, eq-eqb, ne-eqb}
@@ -41,15 +41,9 @@ unit-div w f h = mul-div-cancel f (unit-positive w h)
 pub unit-mod : (w f : ℕ) → f * unitOf w % unitOf w ≡ 0
 unit-mod w f = mul-mod-left f (unitOf w)
 
--- some units are some microseconds, and none are none
+-- some units are some microseconds
 pub unit-some : (f w : ℕ) → 0 < f → w ≤ 3 → 0 < f * unitOf w
-unfolding unitOf
-unit-some f w h = widths (λ w. 0 < f * unitOf w) (omega arith) (omega arith) (omega arith) (omega arith) w
-
--- no microseconds are no units
-pub unit-none : (w : ℕ) → w ≤ 3 → 0 / unitOf w ≡ 0
-unfolding unitOf
-unit-none = widths (λ w. 0 / unitOf w ≡ 0) refl refl refl refl
+unit-some f w h l = mul-pos h (unit-positive w l)
 
 -- whole units are kept
 pub unit-whole : (w m : ℕ) → m % unitOf w ≡ 0 → m / unitOf w * unitOf w ≡ m

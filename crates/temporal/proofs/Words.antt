@@ -16,7 +16,7 @@ use Rattle.temporal.specs.Fraction.{fractionBytes, unitOf}
 use Rattle.temporal.specs.Times.{timeBy, packedTime, time2Of}
 use Rattle.temporal.specs.declared.kind.Kind.the-variants.{Time2}
 use Rattle.temporal.specs.declared.parts.Temporal.the-variants.{Lasts}
-use Rattle.temporal.specs.Kinds.{partsOf, isBig, wholeBytes, fractionOf}
+use Rattle.temporal.specs.Kinds.{partsOf, isBig, wholeBytes, fractionSize}
 use Rattle.temporal.specs.Reading.{sizeOf, wholeIn, unitsIn, decode}
 use Rattle.temporal.specs.Words.{split, words, words6, worded}
 use Rattle.temporal.proofs.Units.{widths, unit-some}
@@ -136,7 +136,7 @@ as-words-6 a f l =
     let y : m % 16777216 ≡ (16777216 - f) * 1 = omega arith in
     ap split e ∙ split-neg m (omega arith) ∙ rw (x, y, lt-leb 8388608 a (omega arith), ne-eqb f 0 (λ b. omega arith))))
 
--- of the stored bytes, whatever m0
+-- ---- of the stored bytes, whatever m0
 narrow : (m : ℕ) → m ≤ 4 → fractionBytes m ≤ 2
 unfolding fractionBytes
 narrow m h =
@@ -152,7 +152,7 @@ three m h = rw (ne-eqb m 0 (λ e. omega arith), lt-leb m 2 (omega arith), lt-leb
 
 -- what the bytes of a TIME2 are read as is what the paper says of them
 pub as-worded : (m0 : ℕ) (b : List ℕ) → length b ≡ sizeOf (Time2 m0) → Bytes b → decode (Time2 m0) b ≡ Lasts (worded m0 b)
-unfolding decode partsOf wholeIn unitsIn isBig wholeBytes sizeOf fractionOf worded
+unfolding decode partsOf wholeIn unitsIn isBig wholeBytes sizeOf fractionSize worded
 as-worded m0 b e h =
     let w = fractionBytes m0 in
     let a = beValue (take 3 b) in

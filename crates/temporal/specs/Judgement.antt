@@ -12,15 +12,15 @@ use Rattle.temporal.specs.declared.misc.PackedTime.{PackedTime}
 use Rattle.temporal.specs.declared.judge.Judged.{Judged}
 use Rattle.temporal.specs.declared.judge.Judged.the-variants.{In, Out}
 use Rattle.temporal.specs.Ranges.{clockFault, dayFault}
+use Rattle.temporal.specs.Times.{timeFault}
 use Rattle.temporal.specs.Moments.{momentBy, momentFault, packedMoment, packedFault, dateFault, stampFault}
-use Rattle.temporal.specs.Kinds.{clockTimeFault}
 
 abbrev pub judgement : ℕ → Temporal → Judged
 judgement fault t = cond (eqb fault 0) (In t) (Out fault)
 
 unfoldable pub judgedTime : Time → Judged
 unfolding clockFault
-judgedTime t = judgement (clockTimeFault t) (Lasts t)
+judgedTime t = judgement (timeFault t) (Lasts t)
 
 unfoldable pub judgedMoment : Moment → Judged
 unfolding clockFault dayFault

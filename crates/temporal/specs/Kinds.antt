@@ -11,8 +11,7 @@ use Rattle.temporal.specs.declared.parts.Time.{Time}
 use Rattle.temporal.specs.declared.parts.Temporal.{Temporal}
 use Rattle.temporal.specs.declared.parts.Temporal.the-variants.{Since, On, At, Lasts}
 use Rattle.temporal.specs.Fraction.{fractionBytes, unitOf}
-use Rattle.temporal.specs.Ranges.{clockFault}
-use Rattle.temporal.specs.Times.{timeBy, timeNumber, time2Of, time2Whole, time2Fraction}
+use Rattle.temporal.specs.Times.{timeBy, timeNumber, timeFault, time2Of, time2Whole, time2Fraction}
 use Rattle.temporal.specs.Moments.{momentNumber, momentFault, datetime2Of, datetime2Fault, datetimeOf, dateOf, dateNumber, dateFault, stampOf, stampFault}
 
 -- ---- bytes: those of the whole part, and then those of the fraction
@@ -25,15 +24,15 @@ wholeBytes (Timestamp2 m0) = 4
 wholeBytes (Datetime2 m0) = 5
 wholeBytes (Time2 m0) = 3
 
-unfoldable pub fractionOf : Kind → ℕ
+unfoldable pub fractionSize : Kind → ℕ
 unfolding fractionBytes
-fractionOf Timestamp = 0
-fractionOf OldTime = 0
-fractionOf OldDatetime = 0
-fractionOf Newdate = 0
-fractionOf (Timestamp2 m0) = fractionBytes m0
-fractionOf (Datetime2 m0) = fractionBytes m0
-fractionOf (Time2 m0) = fractionBytes m0
+fractionSize Timestamp = 0
+fractionSize OldTime = 0
+fractionSize OldDatetime = 0
+fractionSize Newdate = 0
+fractionSize (Timestamp2 m0) = fractionBytes m0
+fractionSize (Datetime2 m0) = fractionBytes m0
+fractionSize (Time2 m0) = fractionBytes m0
 
 -- "17, 18, 19 are unsigned big-endian"; the others are little-endian
 unfoldable pub isBig : Kind → Bool
@@ -46,9 +45,6 @@ isBig (Datetime2 m0) = true
 isBig (Time2 m0) = true
 
 -- ---- the parts of a stored whole part a and fraction f
-abbrev pub clockTimeFault : Time → ℕ
-clockTimeFault t = clockFault 838 (t .hours) (t .minutes) (t .seconds) (t .micros)
-
 unfoldable pub partsOf : Kind → ℕ → ℕ → Temporal
 unfolding timeBy time2Of datetimeOf datetime2Of dateOf stampOf fractionBytes
 partsOf Timestamp a f = Since (stampOf 0 a 0)
@@ -63,42 +59,54 @@ partsOf (Time2 m0) a f = Lasts (time2Of (fractionBytes m0) a f)
 unfoldable pub faultOf : Kind → ℕ → ℕ → ℕ
 unfolding timeBy time2Of datetimeOf datetime2Fault dateOf stampOf fractionBytes
 faultOf Timestamp a f = 0
-faultOf OldTime a f = clockTimeFault (timeBy 100 false a 0)
+faultOf OldTime a f = timeFault (timeBy 100 false a 0)
 faultOf OldDatetime a f = momentFault (datetimeOf a)
 faultOf Newdate a f = dateFault (dateOf a)
 faultOf (Timestamp2 m0) a f = stampFault (stampOf (fractionBytes m0) a f)
 faultOf (Datetime2 m0) a f = datetime2Fault (fractionBytes m0) a f
-faultOf (Time2 m0) a f = clockTimeFault (time2Of (fractionBytes m0) a f)
+faultOf (Time2 m0) a f = timeFault (time2Of (fractionBytes m0) a f)
 
--- ---- the parts of a temporal of one sort, and nothing in particular of any other
+-- ---- the parts of a temporal of one sort; those of another sort are all zero
 unfoldable pub sort : Temporal → ℕ
 sort (Since t) = 0
 sort (On d) = 1
 sort (At m) = 2
 sort (Lasts t) = 3
 
+abbrev pub noStamp : Stamp
+noStamp = record { seconds = 0; micros = 0 }
+
 unfoldable pub stampIn : Temporal → Stamp
 stampIn (Since t) = t
-stampIn (On d) = record { seconds = 0; micros = 0 }
-stampIn (At m) = record { seconds = 0; micros = 0 }
-stampIn (Lasts t) = record { seconds = 0; micros = 0 }
+stampIn (On d) = noStamp
+stampIn (At m) = noStamp
+stampIn (Lasts t) = noStamp
+
+abbrev pub noDate : Date
+noDate = record { year = 0; month = 0; day = 0 }
 
 unfoldable pub dateIn : Temporal → Date
-dateIn (Since t) = record { year = 0; month = 0; day = 0 }
+dateIn (Since t) = noDate
 dateIn (On d) = d
-dateIn (At m) = record { year = 0; month = 0; day = 0 }
-dateIn (Lasts t) = record { year = 0; month = 0; day = 0 }
+dateIn (At m) = noDate
+dateIn (Lasts t) = noDate
+
+abbrev pub noMoment : Moment
+noMoment = record { year = 0; month = 0; day = 0; hour = 0; minute = 0; second = 0; micros = 0 }
 
 unfoldable pub momentIn : Temporal → Moment
-momentIn (Since t) = record { year = 0; month = 0; day = 0; hour = 0; minute = 0; second = 0; micros = 0 }
-momentIn (On d) = record { year = 0; month = 0; day = 0; hour = 0; minute = 0; second = 0; micros = 0 }
+momentIn (Since t) = noMoment
+momentIn (On d) = noMoment
 momentIn (At m) = m
-momentIn (Lasts t) = record { year = 0; month = 0; day = 0; hour = 0; minute = 0; second = 0; micros = 0 }
+momentIn (Lasts t) = noMoment
+
+abbrev pub noTime : Time
+noTime = record { negative = false; hours = 0; minutes = 0; seconds = 0; micros = 0 }
 
 unfoldable pub timeIn : Temporal → Time
-timeIn (Since t) = record { negative = false; hours = 0; minutes = 0; seconds = 0; micros = 0 }
-timeIn (On d) = record { negative = false; hours = 0; minutes = 0; seconds = 0; micros = 0 }
-timeIn (At m) = record { negative = false; hours = 0; minutes = 0; seconds = 0; micros = 0 }
+timeIn (Since t) = noTime
+timeIn (On d) = noTime
+timeIn (At m) = noTime
 timeIn (Lasts t) = t
 
 -- ---- the numbers that a temporal is stored as

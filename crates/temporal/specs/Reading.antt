@@ -11,13 +11,13 @@ use Rattle.temporal.specs.declared.kind.Kind.{Kind}
 use Rattle.temporal.specs.declared.parts.Temporal.{Temporal}
 use Rattle.temporal.specs.declared.read.TemporalRead.{TemporalRead}
 use Rattle.temporal.specs.declared.read.TemporalRead.the-variants.{Read, Refused}
-use Rattle.temporal.specs.Kinds.{wholeBytes, fractionOf, isBig, partsOf, faultOf, wholeOf, unitsOf}
+use Rattle.temporal.specs.Kinds.{wholeBytes, fractionSize, isBig, partsOf, faultOf, wholeOf, unitsOf}
 use Rattle.temporal.specs.Domains.{domain}
 
 -- how many bytes
 unfoldable pub sizeOf : Kind → ℕ
-unfolding wholeBytes fractionOf
-sizeOf k = wholeBytes k + fractionOf k
+unfolding wholeBytes fractionSize
+sizeOf k = wholeBytes k + fractionSize k
 
 -- the two numbers of a stored form b: its whole part and its fraction
 unfoldable pub wholeIn : Kind → List ℕ → ℕ
@@ -39,9 +39,9 @@ fault k b = faultOf k (wholeIn k b) (unitsIn k b)
 
 -- the stored form of a temporal
 unfoldable pub bytesOf : Kind → Temporal → List ℕ
-unfolding isBig wholeBytes fractionOf wholeOf unitsOf leBytes beBytes
+unfolding isBig wholeBytes fractionSize wholeOf unitsOf leBytes beBytes
 bytesOf k t =
-    cond (isBig k) (beBytes (wholeBytes k) (wholeOf k t) ++ beBytes (fractionOf k) (unitsOf k t))
+    cond (isBig k) (beBytes (wholeBytes k) (wholeOf k t) ++ beBytes (fractionSize k) (unitsOf k t))
     (leBytes (wholeBytes k) (wholeOf k t))
 
 -- a temporal and the place after it, if no part is out of range

@@ -8,13 +8,17 @@ use lib.Dec.{leb, eqb}
 use Rattle.temporal.specs.declared.parts.Time.{Time}
 use Rattle.temporal.specs.declared.misc.PackedTime.{PackedTime}
 use Rattle.temporal.specs.Fraction.{unitOf}
+use Rattle.temporal.specs.Ranges.{clockFault}
 
--- the time of a whole part n, whose minutes and seconds go up to r, and of u microseconds; and its whole part again
+-- the time of a whole part n, whose minutes and seconds are over the radix r, and of u microseconds; its whole part again; and its fault
 unfoldable pub timeBy : ℕ → Bool → ℕ → ℕ → Time
 timeBy r negative n u = record { negative = negative; hours = n / r / r; minutes = n / r % r; seconds = n % r; micros = u }
 
 abbrev pub timeNumber : ℕ → Time → ℕ
 timeNumber r t = (t .hours * r + t .minutes) * r + t .seconds
+
+abbrev pub timeFault : Time → ℕ
+timeFault t = clockFault 838 (t .hours) (t .minutes) (t .seconds) (t .micros)
 
 -- ---- TIME2, of a stored whole part a and fraction f of w bytes: sign, whole part and microseconds, and the time of these
 unfoldable pub packedTime : ℕ → ℕ → ℕ → PackedTime

@@ -4,16 +4,8 @@ use crate::fraction::unit;
 use crate::judge::clock_fault;
 use crate::judge::day_fault;
 use crate::kind::Kind;
-use crate::parts::Date;
-use crate::parts::Moment;
-use crate::parts::Stamp;
 use crate::parts::Temporal;
 use crate::parts::Time;
-use crate::sort::date_in;
-use crate::sort::moment_in;
-use crate::sort::sort_of;
-use crate::sort::stamp_in;
-use crate::sort::time_in;
 ghost use mathlib.Core.Path.{_≡_};
 ghost use mathlib.Core.Bool.{_&&_};
 ghost use Prim.Native.Nat.{_+_, _≤_};
@@ -41,10 +33,9 @@ fn holds_stamp(w: usize, temporal: Temporal) -> bool
     requires { ⌜ w ≤ 3 ⌝ }
     ensures { λ r. ⌜ r ≡ eqb (sort temporal) 0 && stampDomain w (stampIn temporal) ⌝ }
 {
-    if sort_of(temporal) != 0 {
+    let Temporal::Since(t) = temporal else {
         return false;
-    }
-    let t = stamp_in(temporal);
+    };
     if 999_999 < t.micros {
         return false;
     }
@@ -54,10 +45,9 @@ fn holds_stamp(w: usize, temporal: Temporal) -> bool
 fn holds_date(temporal: Temporal) -> bool
     ensures { λ r. ⌜ r ≡ eqb (sort temporal) 1 && dateDomain (dateIn temporal) ⌝ }
 {
-    if sort_of(temporal) != 1 {
+    let Temporal::On(d) = temporal else {
         return false;
-    }
-    let d = date_in(temporal);
+    };
     in_day(d.year, d.month, d.day)
 }
 
@@ -65,10 +55,9 @@ fn holds_moment(w: usize, temporal: Temporal) -> bool
     requires { ⌜ w ≤ 3 ⌝ }
     ensures { λ r. ⌜ r ≡ eqb (sort temporal) 2 && momentDomain w (momentIn temporal) ⌝ }
 {
-    if sort_of(temporal) != 2 {
+    let Temporal::At(m) = temporal else {
         return false;
-    }
-    let m = moment_in(temporal);
+    };
     if !in_day(m.year, m.month, m.day) {
         return false;
     }
@@ -83,10 +72,9 @@ fn holds_time(w: usize, temporal: Temporal) -> bool
     requires { ⌜ w ≤ 3 ⌝ }
     ensures { λ r. ⌜ r ≡ eqb (sort temporal) 3 && timeDomain w (timeIn temporal) ⌝ }
 {
-    if sort_of(temporal) != 3 {
+    let Temporal::Lasts(t) = temporal else {
         return false;
-    }
-    let t = time_in(temporal);
+    };
     if !in_clock(838, t.hours, t.minutes, t.seconds, t.micros) {
         return false;
     }
@@ -100,13 +88,16 @@ fn holds_time(w: usize, temporal: Temporal) -> bool
 fn holds_old_time(temporal: Temporal) -> bool
     ensures { λ r. ⌜ r ≡ domain Kind.OldTime temporal ⌝ }
 {
-    let t = time_in(temporal);
+    let Temporal::Lasts(t) = temporal else {
+        return false;
+    };
     if t.negative {
         return false;
     }
     holds_time(0, temporal)
 }
 
+// Whether a date is in range.
 fn in_day(y: u16, mo: u8, d: u8) -> bool
     ensures { λ r. ⌜ r ≡ inDay y mo d ⌝ }
 {
@@ -116,7 +107,7 @@ fn in_day(y: u16, mo: u8, d: u8) -> bool
     day_fault(year, month, day) == 0
 }
 
-// Hours up to top.
+// Whether a clock is in range. Hours go up to top.
 fn in_clock(top: u64, h: u16, m: u8, s: u8, u: u32) -> bool
     ensures { λ r. ⌜ r ≡ inClock top h m s u ⌝ }
 {

@@ -2,10 +2,10 @@
 use crate::fraction::fraction_bytes;
 ghost use mathlib.Core.Path.{_≡_};
 ghost use Prim.Native.Nat.{_≤_};
-ghost use Rattle.temporal.specs.Kinds.{wholeBytes, fractionOf, isBig};
+ghost use Rattle.temporal.specs.Kinds.{wholeBytes, fractionSize, isBig};
 ghost use Rattle.temporal.specs.Reading.{sizeOf};
 
-// m0 is the number of fraction digits that the column declares; above 6 it is taken as 6.
+// Each kind has its column type above it. m0 is the number of fraction digits that the column declares; above 6 it is taken as 6.
 pub enum Kind {
     // 7
     Timestamp,
@@ -47,8 +47,9 @@ pub(crate) fn whole_bytes(kind: Kind) -> usize
     }
 }
 
+// And how many are its fraction.
 pub(crate) fn fraction_size(kind: Kind) -> usize
-    ensures { λ r. ⌜ (r ≡ fractionOf kind) × (r ≤ 3) ⌝ }
+    ensures { λ r. ⌜ (r ≡ fractionSize kind) × (r ≤ 3) ⌝ }
 {
     match kind {
         Kind::Timestamp => 0,

@@ -15,6 +15,7 @@ ghost use Rattle.temporal.specs.Times.{packedTime, timeBy};
 ghost use Rattle.temporal.specs.Moments.{packedDatetime, stampOf};
 ghost use Rattle.temporal.specs.Judgement.{judgedTime, judgedStamp, judgedDatetime};
 
+// What is added to the whole part of a time, and of a datetime, before it is stored: so nothing is stored below zero.
 pub(crate) const TIMEF_INT_OFS: u64 = 0x80_0000;
 
 pub(crate) const DATETIMEF_INT_OFS: u64 = 0x80_0000_0000;

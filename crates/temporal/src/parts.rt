@@ -6,12 +6,14 @@ pub struct Stamp {
     pub micros: u32,
 }
 
+// A day of the calendar.
 pub struct Date {
     pub year: u16,
     pub month: u8,
     pub day: u8,
 }
 
+// A date and a time of that day.
 pub struct Moment {
     pub year: u16,
     pub month: u8,
@@ -22,7 +24,7 @@ pub struct Moment {
     pub micros: u32,
 }
 
-// Hours are not split into days and hours, as the Rust does.
+// A span of time, or a time of day. The Rust splits its hours into days and hours; here they stay hours.
 pub struct Time {
     pub negative: bool,
     pub hours: u16,
@@ -31,6 +33,7 @@ pub struct Time {
     pub micros: u32,
 }
 
+// A temporal is of one of these sorts.
 pub enum Temporal {
     Since(Stamp),
     On(Date),

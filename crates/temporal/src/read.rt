@@ -22,7 +22,7 @@ use wire::refuse;
 ghost use mathlib.Core.Path.{_≡_};
 ghost use Prim.Native.Nat.{_+_, _≤_, _<_, _^_};
 ghost use lib.ListN.{length, take, drop};
-ghost use Rattle.temporal.specs.Kinds.{wholeBytes, fractionOf, partsOf, faultOf};
+ghost use Rattle.temporal.specs.Kinds.{wholeBytes, fractionSize, partsOf, faultOf};
 ghost use Rattle.temporal.specs.Judgement.{judgement};
 ghost use Rattle.temporal.specs.Reading.{sizeOf, wholeIn, unitsIn, readTemporal, temporalOf};
 
@@ -64,7 +64,7 @@ fn whole_at(kind: Kind, s: &[u8], at: usize) -> u64
 // The number that their fraction is.
 fn fraction_at(kind: Kind, s: &[u8], at: usize) -> u64
     requires { ⌜ at + sizeOf kind ≤ length (now s) ⌝ }
-    ensures { λ r. ⌜ (r ≡ unitsIn kind (take (sizeOf kind) (drop at (now (s .entry))))) × (r < 256 ^ fractionOf kind) ⌝ }
+    ensures { λ r. ⌜ (r ≡ unitsIn kind (take (sizeOf kind) (drop at (now (s .entry))))) × (r < 256 ^ fractionSize kind) ⌝ }
 {
     let k = whole_bytes(kind);
     let w = fraction_size(kind);
@@ -77,7 +77,7 @@ fn fraction_at(kind: Kind, s: &[u8], at: usize) -> u64
 
 // What a stored whole part and fraction say.
 fn judge(kind: Kind, whole: u64, fraction: u64) -> Judged
-    requires { ⌜ (whole < 256 ^ wholeBytes kind) × (fraction < 256 ^ fractionOf kind) ⌝ }
+    requires { ⌜ (whole < 256 ^ wholeBytes kind) × (fraction < 256 ^ fractionSize kind) ⌝ }
     ensures { λ r. ⌜ r ≡ judgement (faultOf kind whole fraction) (partsOf kind whole fraction) ⌝ }
 {
     match kind {

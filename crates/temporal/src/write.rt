@@ -70,9 +70,7 @@ fn write_two(buf: &mut [u8], at: usize, k: usize, whole: u64, w: usize, units: u
     }
     wire::write_be(buf, at, k, whole);
     let middle = at + k;
-    wire::write_be(buf, middle, w, units);
-    let next = middle + w;
-    Written::Done { next }
+    wire::write_be(buf, middle, w, units)
 }
 
 // The number that the whole part is stored as.
@@ -102,13 +100,14 @@ fn units_of(kind: Kind, temporal: Temporal) -> u64
         Kind::OldTime => 0,
         Kind::OldDatetime => 0,
         Kind::Newdate => 0,
-        Kind::Timestamp2 { m0 } => units_in(fraction_bytes(m0), stamp_in(temporal).micros),
-        Kind::Datetime2 { m0 } => units_in(fraction_bytes(m0), moment_in(temporal).micros),
+        Kind::Timestamp2 { m0 } => to_units(fraction_bytes(m0), stamp_in(temporal).micros),
+        Kind::Datetime2 { m0 } => to_units(fraction_bytes(m0), moment_in(temporal).micros),
         Kind::Time2 { m0 } => time2_fraction(fraction_bytes(m0), time_in(temporal)),
     }
 }
 
-fn units_in(w: usize, micros: u32) -> u64
+// How many units of a fraction of w bytes the microseconds are.
+fn to_units(w: usize, micros: u32) -> u64
     requires { ⌜ w ≤ 3 ⌝ }
     ensures { λ r. ⌜ r ≡ micros / unitOf w ⌝ }
 {
@@ -116,13 +115,14 @@ fn units_in(w: usize, micros: u32) -> u64
     u / unit(w)
 }
 
+// A fraction of a negative time counts up from the whole second below it, so the stored whole part is one less.
 fn time2_whole(w: usize, t: Time) -> u64
     requires { ⌜ (w ≤ 3) × (timeNumber 64 t < 8388608) ⌝ }
     ensures { λ r. ⌜ r ≡ time2Whole t (t .micros / unitOf w) ⌝ }
 {
     let n = time_number(64, t);
     if t.negative {
-        if units_in(w, t.micros) == 0 {
+        if to_units(w, t.micros) == 0 {
             return TIMEF_INT_OFS - n;
         }
         return TIMEF_INT_OFS - n - 1;
@@ -134,7 +134,7 @@ fn time2_fraction(w: usize, t: Time) -> u64
     requires { ⌜ (w ≤ 3) × (t .micros ≤ 999999) ⌝ }
     ensures { λ r. ⌜ r ≡ time2Fraction w (t .negative) (t .micros / unitOf w) ⌝ }
 {
-    let u = units_in(w, t.micros);
+    let u = to_units(w, t.micros);
     if t.negative {
         if u == 0 {
             return 0;
@@ -144,6 +144,7 @@ fn time2_fraction(w: usize, t: Time) -> u64
     u
 }
 
+// The fields of a time as one number, minutes and seconds over radix.
 fn time_number(radix: u64, t: Time) -> u64
     requires { ⌜ radix ≤ 100 ⌝ }
     ensures { λ r. ⌜ (r ≡ timeNumber radix t) × (r ≤ 1000000000) ⌝ }
@@ -153,6 +154,7 @@ fn time_number(radix: u64, t: Time) -> u64
     append(minutes, radix, t.seconds)
 }
 
+// The same of a moment. Seconds and minutes are over radix; hours, days and months are the radices of these.
 fn moment_number(radix: u64, hours: u64, days: u64, months: u64, m: Moment) -> u64
     requires { ⌜ (radix ≤ 100) × (hours ≤ 100) × (days ≤ 100) × (months ≤ 100) ⌝ }
     ensures { λ r. ⌜ (r ≡ momentNumber radix hours days months m) × (r ≤ 1000000000000000) ⌝ }
@@ -165,6 +167,7 @@ fn moment_number(radix: u64, hours: u64, days: u64, months: u64, m: Moment) -> u
     append(to_minutes, radix, m.second)
 }
 
+// The same of a date.
 fn date_number(d: Date) -> u64
     ensures { λ r. ⌜ r ≡ dateNumber d ⌝ }
 {

@@ -1,6 +1,8 @@
 -- `temporal::domain::holds_moment` meets its contract. Assumes nothing.
+use borrow.Author.Tests.{not-true, not-false}
+use Rattle.temporal.specs.Kinds.{sort, momentIn}
 use Rattle.temporal.specs.Domains.{momentDomain}
-use borrow.Author.Tests.{eq-eqb, ne-eqb, not-true, not-false}
+use Rattle.temporal.proofs.Sorts.{not-at}
 use borrow.Author.Needs.{needs}
 use Rattle.temporal.proofs.domain.holds_moment.Statement.{statement}
 use Rattle.temporal.proofs.domain.holds_moment.Tie as tie
@@ -9,30 +11,19 @@ use Rattle.temporal.proofs.domain.holds_moment.Lts as lts
 use Rattle.temporal.proofs.domain.in_clock.Reads as in-clock-reads
 use Rattle.temporal.proofs.domain.in_day.Reads as in-day-reads
 use Rattle.temporal.proofs.domain.in_units.Reads as in-units-reads
-use Rattle.temporal.proofs.sort.moment_in.Reads as moment-in-reads
-use Rattle.temporal.proofs.sort.sort_of.Reads as sort-of-reads
 
-sort-of-requires : tie.Need-sort-of-requires
-sort-of-requires c κs = search needs
+enum-known-temporal : tie.Need-enum-known-temporal
+enum-known-temporal c = search needs
 
 returns : tie.Need-returns
-returns c = rw (← c .before .sort-of .ensures, ne-eqb _ _ (c .if1 .taken))
-
-moment-in-requires : tie.Need-moment-in-requires
-moment-in-requires c κs = search needs
+returns c = rw (not-at (c .before .args .temporal) (c .match .keys2) .0)
 
 in-day-requires : tie.Need-in-day-requires
 in-day-requires c κs = search needs
 
 returns-2 : tie.Need-returns-2
-unfolding momentDomain
-returns-2 c = rw (
-  ← c .before .before .before .before .sort-of .ensures,
-  eq-eqb _ _ (c .before .before .before .if1 .left),
-  ← c .before .before .moment-in .ensures,
-  ← c .before .in-day .ensures,
-  not-true (c .before .in-day .result) (c .if2 .taken),
-)
+unfolding momentDomain sort momentIn
+returns-2 c = rw (c .before .before .before .temporal .given .1, ← c .before .in-day .ensures, not-true (c .before .in-day .result) (c .if1 .taken))
 
 cast-hour : tie.Need-cast-hour
 cast-hour c = search needs
@@ -41,39 +32,34 @@ in-clock-requires : tie.Need-in-clock-requires
 in-clock-requires c κs = search needs
 
 returns-3 : tie.Need-returns-3
-unfolding momentDomain
+unfolding momentDomain sort momentIn
 returns-3 c = rw (
-  ← c .before .before .before .before .before .before .before .sort-of .ensures,
-  eq-eqb _ _ (c .before .before .before .before .before .before .if1 .left),
-  ← c .before .before .before .before .before .moment-in .ensures,
+  c .before .before .before .before .before .before .temporal .given .1,
   ← c .before .before .before .before .in-day .ensures,
-  not-false (c .before .before .before .before .in-day .result) (c .before .before .before .if2 .left),
+  not-false (c .before .before .before .before .in-day .result) (c .before .before .before .if1 .left),
   ← c .before .in-clock .ensures,
-  not-true (c .before .in-clock .result) (c .if3 .taken),
+  not-true (c .before .in-clock .result) (c .if2 .taken),
 )
 
 in-units-requires : tie.Need-in-units-requires
 in-units-requires c κs = search needs
 
 returns-4 : tie.Need-returns-4
-unfolding momentDomain
+unfolding momentDomain sort momentIn
 returns-4 c = rw (
-  ← c .before .before .before .before .before .before .before .before .sort-of .ensures,
-  eq-eqb _ _ (c .before .before .before .before .before .before .before .if1 .left),
-  ← c .before .before .before .before .before .before .moment-in .ensures,
+  c .before .before .before .before .before .before .before .temporal .given .1,
   ← c .before .before .before .before .before .in-day .ensures,
-  not-false (c .before .before .before .before .before .in-day .result) (c .before .before .before .before .if2 .left),
+  not-false (c .before .before .before .before .before .in-day .result) (c .before .before .before .before .if1 .left),
   ← c .before .before .in-clock .ensures,
-  not-false (c .before .before .in-clock .result) (c .before .if3 .left),
+  not-false (c .before .before .in-clock .result) (c .before .if2 .left),
 ) (c .in-units .ensures)
 
 pub holds-moment-spec : {M : Type 1} → statement M
 holds-moment-spec =
     tie.close
     (tie.spec
-    sort-of-requires
+    enum-known-temporal
     returns
-    moment-in-requires
     in-day-requires
     returns-2
     cast-hour

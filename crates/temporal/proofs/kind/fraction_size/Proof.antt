@@ -1,7 +1,7 @@
 -- `temporal::kind::fraction_size` meets its contract. Assumes nothing.
 use native.Mathlib.Omega.{arith}
 use mathlib.Core.Path.{refl}
-use Rattle.temporal.specs.Kinds.{fractionOf}
+use Rattle.temporal.specs.Kinds.{fractionSize}
 use borrow.Author.Needs.{needs}
 use Rattle.temporal.proofs.kind.fraction_size.Statement.{statement}
 use Rattle.temporal.proofs.kind.fraction_size.Tie as tie
@@ -40,31 +40,31 @@ fraction-bytes-requires-3 : tie.Need-fraction-bytes-requires-3
 fraction-bytes-requires-3 c κs = search needs
 
 returns : tie.Need-returns
-unfolding fractionOf
+unfolding fractionSize
 returns c = rw (c .enum-told .given .1) (refl, omega arith)
 
 returns-2 : tie.Need-returns-2
-unfolding fractionOf
+unfolding fractionSize
 returns-2 c = rw (c .enum-told2 .given .1) (refl, omega arith)
 
 returns-3 : tie.Need-returns-3
-unfolding fractionOf
+unfolding fractionSize
 returns-3 c = rw (c .enum-told3 .given .1) (refl, omega arith)
 
 returns-4 : tie.Need-returns-4
-unfolding fractionOf
+unfolding fractionSize
 returns-4 c = rw (c .enum-told4 .given .1) (refl, omega arith)
 
 returns-5 : tie.Need-returns-5
-unfolding fractionOf
+unfolding fractionSize
 returns-5 c = rw (c .before .before .kind .given .1) (c .fraction-bytes .ensures .0, c .fraction-bytes .ensures .1)
 
 returns-6 : tie.Need-returns-6
-unfolding fractionOf
+unfolding fractionSize
 returns-6 c = rw (c .before .before .kind2 .given .1) (c .fraction-bytes2 .ensures .0, c .fraction-bytes2 .ensures .1)
 
 returns-7 : tie.Need-returns-7
-unfolding fractionOf
+unfolding fractionSize
 returns-7 c = rw (c .before .before .kind3 .given .1) (c .fraction-bytes3 .ensures .0, c .fraction-bytes3 .ensures .1)
 
 pub fraction-size-spec : {M : Type 1} → statement M

@@ -7,7 +7,7 @@ use Rattle.temporal.specs.Fraction.{unitOf}
 use Rattle.temporal.specs.Ranges.{clockFault}
 use Rattle.temporal.specs.Times.{time2Of, timeBy}
 use Rattle.temporal.specs.Moments.{datetime2Of, datetime2Fault, datetimeOf, stampOf}
-use Rattle.temporal.specs.Kinds.{wholeBytes, fractionOf, partsOf, faultOf}
+use Rattle.temporal.specs.Kinds.{wholeBytes, fractionSize, partsOf, faultOf}
 use Rattle.temporal.specs.Judgement.{judgedTime, judgedMoment, judgedDatetime, judgedDate, judgedStamp}
 use borrow.Author.Needs.{needs}
 use Rattle.temporal.proofs.read.judge.Statement.{statement}
@@ -56,7 +56,7 @@ fraction-bytes-requires : tie.Need-fraction-bytes-requires
 fraction-bytes-requires c κs = search needs
 
 my-timestamp-from-binary-requires-2 : tie.Need-my-timestamp-from-binary-requires-2
-unfolding wholeBytes fractionOf
+unfolding wholeBytes fractionSize
 my-timestamp-from-binary-requires-2 c κs = let p : c .before .before .before .before .args .whole < 256 ^ 4 = rw (c .before .before .kind .given .1) at (c .before .before .before .before .pre .0) in
     let q : c .before .before .before .before .args .fraction < 256 ^ c .fraction-bytes .result = rw (c .fraction-bytes .ensures .0) (rw (c .before .before .kind .given .1) at (c .before .before .before .before .pre .1)) in
     (c .fraction-bytes .ensures .1, q, omega arith)
@@ -68,7 +68,7 @@ fraction-bytes-requires-2 : tie.Need-fraction-bytes-requires-2
 fraction-bytes-requires-2 c κs = search needs
 
 my-datetime-packed-from-binary-requires : tie.Need-my-datetime-packed-from-binary-requires
-unfolding fractionOf
+unfolding fractionSize
 my-datetime-packed-from-binary-requires c κs = let q : c .before .before .before .before .args .fraction < 256 ^ c .fraction-bytes2 .result = rw (c .fraction-bytes2 .ensures .0) (rw (c .before .before .kind2 .given .1) at (c .before .before .before .before .pre .1)) in
     (c .fraction-bytes2 .ensures .1, q)
 
@@ -82,7 +82,7 @@ fraction-bytes-requires-3 : tie.Need-fraction-bytes-requires-3
 fraction-bytes-requires-3 c κs = search needs
 
 my-time-packed-from-binary-requires : tie.Need-my-time-packed-from-binary-requires
-unfolding fractionOf
+unfolding fractionSize
 my-time-packed-from-binary-requires c κs = let q : c .before .before .before .before .args .fraction < 256 ^ c .fraction-bytes3 .result = rw (c .fraction-bytes3 .ensures .0) (rw (c .before .before .kind3 .given .1) at (c .before .before .before .before .pre .1)) in
     (c .fraction-bytes3 .ensures .1, q)
 

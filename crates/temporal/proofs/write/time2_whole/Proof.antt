@@ -7,20 +7,20 @@ use Rattle.temporal.proofs.write.time2_whole.Tie as tie
 use Rattle.temporal.proofs.write.time2_whole.Reads as reads
 use Rattle.temporal.proofs.write.time2_whole.Lts as lts
 use Rattle.temporal.proofs.write.time_number.Reads as time-number-reads
-use Rattle.temporal.proofs.write.units_in.Reads as units-in-reads
+use Rattle.temporal.proofs.write.to_units.Reads as to-units-reads
 
 time-number-requires : tie.Need-time-number-requires
 time-number-requires c κs = search needs
 
-units-in-requires : tie.Need-units-in-requires
-units-in-requires c κs = search needs
+to-units-requires : tie.Need-to-units-requires
+to-units-requires c κs = search needs
 
 sub-result : tie.Need-sub-result
 sub-result c = search needs
 
 returns : tie.Need-returns
 unfolding time2Whole
-returns c = rw (c .before .before .if1 .taken, ← c .before .units-in .ensures, eq-eqb _ _ (c .if2 .taken), c .before .before .before .time-number .ensures .0)
+returns c = rw (c .before .before .if1 .taken, ← c .before .to-units .ensures, eq-eqb _ _ (c .if2 .taken), c .before .before .before .time-number .ensures .0)
 
 sub-result-2 : tie.Need-sub-result-2
 sub-result-2 c = search needs
@@ -30,7 +30,7 @@ sub-result-3 c = search needs
 
 returns-2 : tie.Need-returns-2
 unfolding time2Whole
-returns-2 c = rw (c .before .before .if1 .taken, ← c .before .units-in .ensures, ne-eqb _ _ (c .if2 .left), c .before .before .before .time-number .ensures .0)
+returns-2 c = rw (c .before .before .if1 .taken, ← c .before .to-units .ensures, ne-eqb _ _ (c .if2 .left), c .before .before .before .time-number .ensures .0)
 
 add-result : tie.Need-add-result
 add-result c = search needs
@@ -44,7 +44,7 @@ time2-whole-spec =
     tie.close
     (tie.spec
     time-number-requires
-    units-in-requires
+    to-units-requires
     sub-result
     returns
     sub-result-2

@@ -16,7 +16,7 @@ use Rattle.temporal.proofs.sort.moment_in.Reads as moment-in-reads
 use Rattle.temporal.proofs.sort.stamp_in.Reads as stamp-in-reads
 use Rattle.temporal.proofs.sort.time_in.Reads as time-in-reads
 use Rattle.temporal.proofs.write.time2_fraction.Reads as time2-fraction-reads
-use Rattle.temporal.proofs.write.units_in.Reads as units-in-reads
+use Rattle.temporal.proofs.write.to_units.Reads as to-units-reads
 
 enum-told : tie.Need-enum-told
 enum-told c = search needs
@@ -39,8 +39,8 @@ fraction-bytes-requires c κs = search needs
 stamp-in-requires : tie.Need-stamp-in-requires
 stamp-in-requires c κs = search needs
 
-units-in-requires : tie.Need-units-in-requires
-units-in-requires c κs = search needs
+to-units-requires : tie.Need-to-units-requires
+to-units-requires c κs = search needs
 
 enum-known-kind-2 : tie.Need-enum-known-kind-2
 enum-known-kind-2 c = search needs
@@ -51,8 +51,8 @@ fraction-bytes-requires-2 c κs = search needs
 moment-in-requires : tie.Need-moment-in-requires
 moment-in-requires c κs = search needs
 
-units-in-requires-2 : tie.Need-units-in-requires-2
-units-in-requires-2 c κs = search needs
+to-units-requires-2 : tie.Need-to-units-requires-2
+to-units-requires-2 c κs = search needs
 
 enum-known-kind-3 : tie.Need-enum-known-kind-3
 enum-known-kind-3 c = search needs
@@ -85,11 +85,11 @@ returns-4 c = rw (c .enum-told4 .given .1)
 
 returns-5 : tie.Need-returns-5
 unfolding unitsOf
-returns-5 c = rw (c .before .before .before .before .kind .given .1, ← c .before .before .fraction-bytes .ensures .0, ← c .before .stamp-in .ensures) (c .units-in .ensures)
+returns-5 c = rw (c .before .before .before .before .kind .given .1, ← c .before .before .fraction-bytes .ensures .0, ← c .before .stamp-in .ensures) (c .to-units .ensures)
 
 returns-6 : tie.Need-returns-6
 unfolding unitsOf
-returns-6 c = rw (c .before .before .before .before .kind2 .given .1, ← c .before .before .fraction-bytes2 .ensures .0, ← c .before .moment-in .ensures) (c .units-in2 .ensures)
+returns-6 c = rw (c .before .before .before .before .kind2 .given .1, ← c .before .before .fraction-bytes2 .ensures .0, ← c .before .moment-in .ensures) (c .to-units2 .ensures)
 
 returns-7 : tie.Need-returns-7
 unfolding unitsOf
@@ -106,11 +106,11 @@ units-of-spec =
     enum-known-kind
     fraction-bytes-requires
     stamp-in-requires
-    units-in-requires
+    to-units-requires
     enum-known-kind-2
     fraction-bytes-requires-2
     moment-in-requires
-    units-in-requires-2
+    to-units-requires-2
     enum-known-kind-3
     fraction-bytes-requires-3
     time-in-requires

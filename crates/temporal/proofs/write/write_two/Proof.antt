@@ -1,5 +1,5 @@
--- `temporal::write::write_two` meets its contract. Room was tested for both runs of bytes, so both are written, and two stores in a row are one.
--- Assumes nothing.
+-- `temporal::write::write_two` meets its contract. There is room for both runs of bytes, so both are written, and two writes in a row are one. Assumes
+-- nothing.
 use native.Mathlib.Omega.{arith}
 use mathlib.Core.Path.{_≡_}
 use Prim.Native.Nat.{_+_, _≤_, min}
@@ -8,8 +8,7 @@ use mathlib.Core.List.{_++_}
 use borrow.Author.Tests.{not-true, not-false}
 use Rattle.wire.specs.Number.{beBytes}
 use Rattle.wire.proofs.Bytes.{beBytes-length}
-use Rattle.wire.proofs.Stores.{room, no-room, not-wrote}
-use Rattle.temporal.proofs.Steps.{two-writes}
+use Rattle.wire.proofs.Stores.{room, no-room, not-wrote, wrote-two}
 use borrow.Author.Needs.{needs}
 use Rattle.temporal.proofs.write.write_two.Statement.{statement}
 use Rattle.temporal.proofs.write.write_two.Tie as tie
@@ -47,11 +46,6 @@ add-middle c = let a = c .before .before .before .before .before .before .before
 write-be-requires-2 : tie.Need-write-be-requires-2
 write-be-requires-2 c κs = search needs
 
-add-next : tie.Need-add-next
-add-next c = let a = c .before .before .before .before .before .before .before .before .before .before .before .args in
-    let l : a .at + (a .k + a .w) ≤ length (a .buf .now) = room _ _ _ _ (c .before .before .before .before .before .before .before .before .before .has-room .ensures) (not-false (c .before .before .before .before .before .before .before .before .before .has-room .result) (c .before .before .before .before .before .before .before .before .if1 .left)) in
-    omega arith
-
 same-length : tie.Need-same-length
 same-length c = search needs
 
@@ -61,10 +55,11 @@ returns-2 c = let a = c .before .before .before .before .before .before .before 
     let y = beBytes (a .w) (a .units) in
     let n = beBytes-length (a .k) (a .whole) in
     let m = beBytes-length (a .w) (a .units) in
-    let l = room _ _ _ _ (c .before .before .before .before .before .before .before .before .before .has-room .ensures) (not-false (c .before .before .before .before .before .before .before .before .before .has-room .result) (c .before .before .before .before .before .before .before .before .if1 .left)) in
+    let l : a .at + (a .k + a .w) ≤ length (a .buf .now) = room _ _ _ _ (c .before .before .before .before .before .before .before .before .before .has-room .ensures) (not-false (c .before .before .before .before .before .before .before .before .before .has-room .result) (c .before .before .before .before .before .before .before .before .if1 .left)) in
     let k : min (a .k) 8 ≡ a .k = omega arith in
     let w : min (a .w) 8 ≡ a .w = omega arith in
-    two-writes (a .buf .now) x y _ _ (a .at) (a .k) (a .w) n m l (rw k at (c .before .before .before .before .before .before .write-be .ensures .1)) (rw w at (c .before .before .write-be2 .ensures .1))
+    let o = c .before .before .write-be2 in
+    wrote-two (a .buf .now) x y _ _ (a .at) (a .k) (o .result) n (omega arith) (rw k at (c .before .before .before .before .before .before .write-be .ensures .1)) (rw w at (o .ensures .0), rw w at (o .ensures .1))
 
 pub write-two-spec : {M : Type 1} → statement M
 write-two-spec =
@@ -77,6 +72,5 @@ write-two-spec =
     write-be-requires
     add-middle
     write-be-requires-2
-    add-next
     same-length
     returns-2)
