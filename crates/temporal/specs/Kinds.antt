@@ -66,7 +66,7 @@ faultOf (Timestamp2 m0) a f = stampFault (stampOf (fractionBytes m0) a f)
 faultOf (Datetime2 m0) a f = datetime2Fault (fractionBytes m0) a f
 faultOf (Time2 m0) a f = timeFault (time2Of (fractionBytes m0) a f)
 
--- ---- the parts of a temporal of one sort; those of another sort are all zero
+-- ---- the parts of a temporal of one sort; of a temporal of another sort they are all zero
 unfoldable pub sort : Temporal → ℕ
 sort (Since t) = 0
 sort (On d) = 1

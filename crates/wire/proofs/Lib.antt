@@ -1,6 +1,6 @@
--- The laws of the crate. `Rules`: the rule sets that proofs of functions search with. `Outcomes`: chains of answers. `Bytes`: the turns of loops
--- over the bytes of a number. `Inverse`: numbers and bytes, both ways. `Signs`: two's complement, both ways. `Stores`: buffers with bytes stored in
--- them. `Digits`: bits. `Forms`: packed integers. `Views`: no two answers look the same on paper.
+-- The laws of the crate. `Rules`: the rule set that proofs of functions search with. `Outcomes`: answers and chains of them. `Bytes`: the turns of
+-- loops over the bytes of a number. `Inverse`: numbers and bytes, both ways. `Signs`: two's complement, both ways. `Stores`: buffers with bytes
+-- stored in them. `Digits`: bits. `Forms`: packed integers. `Views`: no two answers look the same on paper.
 pub mod Rules
 pub mod Outcomes
 pub mod Bytes

@@ -1,4 +1,4 @@
--- The rule sets that proofs of functions search with. Assumes nothing.
+-- The rule set that proofs of functions search with. Assumes nothing.
 use borrow.Author.Needs.{needs}
 use borrow.Author.Tests.{le-leb, lt-leb, lt-ltb, le-ltb, eq-eqb, ne-eqb}
 

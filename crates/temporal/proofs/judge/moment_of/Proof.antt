@@ -27,8 +27,9 @@ clock-fault-requires c κs = search needs
 
 returns-2 : tie.Need-returns-2
 unfolding judgedMoment
-returns-2 c = let d = day-clear (c .before .before .before .before .args .y) (c .before .before .before .before .args .mo) (c .before .before .before .before .args .d) 0 (sym (c .before .before .before .day-fault .ensures) ∙ c .before .before .if1 .left) .0 in
-    rw (day-none (clockFault 23 (c .before .before .before .before .args .h) (c .before .before .before .before .args .mi) (c .before .before .before .before .args .s) (c .before .before .before .before .args .u)) d, ← c .before .clock-fault .ensures, ne-eqb _ _ (c .if2 .taken))
+returns-2 c = let a = c .before .before .before .before .args in
+    let d = day-clear (a .y) (a .mo) (a .d) 0 (sym (c .before .before .before .day-fault .ensures) ∙ c .before .before .if1 .left) .0 in
+    rw (day-none (clockFault 23 (a .h) (a .mi) (a .s) (a .u)) d, ← c .before .clock-fault .ensures, ne-eqb _ _ (c .if2 .taken))
 
 cast-year : tie.Need-cast-year
 cast-year c = let k = day-clear _ _ _ 0 (sym (c .before .before .before .day-fault .ensures) ∙ c .before .before .if1 .left) .0 in omega arith
@@ -53,8 +54,9 @@ cast-micros c = let k = clock-clear _ _ _ _ _ (sym (c .before .clock-fault .ensu
 
 returns-3 : tie.Need-returns-3
 unfolding judgedMoment
-returns-3 c = let d = day-clear (c .before .before .before .before .args .y) (c .before .before .before .before .args .mo) (c .before .before .before .before .args .d) 0 (sym (c .before .before .before .day-fault .ensures) ∙ c .before .before .if1 .left) .0 in
-    rw (day-none (clockFault 23 (c .before .before .before .before .args .h) (c .before .before .before .before .args .mi) (c .before .before .before .before .args .s) (c .before .before .before .before .args .u)) d, ← c .before .clock-fault .ensures, eq-eqb _ _ (c .if2 .left))
+returns-3 c = let a = c .before .before .before .before .args in
+    let d = day-clear (a .y) (a .mo) (a .d) 0 (sym (c .before .before .before .day-fault .ensures) ∙ c .before .before .if1 .left) .0 in
+    rw (day-none (clockFault 23 (a .h) (a .mi) (a .s) (a .u)) d, ← c .before .clock-fault .ensures, eq-eqb _ _ (c .if2 .left))
 
 pub moment-of-spec : {M : Type 1} → statement M
 moment-of-spec =

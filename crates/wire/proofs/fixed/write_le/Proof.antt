@@ -36,7 +36,9 @@ same-length c = search needs
 returns : tie.Need-returns
 returns c = let a = c .before .before .before .before .before .before .before .before .args in
     let w = c .before .before .before .before .before .before .least in
-    rw (← w .ensures) (wrote (a .buf .now) (leBytes (w .result) (a .v)) _ (a .at) (w .result) _ (leBytes-length (w .result) (a .v)) (room _ _ _ _ (c .before .before .before .before .before .has-room .ensures) (c .before .before .before .before .if1 .taken)) refl (c .before .before .put-le .ensures))
+    let r = room _ _ _ _ (c .before .before .before .before .before .has-room .ensures) (c .before .before .before .before .if1 .taken) in
+    rw (← w .ensures)
+    (wrote (a .buf .now) (leBytes (w .result) (a .v)) _ (a .at) (w .result) _ (leBytes-length (w .result) (a .v)) r refl (c .before .before .put-le .ensures))
 
 refuse-requires : tie.Need-refuse-requires
 refuse-requires c κs = search needs
@@ -44,7 +46,8 @@ refuse-requires c κs = search needs
 returns-2 : tie.Need-returns-2
 returns-2 c = let a = c .before .before .before .before .before .args in
     let w = c .before .before .before .least in
-    rw (← w .ensures) (not-wrote (a .buf .now) (leBytes (w .result) (a .v)) (a .at) (w .result) _ (leBytes-length (w .result) (a .v)) (no-room _ _ _ _ (c .before .before .has-room .ensures) (c .before .if1 .left)) (c .refuse .ensures))
+    let r = no-room _ _ _ _ (c .before .before .has-room .ensures) (c .before .if1 .left) in
+    rw (← w .ensures) (not-wrote (a .buf .now) (leBytes (w .result) (a .v)) (a .at) (w .result) _ (leBytes-length (w .result) (a .v)) r (c .refuse .ensures))
 
 pub write-le-spec : {M : Type 1} → statement M
 write-le-spec =
