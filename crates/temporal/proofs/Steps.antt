@@ -3,7 +3,7 @@ use Prim.Native.Nat.{ℕ, zero, suc, _+_, _^_, _≤_, _<_, min}
 use mathlib.Core.Path.{_≡_, refl, sym}
 use mathlib.Core.Bool.{true, false, true≢false}
 use mathlib.Core.List.{List, [], _∷_, _++_}
-use native.Mathlib.Nat.{zero-add, add-zero, min-eq-left}
+use native.Mathlib.Nat.{zero-add, suc-add, add-zero, min-eq-left}
 use native.Mathlib.Omega.{arith}
 use borrow.Author.Tests.{le-leb, lt-leb}
 use lib.ListN.{length, take, drop}
@@ -28,8 +28,8 @@ use Rattle.temporal.specs.Reading.{sizeOf, wholeIn, unitsIn, fault, deco
 -- the part after k bytes, of k + w
 drop-take : (k w : ℕ) (l : List ℕ) → drop k (take (k + w) l) ≡ take w (drop k l)
 drop-take zero w l = rw zero-add
-drop-take (suc k) w [] = let e : suc k + w ≡ suc (k + w) = omega arith in rw e (sym (take-nil w))
-drop-take (suc k) w (x ∷ l) = let e : suc k + w ≡ suc (k + w) = omega arith in rw e (drop-take k w l)
+drop-take (suc k) w [] = rw (suc-add k w) (sym (take-nil w))
+drop-take (suc k) w (x ∷ l) = rw (suc-add k w) (drop-take k w l)
 
 -- what is stored the least significant byte first has no fraction
 pub little-whole : (k : Kind) → isBig k ≡ false → fractionSize k ≡ 0
@@ -66,9 +66,9 @@ module _ (kind : Kind) (s : List ℕ) (at r : ℕ) where
       → (r ≡ unitsIn kind (take (sizeOf kind) (drop at s))) × (r < 256 ^ fractionSize kind)
   unfolding unitsIn sizeOf
   units-big k w e f h b p q =
-      let e₈ : w ≤ 8 = omega arith in
-      let p₁ : r ≡ beValue (take w (drop (at + k) s)) = rw (min-eq-left e₈) at p in
-      let q₁ : r < 256 ^ w = rw (min-eq-left e₈) at q in
+      let l : w ≤ 8 = omega arith in
+      let p₁ : r ≡ beValue (take w (drop (at + k) s)) = rw (min-eq-left l) at p in
+      let q₁ : r < 256 ^ w = rw (min-eq-left l) at q in
       rw (b, ← e, ← f, drop-take k w (drop at s), drop-drop k at s) (p₁, q₁)
 
 -- no fraction
