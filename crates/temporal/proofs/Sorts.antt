@@ -1,5 +1,5 @@
--- Sorts of temporals: one whose sort was tested is of that sort, and one that a match left over, by the tags that are left, is of no such sort and has
--- no such parts. Assumes nothing.
+-- Sorts of temporals: one whose sort was tested is of that sort, and one that a match left over, by the tags that are left, is of no such sort and
+-- has no such parts. Assumes nothing.
 use mathlib.Core.Path.{_≡_, refl}
 use mathlib.Core.Bool.{true, false, false≢true}
 use mathlib.Core.List.{[], _∷_}

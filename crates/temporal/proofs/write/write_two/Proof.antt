@@ -1,5 +1,5 @@
--- `temporal::write::write_two` meets its contract. There is room for both runs of bytes, so both are written, and two writes in a row are one. Assumes
--- nothing.
+-- `temporal::write::write_two` meets its contract. There is room for both runs of bytes, so both are written, and two writes in a row are one.
+-- Assumes nothing.
 use native.Mathlib.Omega.{arith}
 use mathlib.Core.Path.{_≡_}
 use Prim.Native.Nat.{_+_, _≤_, min}

@@ -1,4 +1,5 @@
--- `wire::fixed::le` meets its contract. The loop goes from the last byte to the first. Its invariant: the bytes from i on are read, and their number has as many bytes. Assumes nothing.
+-- `wire::fixed::le` meets its contract. The loop goes from the last byte to the first. Its invariant: the bytes from i on are read, and their number
+-- has as many bytes. Assumes nothing.
 use Prim.Native.Nat.{_≤_, suc, _<_, _+_, _-_, _^_}
 use mathlib.Core.Path.{_≡_}
 use native.Mathlib.Omega.{arith}

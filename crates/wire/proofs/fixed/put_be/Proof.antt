@@ -1,4 +1,5 @@
--- `wire::fixed::put_be` meets its contract. The loop goes from the last byte to the first. Its invariant: what stands before at, then the bytes of the rest, then what stands from at + i on, is what is wanted. Assumes nothing.
+-- `wire::fixed::put_be` meets its contract. The loop goes from the last byte to the first. Its invariant: what stands before at, then the bytes of
+-- the rest, then what stands from at + i on, is what is wanted. Assumes nothing.
 use Prim.Native.Nat.{_≤_, _+_}
 use mathlib.Core.Path.{_≡_, refl, _∙_}
 use mathlib.Core.List.{_++_}

@@ -1,4 +1,5 @@
--- `wire::fixed::put_le` meets its contract. The loop's invariant: what stands before at + i, then the bytes of the rest, then what stands from at + k on, is what is wanted. Assumes nothing.
+-- `wire::fixed::put_le` meets its contract. The loop's invariant: what stands before at + i, then the bytes of the rest, then what stands from at + k
+-- on, is what is wanted. Assumes nothing.
 use Prim.Native.Nat.{_≤_, _+_, _-_}
 use mathlib.Core.Path.{_≡_, refl, _∙_}
 use mathlib.Core.List.{_++_}
