@@ -1,7 +1,7 @@
 -- Values and what they say: which a column takes, and the bytes that it stores. Laws for the writers of the code. Assumes nothing.
 use Prim.Native.Nat.{ℕ, _+_, _-_, _/_, _^_, _≤_, min}
 use mathlib.Core.Path.{_≡_, refl, sym, ap, _∙_}
-use mathlib.Core.Bool.{true, false, _&&_}
+use mathlib.Core.Bool.{true, false, _&&_, true≢false, false≢true}
 use mathlib.Core.Logic.{dite}
 use mathlib.Core.List.{List, [], _++_, append-nil}
 use native.Mathlib.Decide.{decLe}
@@ -144,7 +144,7 @@ pub in-none : (n : ℕ) (s : List ℕ) (v : Value) → isLent s v ≡ true → f
 unfolding isIn domain
 in-none n s v h = rw h
 
--- what is lent is no longer than the list
+-- the bytes of a value that are lent end within the list
 pub lent-fits : (s : List ℕ) (v : Value) → isLent s v ≡ true → startOf v + lenOf v ≤ length s
 unfolding isLent
 lent-fits s v h = leb-true (startOf v + lenOf v) (length s) h
@@ -153,6 +153,11 @@ lent-fits s v h = leb-true (startOf v + lenOf v) (length s) h
 pub is-in : (sh : Shape) (s : List ℕ) (v : Value) → isIn sh s v ≡ true → (isLent s v ≡ true) × (domain sh (datumOf s v) ≡ true)
 unfolding isIn
 is-in sh s v h = both (isLent s v) (domain sh (datumOf s v)) h
+
+-- a column that there is not takes none
+pub none-in : (n : ℕ) (s : List ℕ) (v : Value) → isIn (NotTaken n) s v ≡ true → ⊥
+unfolding domain
+none-in n s v h = false≢true (is-in (NotTaken n) s v h .1)
 
 -- ---- how many bytes it is stored in
 pub size-is : (sh : Shape) (s : List ℕ) (v : Value) → isIn sh s v ≡ true → need sh (bytesOf sh (datumOf s v)) ≡ length (bytesOf sh (datumOf s v))
@@ -228,14 +233,14 @@ put-timed k s v buf at h =
 -- ---- the refusals before that
 pub not-taken : (sh : Shape) (p : ℕ) → isTaken sh ≡ false → taken sh p ≡ refuse (refusalOf sh) p
 unfolding isTaken taken refusalOf
-not-taken (Unsigned k) p h = let z : _≡_ {A = ℕ} 0 1 = cc in absurd (omega arith)
-not-taken (Signed k) p h = let z : _≡_ {A = ℕ} 0 1 = cc in absurd (omega arith)
-not-taken FloatBits p h = let z : _≡_ {A = ℕ} 0 1 = cc in absurd (omega arith)
-not-taken DoubleBits p h = let z : _≡_ {A = ℕ} 0 1 = cc in absurd (omega arith)
-not-taken YearByte p h = let z : _≡_ {A = ℕ} 0 1 = cc in absurd (omega arith)
-not-taken (Timed k) p h = let z : _≡_ {A = ℕ} 0 1 = cc in absurd (omega arith)
-not-taken (Fixed n) p h = let z : _≡_ {A = ℕ} 0 1 = cc in absurd (omega arith)
-not-taken (Counted k) p h = let z : _≡_ {A = ℕ} 0 1 = cc in absurd (omega arith)
+not-taken (Unsigned k) p h = absurd (true≢false h)
+not-taken (Signed k) p h = absurd (true≢false h)
+not-taken FloatBits p h = absurd (true≢false h)
+not-taken DoubleBits p h = absurd (true≢false h)
+not-taken YearByte p h = absurd (true≢false h)
+not-taken (Timed k) p h = absurd (true≢false h)
+not-taken (Fixed n) p h = absurd (true≢false h)
+not-taken (Counted k) p h = absurd (true≢false h)
 not-taken (NotTaken n) p h = refl
 
 -- what a value is stored as, by the two tests

@@ -2,7 +2,7 @@
 -- these bytes; and bytes are refused exactly where they end early (9) or have a part out of range (10). Assumes nothing.
 use Prim.Native.Nat.{ℕ, _+_, _≤_}
 use mathlib.Core.Path.{_≡_, refl, sym, ap, _∙_, subst}
-use mathlib.Core.Bool.{true, false}
+use mathlib.Core.Bool.{true, false, false≢true}
 use mathlib.Core.Logic.{⊎-elim}
 use mathlib.Core.List.{List, _++_}
 use native.Mathlib.Omega.{arith}
@@ -44,7 +44,7 @@ taken-at YearByte p h = refl
 taken-at (Timed k) p h = refl
 taken-at (Fixed n) p h = refl
 taken-at (Counted k) p h = refl
-taken-at (NotTaken n) p h = let z : _≡_ {A = ℕ} 0 1 = cc in absurd (omega arith)
+taken-at (NotTaken n) p h = absurd (false≢true h)
 
 pub taken-same : (sh sh′ : Shape) (p : ℕ) → taken sh p ≡ ok sh′ → (sh′ ≡ sh) × (isTaken sh ≡ true)
 unfolding taken isTaken
