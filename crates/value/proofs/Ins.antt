@@ -1,7 +1,7 @@
 -- Values and what they say: which a column takes, and the bytes that it stores. Laws for the writers of the code. Assumes nothing.
 use Prim.Native.Nat.{ℕ, _+_, _-_, _/_, _^_, _≤_, min}
 use mathlib.Core.Path.{_≡_, refl, sym, ap, _∙_}
-use mathlib.Core.Bool.{true, false, _&&_, true≢false, false≢true}
+use mathlib.Core.Bool.{true, false, _&&_, false≢true}
 use mathlib.Core.Logic.{dite}
 use mathlib.Core.List.{List, [], _++_, append-nil}
 use native.Mathlib.Decide.{decLe}
@@ -232,16 +232,8 @@ put-timed k s v buf at h =
 
 -- ---- the refusals before that
 pub not-taken : (sh : Shape) (p : ℕ) → isTaken sh ≡ false → taken sh p ≡ refuse (refusalOf sh) p
-unfolding isTaken taken refusalOf
-not-taken (Unsigned k) p h = absurd (true≢false h)
-not-taken (Signed k) p h = absurd (true≢false h)
-not-taken FloatBits p h = absurd (true≢false h)
-not-taken DoubleBits p h = absurd (true≢false h)
-not-taken YearByte p h = absurd (true≢false h)
-not-taken (Timed k) p h = absurd (true≢false h)
-not-taken (Fixed n) p h = absurd (true≢false h)
-not-taken (Counted k) p h = absurd (true≢false h)
-not-taken (NotTaken n) p h = refl
+unfolding taken
+not-taken sh p h = rw h
 
 -- what a value is stored as, by the two tests
 pub stored-not : (sh : Shape) (p : ℕ) (s : List ℕ) (v : Value) → isTaken sh ≡ false → storedBytes sh p s v ≡ refuse (refusalOf sh) p

@@ -5,14 +5,13 @@ use mathlib.Core.List.{[], _∷_}
 use types.Run.{OneOf, miss}
 use denote.Enum.Declared.{tagOf}
 use lib.IntN.{pos}
-use Rattle.temporal.specs.declared.parts.Temporal.the-variants.{Since}
 use Rattle.value.specs.declared.datum.Value.{Value}
 use Rattle.value.specs.declared.datum.Value.the-variants.{Null, Int, Uint, Float, Double, Year, When, Bytes}
 use Rattle.value.proofs.datum.Value.{the-type as value-type}
 use Rattle.value.specs.declared.shape.Shape.{Shape}
 use Rattle.value.specs.declared.shape.Shape.the-variants.{Unsigned, Signed, FloatBits, DoubleBits, YearByte, Timed, Fixed, Counted, NotTaken}
 use Rattle.value.proofs.shape.Shape.{the-type as shape-type}
-use Rattle.value.specs.Data.{intIn, numberIn, whenIn}
+use Rattle.value.specs.Data.{intIn, numberIn, noWhen, whenIn}
 use Rattle.value.specs.Columns.{isTaken, refusalOf}
 use Rattle.value.specs.Reading.{datumOf}
 use Rattle.value.specs.Storing.{startOf, lenOf}
@@ -40,7 +39,7 @@ not-number (Year n) o = absurd (miss (0 ∷ 1 ∷ 6 ∷ 7 ∷ []) 5 tt o)
 not-number (When t) o = refl
 not-number (Bytes start len) o = refl
 
-pub not-when : (v : Value) → OneOf (0 ∷ 1 ∷ 2 ∷ 3 ∷ 4 ∷ 5 ∷ 7 ∷ []) (tagOf value-type v) → whenIn (datumOf [] v) ≡ Since (record { seconds = 0; micros = 0 })
+pub not-when : (v : Value) → OneOf (0 ∷ 1 ∷ 2 ∷ 3 ∷ 4 ∷ 5 ∷ 7 ∷ []) (tagOf value-type v) → whenIn (datumOf [] v) ≡ noWhen
 unfolding whenIn datumOf
 not-when Null o = refl
 not-when (Int z) o = refl
