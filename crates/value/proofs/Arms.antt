@@ -7,18 +7,15 @@ use mathlib.Core.Path.{_≡_, refl, sym, subst, _∙_}
 use mathlib.Core.Logic.{inl, inr, ⊎-elim}
 use native.Mathlib.Nat.{le-of-suc-le-suc, not-suc-le-zero, eq-or-lt-of-le}
 use lib.Dec.{T}
+use lib.ListN.{getD}
 use types.Run.{OneOf}
 use denote.Enum.Declared.{tagOf}
 use Rattle.value.specs.declared.column.Family.{Family}
 use Rattle.value.proofs.column.Family.{the-type}
 use Rattle.value.specs.declared.column.Family.the-variants.{Integer, Float, Double, Year, Timestamp, Date, Time, Datetime, Timestamp2, Datetime2, Time2, Varchar, Char, Blob, Json, Bit, Decimal, Enum, Set, Unknown}
 
--- ---- keys
--- a test passes at each of a list
-abbrev pub every : (ℕ → Bool) → List ℕ → Bool
-every f [] = true
-every f (x ∷ xs) = f x && every f xs
-
+-- ---- tests
+-- one part of an `&&`
 pub left : (a b : Bool) → T (a && b) → T a
 left true b t = tt
 left false b t = t
@@ -27,13 +24,18 @@ pub right : (a b : Bool) → T (a && b) → T b
 right true b t = t
 right false b t = absurd t
 
+-- a test passes at each of a list, and so at whatever is one of it
+abbrev pub every : (ℕ → Bool) → List ℕ → Bool
+every f [] = true
+every f (x ∷ xs) = f x && every f xs
+
 at-keys : (f : ℕ → Bool) (ks : List ℕ) (x : ℕ) → T (every f ks) → OneOf ks x → T (f x)
 at-keys f [] x t e = absurd e
 at-keys f (k ∷ []) x t e = subst (λ (y : ℕ). T (f y)) (sym e) (left (f k) true t)
 at-keys f (k ∷ (l ∷ ks)) x t (inl e) = subst (λ (y : ℕ). T (f y)) (sym e) (left (f k) (every f (l ∷ ks)) t)
 at-keys f (k ∷ (l ∷ ks)) x t (inr e) = at-keys f (l ∷ ks) x (right (f k) (every f (l ∷ ks)) t) e
 
--- a test passes at each number below a bound
+-- a test passes at each number below a bound, and so at any of them
 abbrev pub each : (ℕ → Bool) → ℕ → Bool
 each f zero = true
 each f (suc n) = f n && each f n
@@ -47,17 +49,12 @@ below f (suc n) t k h =
 
 -- ---- tags
 -- a family of each tag
-abbrev pub nth : List Family → ℕ → Family
-nth [] n = Unknown
-nth (f ∷ fs) zero = f
-nth (f ∷ fs) (suc n) = nth fs n
-
 abbrev pub sample : ℕ → Family
 sample n =
-    nth
+    getD
     (Integer 0 ∷ Float ∷ Double ∷ Year ∷ Timestamp ∷ Date ∷ Time ∷ Datetime ∷ Timestamp2 ∷
     Datetime2 ∷ Time2 ∷ Varchar ∷ Char ∷ Blob ∷ Json ∷ Bit ∷ Decimal ∷ Enum ∷ Set ∷ [])
-    n
+    n Unknown
 
 -- what does not depend on an integer's width is told by the tag
 by-tag : {A : Type 0} (g : Family → A) → ((k : ℕ) → g (Integer k) ≡ g (Integer 0)) → (f : Family) → g f ≡ g (sample (tagOf the-type f))

@@ -30,6 +30,7 @@ use Rattle.value.specs.Reading.{taken, datumOf}
 use Rattle.value.specs.Storing.{startOf, lenOf, isLent, isIn, storedBytes, writeValue, sizeOf}
 use Rattle.value.proofs.Facts.{both, need-bytes}
 use Rattle.value.proofs.Laws.{taken-at}
+use Rattle.value.proofs.Cases.{narrow}
 use Rattle.value.proofs.Signs.{halves-is}
 
 -- ---- all but its bytes a value says whatever is lent
@@ -195,11 +196,11 @@ year-least s v h =
 -- ---- and which bytes these are
 pub put-unsigned : (k : ℕ) (s : List ℕ) (v : Value) → k ≤ 8 → bytesOf (Unsigned k) (datumOf s v) ≡ leBytes (min k 8) (numberIn (datumOf [] v))
 unfolding bytesOf
-put-unsigned k s v h = let e : min k 8 ≡ k = omega arith in rw (e, number-any s v)
+put-unsigned k s v h = rw (narrow k h, number-any s v)
 
 pub put-signed : (k most : ℕ) (s : List ℕ) (v : Value) → k ≤ 8 → most + 1 ≡ 256 ^ k → bytesOf (Signed k) (datumOf s v) ≡ leBytes (min k 8) (twosOf (most + 1) (intIn (datumOf [] v)))
 unfolding bytesOf
-put-signed k most s v h m = let e : min k 8 ≡ k = omega arith in rw (e, m, int-any s v)
+put-signed k most s v h m = rw (narrow k h, m, int-any s v)
 
 pub put-float : (s : List ℕ) (v : Value) → bytesOf FloatBits (datumOf s v) ≡ leBytes 4 (numberIn (datumOf [] v))
 unfolding bytesOf
