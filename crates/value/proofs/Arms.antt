@@ -1,28 +1,21 @@
 -- Tests that antt computes: one that passes at each number below a bound, or at each key of an arm of a match, passes at any of them. So an arm that
--- serves several variants tells what they have in common. Assumes nothing.
+-- serves several families tells what they have in common. Assumes nothing.
 use Prim.Native.Nat.{ℕ, zero, suc, _<_}
-use mathlib.Core.Bool.{Bool, true, false, _&&_, _||_, not}
+use mathlib.Core.Bool.{Bool, true, false, _&&_, Bool·beq}
 use mathlib.Core.List.{List, [], _∷_}
 use mathlib.Core.Path.{_≡_, refl, sym, subst, _∙_}
 use mathlib.Core.Logic.{inl, inr, ⊎-elim}
 use native.Mathlib.Nat.{le-of-suc-le-suc, not-suc-le-zero, eq-or-lt-of-le}
-use lib.Dec.{T, ltb, eqb, eqb→eq}
+use lib.Dec.{T}
+use lib.ListN.{getD}
 use types.Run.{OneOf}
 use denote.Enum.Declared.{tagOf}
 use Rattle.value.specs.declared.column.Family.{Family}
 use Rattle.value.proofs.column.Family.{the-type}
-use Rattle.value.specs.declared.shape.Shape.{Shape}
-use Rattle.value.specs.declared.shape.Shape.the-variants.{Unsigned, Signed, FloatBits, DoubleBits, YearByte, Timed, Fixed, Counted, NotTaken}
-use Rattle.value.proofs.shape.Shape.{the-type as shape-type}
-use Rattle.value.specs.Columns.{isTaken}
 use Rattle.value.specs.declared.column.Family.the-variants.{Integer, Float, Double, Year, Timestamp, Date, Time, Datetime, Timestamp2, Datetime2, Time2, Varchar, Char, Blob, Json, Bit, Decimal, Enum, Set, Unknown}
 
--- ---- keys
--- a test passes at each of a list
-abbrev pub every : (ℕ → Bool) → List ℕ → Bool
-every f [] = true
-every f (x ∷ xs) = f x && every f xs
-
+-- ---- tests
+-- one part of an `&&`
 pub left : (a b : Bool) → T (a && b) → T a
 left true b t = tt
 left false b t = t
@@ -31,23 +24,18 @@ pub right : (a b : Bool) → T (a && b) → T b
 right true b t = t
 right false b t = absurd t
 
+-- a test passes at each of a list, and so at whatever is one of it
+abbrev pub every : (ℕ → Bool) → List ℕ → Bool
+every f [] = true
+every f (x ∷ xs) = f x && every f xs
+
 at-keys : (f : ℕ → Bool) (ks : List ℕ) (x : ℕ) → T (every f ks) → OneOf ks x → T (f x)
 at-keys f [] x t e = absurd e
 at-keys f (k ∷ []) x t e = subst (λ (y : ℕ). T (f y)) (sym e) (left (f k) true t)
 at-keys f (k ∷ (l ∷ ks)) x t (inl e) = subst (λ (y : ℕ). T (f y)) (sym e) (left (f k) (every f (l ∷ ks)) t)
 at-keys f (k ∷ (l ∷ ks)) x t (inr e) = at-keys f (l ∷ ks) x (right (f k) (every f (l ∷ ks)) t) e
 
-abbrev pub same : Bool → Bool → Bool
-same true b = b
-same false b = not b
-
-same→eq : (a b : Bool) → T (same a b) → a ≡ b
-same→eq true true t = refl
-same→eq true false t = absurd t
-same→eq false true t = absurd t
-same→eq false false t = refl
-
--- a test passes at each number below a bound
+-- a test passes at each number below a bound, and so at any of them
 abbrev pub each : (ℕ → Bool) → ℕ → Bool
 each f zero = true
 each f (suc n) = f n && each f n
@@ -59,35 +47,14 @@ below f (suc n) t k h =
     (λ (l : k < n). below f n (right (f n) (each f n) t) k l)
     (eq-or-lt-of-le (le-of-suc-le-suc h))
 
-pub or-false : (b : Bool) → (b || false) ≡ b
-or-false true = refl
-or-false false = refl
-
 -- ---- tags
-taken-by-tag : (sh : Shape) → isTaken sh ≡ ltb (tagOf shape-type sh) 8
-unfolding isTaken
-taken-by-tag (Unsigned k) = refl
-taken-by-tag (Signed k) = refl
-taken-by-tag FloatBits = refl
-taken-by-tag DoubleBits = refl
-taken-by-tag YearByte = refl
-taken-by-tag (Timed k) = refl
-taken-by-tag (Fixed n) = refl
-taken-by-tag (Counted k) = refl
-taken-by-tag (NotTaken n) = refl
-
 -- a family of each tag
-abbrev pub nth : List Family → ℕ → Family
-nth [] n = Unknown
-nth (f ∷ fs) zero = f
-nth (f ∷ fs) (suc n) = nth fs n
-
 abbrev pub sample : ℕ → Family
 sample n =
-    nth
+    getD
     (Integer 0 ∷ Float ∷ Double ∷ Year ∷ Timestamp ∷ Date ∷ Time ∷ Datetime ∷ Timestamp2 ∷
     Datetime2 ∷ Time2 ∷ Varchar ∷ Char ∷ Blob ∷ Json ∷ Bit ∷ Decimal ∷ Enum ∷ Set ∷ [])
-    n
+    n Unknown
 
 -- what does not depend on an integer's width is told by the tag
 by-tag : {A : Type 0} (g : Family → A) → ((k : ℕ) → g (Integer k) ≡ g (Integer 0)) → (f : Family) → g f ≡ g (sample (tagOf the-type f))
@@ -112,24 +79,18 @@ by-tag g h Enum = refl
 by-tag g h Set = refl
 by-tag g h Unknown = refl
 
--- so an arm that has the same answer at each of its keys has it at the value
-pub number-at :
-    (g : Family → ℕ) (n : ℕ) (ks : List ℕ) (f : Family) →
-    ((k : ℕ) → g (Integer k) ≡ g (Integer 0)) →
-    T (every (λ (t : ℕ). eqb (g (sample t)) n) ks) → OneOf ks (tagOf the-type f) → g f ≡ n
-number-at g n ks f w t o =
+-- so an arm that has the same answer at each of its keys, by a test of answers, has it at the family
+pub at-arm :
+    {A : Type 0} (eq : A → A → Bool) → ((a b : A) → T (eq a b) → a ≡ b) →
+    (g : Family → A) (a : A) (ks : List ℕ) (f : Family) → ((k : ℕ) → g (Integer k) ≡ g (Integer 0)) →
+    T (every (λ (t : ℕ). eq (g (sample t)) a) ks) → OneOf ks (tagOf the-type f) → g f ≡ a
+at-arm eq eq→ g a ks f w t o =
     let x = tagOf the-type f in
-    by-tag g w f ∙ eqb→eq (g (sample x)) n (at-keys (λ (t : ℕ). eqb (g (sample t)) n) ks x t o)
+    by-tag g w f ∙ eq→ (g (sample x)) a (at-keys (λ (t : ℕ). eq (g (sample t)) a) ks x t o)
 
-pub test-at :
-    (g : Family → Bool) (a : Bool) (ks : List ℕ) (f : Family) →
-    ((k : ℕ) → g (Integer k) ≡ g (Integer 0)) →
-    T (every (λ (t : ℕ). same (g (sample t)) a) ks) → OneOf ks (tagOf the-type f) → g f ≡ a
-test-at g a ks f w t o =
-    let x = tagOf the-type f in
-    by-tag g w f ∙ same→eq (g (sample x)) a (at-keys (λ (t : ℕ). same (g (sample t)) a) ks x t o)
-
-pub taken-at : (ks : List ℕ) (sh : Shape) → T (every (λ (t : ℕ). ltb t 8) ks) → OneOf ks (tagOf shape-type sh) → isTaken sh ≡ true
-taken-at ks sh t o =
-    let x = tagOf shape-type sh in
-    taken-by-tag sh ∙ sym (same→eq true (ltb x 8) (at-keys (λ (t : ℕ). ltb t 8) ks x t o))
+-- the test of answers that are truth values
+pub beq→eq : (a b : Bool) → T (Bool·beq a b) → a ≡ b
+beq→eq true true t = refl
+beq→eq true false t = absurd t
+beq→eq false true t = absurd t
+beq→eq false false t = refl

@@ -3,17 +3,17 @@
 -- value's bytes are the last of its stored bytes. Assumes nothing.
 use Prim.Native.Nat.{ℕ, zero, suc, _+_, _-_, _^_, _≤_, _<_}
 use mathlib.Core.Path.{_≡_, refl, sym, ap, _∙_, subst}
-use mathlib.Core.Bool.{Bool, true, false, _&&_}
-use mathlib.Core.List.{List, [], _∷_, _++_, append-assoc}
-use native.Mathlib.Nat.{sub-zero, suc-sub-suc}
+use mathlib.Core.Bool.{Bool, true, false, _&&_, false≢true}
+use mathlib.Core.List.{List, _++_, append-assoc}
 use native.Mathlib.Omega.{arith}
 use borrow.Author.Tests.{lt-ltb, le-leb, ltb-true, leb-true, eq-eqb, eqb-true}
 use lib.ListN.{length, take, drop, length-append, length-drop, take-append-drop}
-use lib.Seq.{take-at, drop-at, take-take, take-nil, drop-drop, length-take-le}
+use lib.Seq.{take-at, drop-at, take-take, take-add, drop-drop, length-take-le}
 use lib.Dec.{leb, ltb, eqb}
 use Rattle.wire.specs.Outcome.{ok}
 use Rattle.wire.specs.Number.{Bytes, leValue, leBytes}
 use Rattle.wire.specs.Signed.{signedOf, twosOf}
+use Rattle.wire.proofs.Outcomes.{ok-not-refused}
 use Rattle.wire.proofs.Bytes.{leBytes-length}
 use Rattle.wire.proofs.Inverse.{le-back, le-sound, le-bound, bytes-take}
 use Rattle.wire.proofs.Signs.{signs-back, signs-sound, bytes-even}
@@ -28,7 +28,7 @@ use Rattle.value.specs.Reading.{taken, placed, datumOf}
 -- both of an `&&`
 pub both : (a b : Bool) → (a && b) ≡ true → (a ≡ true) × (b ≡ true)
 both true b e = (refl, e)
-both false b e = let z : _≡_ {A = ℕ} 0 1 = cc in absurd (omega arith)
+both false b e = absurd (false≢true e)
 
 -- ---- a value by its sort: what it holds, put back
 abbrev pub made : ℕ → Datum → Datum
@@ -100,7 +100,7 @@ decode-bytes YearByte d h = let w = sorted d 5 _ h in ap year (year-back (number
 decode-bytes (Timed k) d h = let w = sorted d 6 _ h in ap when (timed-back k (whenIn d) (w .1) .1) ∙ w .0
 decode-bytes (Fixed n) d h = sorted d 7 _ h .0
 decode-bytes (Counted k) d h = ap bytes (drop-at (leBytes k (length (bytesIn d))) (bytesIn d) k (leBytes-length k (length (bytesIn d)))) ∙ sorted d 7 _ h .0
-decode-bytes (NotTaken n) d h = let z : _≡_ {A = ℕ} 0 1 = cc in absurd (omega arith)
+decode-bytes (NotTaken n) d h = absurd (false≢true h)
 
 pub fault-bytes : (sh : Shape) (d : Datum) → domain sh d ≡ true → fault sh (bytesOf sh d) ≡ 0
 unfolding fault bytesOf domain
@@ -125,7 +125,7 @@ taken-domain YearByte d p h = refl
 taken-domain (Timed k) d p h = refl
 taken-domain (Fixed n) d p h = refl
 taken-domain (Counted k) d p h = refl
-taken-domain (NotTaken n) d p h = let z : _≡_ {A = ℕ} 0 1 = cc in absurd (omega arith)
+taken-domain (NotTaken n) d p h = absurd (false≢true h)
 
 -- ---- (3)
 -- a number of k bytes is in range, and its bytes are those
@@ -162,7 +162,7 @@ whole YearByte b z h n r t =
 whole (Timed k) b z h n r t = timed-sound k b (sym n) h r
 whole (Fixed n) b z h e r t = (eq-eqb (length b) n (sym e), refl)
 whole (Counted k) b z h n r t = counted-whole k b h n
-whole (NotTaken n) b z h e r t = let z : _≡_ {A = ℕ} 0 1 = cc in absurd (omega arith)
+whole (NotTaken n) b z h e r t = absurd (ok-not-refused (sym t))
 
 -- ---- (4)
 pub need-take : (sh : Shape) (s : List ℕ) → need sh s ≤ length s → need sh (take (need sh s) s) ≡ need sh s
@@ -178,12 +178,6 @@ need-take (Counted k) s h = ap (λ (x : List ℕ). k + leValue x) (take-take k (
 need-take (NotTaken n) s h = refl
 
 -- ---- (5)
-drop-take : (i m : ℕ) (l : List ℕ) → i ≤ m → drop i (take m l) ≡ take (m - i) (drop i l)
-drop-take zero m l h = ap (λ (x : ℕ). take x l) (sym (sub-zero m))
-drop-take (suc i) zero l h = absurd (omega arith)
-drop-take (suc i) (suc m) [] h = sym (take-nil (suc m - suc i))
-drop-take (suc i) (suc m) (b ∷ l) h = drop-take i m l (omega arith) ∙ ap (λ (x : ℕ). take x (drop i l)) (sym (suc-sub-suc m i))
-
 -- the bytes behind the first k of the n at a place
 said-bytes : (s : List ℕ) (at k n : ℕ) → k ≤ n → n ≤ length (drop at s)
     → take (length (drop k (take n (drop at s)))) (drop (at + n - length (drop k (take n (drop at s)))) s) ≡ drop k (take n (drop at s))
@@ -191,7 +185,10 @@ said-bytes s at k n m h =
     let t = drop at s in
     let l : length (drop k (take n t)) ≡ n - k = length-drop k (take n t) ∙ ap (λ (x : ℕ). x - k) (length-take-le n t h) in
     let p : at + n - (n - k) ≡ at + k = omega arith in
-    let r : drop k (take n t) ≡ take (n - k) (drop (at + k) s) = drop-take k n t m ∙ ap (take (n - k)) (drop-drop k at s) in
+    let w : n ≡ k + (n - k) = omega arith in
+    let r : drop k (take n t) ≡ take (n - k) (drop (at + k) s) =
+    ap (λ (x : ℕ). drop k (take x t)) w ∙ ap (drop k) (take-add k (n - k) t)
+    ∙ drop-at (take k t) (take (n - k) (drop k t)) k (length-take-le k t (omega arith)) ∙ ap (take (n - k)) (drop-drop k at s) in
     ap (λ (x : ℕ). take x (drop (at + n - x) s)) l ∙ ap (λ (x : ℕ). take (n - k) (drop x s)) p ∙ sym r
 
 pub said : (sh : Shape) (s : List ℕ) (at n : ℕ) → need sh (drop at s) ≡ n → n ≤ length (drop at s)

@@ -1,7 +1,7 @@
 -- Values and what they say: which a column takes, and the bytes that it stores. Laws for the writers of the code. Assumes nothing.
 use Prim.Native.Nat.{ℕ, _+_, _-_, _/_, _^_, _≤_, min}
 use mathlib.Core.Path.{_≡_, refl, sym, ap, _∙_}
-use mathlib.Core.Bool.{true, false, _&&_}
+use mathlib.Core.Bool.{true, false, _&&_, false≢true}
 use mathlib.Core.Logic.{dite}
 use mathlib.Core.List.{List, [], _++_, append-nil}
 use native.Mathlib.Decide.{decLe}
@@ -30,6 +30,7 @@ use Rattle.value.specs.Reading.{taken, datumOf}
 use Rattle.value.specs.Storing.{startOf, lenOf, isLent, isIn, storedBytes, writeValue, sizeOf}
 use Rattle.value.proofs.Facts.{both, need-bytes}
 use Rattle.value.proofs.Laws.{taken-at}
+use Rattle.value.proofs.Cases.{narrow}
 use Rattle.value.proofs.Signs.{halves-is}
 
 -- ---- all but its bytes a value says whatever is lent
@@ -144,7 +145,7 @@ pub in-none : (n : ℕ) (s : List ℕ) (v : Value) → isLent s v ≡ true → f
 unfolding isIn domain
 in-none n s v h = rw h
 
--- what is lent is no longer than the list
+-- the bytes of a value that are lent end within the list
 pub lent-fits : (s : List ℕ) (v : Value) → isLent s v ≡ true → startOf v + lenOf v ≤ length s
 unfolding isLent
 lent-fits s v h = leb-true (startOf v + lenOf v) (length s) h
@@ -153,6 +154,11 @@ lent-fits s v h = leb-true (startOf v + lenOf v) (length s) h
 pub is-in : (sh : Shape) (s : List ℕ) (v : Value) → isIn sh s v ≡ true → (isLent s v ≡ true) × (domain sh (datumOf s v) ≡ true)
 unfolding isIn
 is-in sh s v h = both (isLent s v) (domain sh (datumOf s v)) h
+
+-- a column that there is not takes none
+pub none-in : (n : ℕ) (s : List ℕ) (v : Value) → isIn (NotTaken n) s v ≡ true → ⊥
+unfolding domain
+none-in n s v h = false≢true (is-in (NotTaken n) s v h .1)
 
 -- ---- how many bytes it is stored in
 pub size-is : (sh : Shape) (s : List ℕ) (v : Value) → isIn sh s v ≡ true → need sh (bytesOf sh (datumOf s v)) ≡ length (bytesOf sh (datumOf s v))
@@ -190,11 +196,11 @@ year-least s v h =
 -- ---- and which bytes these are
 pub put-unsigned : (k : ℕ) (s : List ℕ) (v : Value) → k ≤ 8 → bytesOf (Unsigned k) (datumOf s v) ≡ leBytes (min k 8) (numberIn (datumOf [] v))
 unfolding bytesOf
-put-unsigned k s v h = let e : min k 8 ≡ k = omega arith in rw (e, number-any s v)
+put-unsigned k s v h = rw (narrow k h, number-any s v)
 
 pub put-signed : (k most : ℕ) (s : List ℕ) (v : Value) → k ≤ 8 → most + 1 ≡ 256 ^ k → bytesOf (Signed k) (datumOf s v) ≡ leBytes (min k 8) (twosOf (most + 1) (intIn (datumOf [] v)))
 unfolding bytesOf
-put-signed k most s v h m = let e : min k 8 ≡ k = omega arith in rw (e, m, int-any s v)
+put-signed k most s v h m = rw (narrow k h, m, int-any s v)
 
 pub put-float : (s : List ℕ) (v : Value) → bytesOf FloatBits (datumOf s v) ≡ leBytes 4 (numberIn (datumOf [] v))
 unfolding bytesOf
@@ -227,16 +233,8 @@ put-timed k s v buf at h =
 
 -- ---- the refusals before that
 pub not-taken : (sh : Shape) (p : ℕ) → isTaken sh ≡ false → taken sh p ≡ refuse (refusalOf sh) p
-unfolding isTaken taken refusalOf
-not-taken (Unsigned k) p h = let z : _≡_ {A = ℕ} 0 1 = cc in absurd (omega arith)
-not-taken (Signed k) p h = let z : _≡_ {A = ℕ} 0 1 = cc in absurd (omega arith)
-not-taken FloatBits p h = let z : _≡_ {A = ℕ} 0 1 = cc in absurd (omega arith)
-not-taken DoubleBits p h = let z : _≡_ {A = ℕ} 0 1 = cc in absurd (omega arith)
-not-taken YearByte p h = let z : _≡_ {A = ℕ} 0 1 = cc in absurd (omega arith)
-not-taken (Timed k) p h = let z : _≡_ {A = ℕ} 0 1 = cc in absurd (omega arith)
-not-taken (Fixed n) p h = let z : _≡_ {A = ℕ} 0 1 = cc in absurd (omega arith)
-not-taken (Counted k) p h = let z : _≡_ {A = ℕ} 0 1 = cc in absurd (omega arith)
-not-taken (NotTaken n) p h = refl
+unfolding taken
+not-taken sh p h = rw h
 
 -- what a value is stored as, by the two tests
 pub stored-not : (sh : Shape) (p : ℕ) (s : List ℕ) (v : Value) → isTaken sh ≡ false → storedBytes sh p s v ≡ refuse (refusalOf sh) p

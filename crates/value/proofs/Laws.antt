@@ -16,11 +16,10 @@ use Rattle.wire.specs.Number.{Bytes}
 use Rattle.wire.proofs.Outcomes.{after-is-ok, after-refuses, test-is-ok, test-refuses, same-ok, ok-not-refused}
 use Rattle.wire.proofs.Inverse.{bytes-take}
 use Rattle.value.specs.declared.shape.Shape.{Shape}
-use Rattle.value.specs.declared.shape.Shape.the-variants.{Unsigned, Signed, FloatBits, DoubleBits, YearByte, Timed, Fixed, Counted, NotTaken}
 use Rattle.value.specs.Data.{Datum}
 use Rattle.value.specs.Domains.{domain}
 use Rattle.value.specs.Shapes.{bytesOf, need, decode, fault, Sized}
-use Rattle.value.specs.Columns.{isTaken}
+use Rattle.value.specs.Columns.{isTaken, refusalOf}
 use Rattle.value.specs.Reading.{taken, cut, judged, readDatum, placed, datumOf, Fails, short, range}
 use Rattle.value.proofs.Facts.{need-bytes, decode-bytes, fault-bytes, taken-domain, whole, need-take, said}
 
@@ -35,28 +34,14 @@ back sh d p rest h =
 
 -- a shape that there is, is there at every place
 pub taken-at : (sh : Shape) (p : ℕ) → isTaken sh ≡ true → taken sh p ≡ ok sh
-unfolding isTaken taken
-taken-at (Unsigned k) p h = refl
-taken-at (Signed k) p h = refl
-taken-at FloatBits p h = refl
-taken-at DoubleBits p h = refl
-taken-at YearByte p h = refl
-taken-at (Timed k) p h = refl
-taken-at (Fixed n) p h = refl
-taken-at (Counted k) p h = refl
-taken-at (NotTaken n) p h = let z : _≡_ {A = ℕ} 0 1 = cc in absurd (omega arith)
+unfolding taken
+taken-at sh p h = rw h
 
 pub taken-same : (sh sh′ : Shape) (p : ℕ) → taken sh p ≡ ok sh′ → (sh′ ≡ sh) × (isTaken sh ≡ true)
-unfolding taken isTaken
-taken-same (Unsigned k) sh′ p e = (cc, refl)
-taken-same (Signed k) sh′ p e = (cc, refl)
-taken-same FloatBits sh′ p e = (cc, refl)
-taken-same DoubleBits sh′ p e = (cc, refl)
-taken-same YearByte sh′ p e = (cc, refl)
-taken-same (Timed k) sh′ p e = (cc, refl)
-taken-same (Fixed n) sh′ p e = (cc, refl)
-taken-same (Counted k) sh′ p e = (cc, refl)
-taken-same (NotTaken n) sh′ p e = absurd (ok-not-refused (sym e))
+unfolding taken
+taken-same sh sh′ p e =
+    let t = test-is-ok (isTaken sh) sh (why (refusalOf sh) p) sh′ e in
+    (sym (t .1), t .0)
 
 -- what a reading that went well says
 pub record Took (sh : Shape) (s : List ℕ) (d : Datum) (n : ℕ) : Type 0 where

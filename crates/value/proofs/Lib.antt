@@ -1,6 +1,7 @@
 -- The laws of the crate. `Facts`: what each shape owes, a clause for each. `Laws`: what follows for all shapes at once: a stored form is unique. `Tables`: what
--- holds of every column. `Charts`: document 01's own facts of column types, computed. `Signs`: signed machine numbers. `Cases`, `Ins`, `Arms`: what
--- the proofs of readers, of writers, and of a match whose arms serve several variants use. `Views`: no two answers look the same on paper.
+-- holds of every column. `Charts`: document 01's own facts of column types, computed. `Signs`: signed machine numbers. `Cases`, `Ins`: what the proofs
+-- of readers and of writers use. `Arms`, `Sorts`: for a match with an arm that serves several families, or several sorts of values or shapes. `Views`: no
+-- two answers look the same on paper.
 pub mod Facts
 pub mod Laws
 pub mod Tables
@@ -9,4 +10,5 @@ pub mod Signs
 pub mod Cases
 pub mod Ins
 pub mod Arms
+pub mod Sorts
 pub mod Views

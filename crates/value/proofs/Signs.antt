@@ -7,7 +7,7 @@ use native.Mathlib.Omega.{arith}
 use borrow.Author.Tests.{lt-ltb, le-ltb, ltb-true}
 use lib.Signed.{ltZ, nonNeg}
 use lib.Dec.{T, ltb, lit<}
-use mathlib.Core.Bool.{true, false}
+use mathlib.Core.Bool.{true, false, true≢false}
 use lib.IntN.{ℤ, pos, negsuc, _-ℤ_, natAbs}
 use mir.Syntax.{w64}
 use mir.Val.{SFits, Fits, toZ, ofZ}
@@ -59,7 +59,7 @@ turned z f t =
 -- ---- `z as u64` of one that is not negative
 keeps : (z : ℤ) → SFits w64 z → ltZ z (pos 0) ≡ false → T (nonNeg z) × Fits w64 (natAbs z) × (z ≡ pos (natAbs z))
 keeps (pos n) f t = (tt, record { fits = lt-trans (f .sfits) (lit< tt) }, refl)
-keeps (negsuc n) f t = let z : _≡_ {A = ℕ} 0 1 = cc in absurd (omega arith)
+keeps (negsuc n) f t = absurd (true≢false t)
 
 pub same : (z : ℤ) → SFits w64 z → ltZ (toZ w64 (ofZ w64 z)) (pos 0) ≡ false
     → (T (nonNeg (toZ w64 (ofZ w64 z))) × Fits w64 (natAbs (toZ w64 (ofZ w64 z)))) × (z ≡ pos (natAbs (toZ w64 (ofZ w64 z))))

@@ -47,51 +47,41 @@ familyOf t =
     (cond (eqb t 255) Blob
     Unknown)))))))))))))))))))))))))))
 
--- whether there is such a type
-unfoldable pub isKnown : Family → Bool
-isKnown (Integer k) = true
-isKnown Float = true
-isKnown Double = true
-isKnown Year = true
-isKnown Timestamp = true
-isKnown Date = true
-isKnown Time = true
-isKnown Datetime = true
-isKnown Timestamp2 = true
-isKnown Datetime2 = true
-isKnown Time2 = true
-isKnown Varchar = true
-isKnown Char = true
-isKnown Blob = true
-isKnown Json = true
-isKnown Bit = true
-isKnown Decimal = true
-isKnown Enum = true
-isKnown Set = true
-isKnown Unknown = false
+-- ---- what the family alone tells: whether there is such a type, how many bytes of metadata it has, and whether it is numeric.
+-- "Numeric are types 1, 2, 3, 4, 5, 8, 9, 246": to these document 01 gives a signedness bit
+unfoldable pub traitsOf : Family → Bool × ℕ × Bool
+traitsOf (Integer k) = (true, 0, true)
+traitsOf Float = (true, 1, true)
+traitsOf Double = (true, 1, true)
+traitsOf Year = (true, 0, false)
+traitsOf Timestamp = (true, 0, false)
+traitsOf Date = (true, 0, false)
+traitsOf Time = (true, 0, false)
+traitsOf Datetime = (true, 0, false)
+traitsOf Timestamp2 = (true, 1, false)
+traitsOf Datetime2 = (true, 1, false)
+traitsOf Time2 = (true, 1, false)
+traitsOf Varchar = (true, 2, false)
+traitsOf Char = (true, 2, false)
+traitsOf Blob = (true, 1, false)
+traitsOf Json = (true, 1, false)
+traitsOf Bit = (true, 2, false)
+traitsOf Decimal = (true, 2, true)
+traitsOf Enum = (true, 2, false)
+traitsOf Set = (true, 2, false)
+traitsOf Unknown = (false, 0, false)
 
--- ---- metadata: how many bytes
+unfoldable pub isKnown : Family → Bool
+unfolding traitsOf
+isKnown f = traitsOf f .0
+
 unfoldable pub metadataBytes : Family → ℕ
-metadataBytes (Integer k) = 0
-metadataBytes Float = 1
-metadataBytes Double = 1
-metadataBytes Year = 0
-metadataBytes Timestamp = 0
-metadataBytes Date = 0
-metadataBytes Time = 0
-metadataBytes Datetime = 0
-metadataBytes Timestamp2 = 1
-metadataBytes Datetime2 = 1
-metadataBytes Time2 = 1
-metadataBytes Varchar = 2
-metadataBytes Char = 2
-metadataBytes Blob = 1
-metadataBytes Json = 1
-metadataBytes Bit = 2
-metadataBytes Decimal = 2
-metadataBytes Enum = 2
-metadataBytes Set = 2
-metadataBytes Unknown = 0
+unfolding traitsOf
+metadataBytes f = traitsOf f .1
+
+unfoldable pub isNumeric : Family → Bool
+unfolding traitsOf
+isNumeric f = traitsOf f .2
 
 -- ---- the real type. "m0 or-ed with 0x30": the two bits of 0x30 set, the others as they are
 abbrev pub or30 : ℕ → ℕ
@@ -123,7 +113,7 @@ unfolding leftoverBytes
 decimalBytes precision scale = digitsBytes (precision - scale) + digitsBytes scale
 
 -- ---- which metadata are accepted, and the stored shape; metadata bytes that a type does not have are 0
--- one where a test holds, and 5 otherwise
+-- a shape where a test holds, and refusal 5 otherwise
 abbrev pub given : Bool → Shape → Shape
 given t sh = cond t sh (NotTaken 5)
 
@@ -190,30 +180,7 @@ isMariadb Document = false
 isMariadb Mysql = false
 isMariadb Mariadb = true
 
--- "Numeric are types 1, 2, 3, 4, 5, 8, 9, 246": what document 01 gives a signedness bit
-unfoldable pub isNumeric : Family → Bool
-isNumeric (Integer k) = true
-isNumeric Float = true
-isNumeric Double = true
-isNumeric Year = false
-isNumeric Timestamp = false
-isNumeric Date = false
-isNumeric Time = false
-isNumeric Datetime = false
-isNumeric Timestamp2 = false
-isNumeric Datetime2 = false
-isNumeric Time2 = false
-isNumeric Varchar = false
-isNumeric Char = false
-isNumeric Blob = false
-isNumeric Json = false
-isNumeric Bit = false
-isNumeric Decimal = true
-isNumeric Enum = false
-isNumeric Set = false
-isNumeric Unknown = false
-
--- what the dialect gives one, by type byte: YEAR too, on every server
+-- what the dialect gives a signedness bit, by type byte: YEAR too, on every server
 unfoldable pub hasSignBit : Dialect → ℕ → Bool
 unfolding isNumeric familyOf
 hasSignBit d t = isNumeric (familyOf t) || (eqb t 13 && (isMysql d || isMariadb d))

@@ -48,15 +48,18 @@ numberIn (year n) = n
 numberIn (when t) = 0
 numberIn (bytes b) = 0
 
+abbrev pub noWhen : Temporal
+noWhen = Since (record { seconds = 0; micros = 0 })
+
 unfoldable pub whenIn : Datum → Temporal
-whenIn null = Since (record { seconds = 0; micros = 0 })
-whenIn (int z) = Since (record { seconds = 0; micros = 0 })
-whenIn (uint n) = Since (record { seconds = 0; micros = 0 })
-whenIn (float n) = Since (record { seconds = 0; micros = 0 })
-whenIn (double n) = Since (record { seconds = 0; micros = 0 })
-whenIn (year n) = Since (record { seconds = 0; micros = 0 })
+whenIn null = noWhen
+whenIn (int z) = noWhen
+whenIn (uint n) = noWhen
+whenIn (float n) = noWhen
+whenIn (double n) = noWhen
+whenIn (year n) = noWhen
 whenIn (when t) = t
-whenIn (bytes b) = Since (record { seconds = 0; micros = 0 })
+whenIn (bytes b) = noWhen
 
 unfoldable pub bytesIn : Datum → List ℕ
 bytesIn null = []
@@ -68,7 +71,7 @@ bytesIn (year n) = []
 bytesIn (when t) = []
 bytesIn (bytes b) = b
 
--- n of n and of -1 - n
+-- the n of a number that is n or -1 - n
 unfoldable pub magnitudeOf : ℤ → ℕ
 magnitudeOf (pos n) = n
 magnitudeOf (negsuc n) = n

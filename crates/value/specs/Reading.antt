@@ -7,25 +7,18 @@ use lib.ListN.{length, take, drop}
 use lib.Dec.{leb, eqb}
 use Rattle.wire.specs.Outcome.{Outcome, ok, refused, refuse, after}
 use Rattle.value.specs.declared.shape.Shape.{Shape}
-use Rattle.value.specs.declared.shape.Shape.the-variants.{Unsigned, Signed, FloatBits, DoubleBits, YearByte, Timed, Fixed, Counted, NotTaken}
 use Rattle.value.specs.declared.datum.Value.{Value}
 use Rattle.value.specs.declared.datum.Value.the-variants.{Null, Int, Uint, Float, Double, Year, When, Bytes}
 use Rattle.value.specs.declared.reading.Read.{Read}
 use Rattle.value.specs.declared.reading.Read.the-variants.{Got, Refused}
+use Rattle.value.specs.Columns.{isTaken, refusalOf}
 use Rattle.value.specs.Data.{Datum, null, int, uint, float, double, year, when, bytes}
 use Rattle.value.specs.Shapes.{need, decode, fault}
 
 -- a shape that there is, or its refusal
 unfoldable pub taken : Shape → ℕ → Outcome Shape
-taken (Unsigned k) p = ok (Unsigned k)
-taken (Signed k) p = ok (Signed k)
-taken FloatBits p = ok FloatBits
-taken DoubleBits p = ok DoubleBits
-taken YearByte p = ok YearByte
-taken (Timed k) p = ok (Timed k)
-taken (Fixed n) p = ok (Fixed n)
-taken (Counted k) p = ok (Counted k)
-taken (NotTaken n) p = refuse n p
+unfolding isTaken refusalOf
+taken sh p = cond (isTaken sh) (ok sh) (refuse (refusalOf sh) p)
 
 -- the stored bytes at the head of s
 unfoldable pub cut : Shape → ℕ → List ℕ → Outcome (List ℕ)

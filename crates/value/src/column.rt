@@ -1,5 +1,6 @@
-// The one table of column types (constants.rs: ColumnType).
+// The one table of column types, and what follows from a type and its metadata (constants.rs: ColumnType).
 use crate::shape::Shape;
+use crate::shape::is_taken;
 use temporal::Kind;
 use wire::refusal::BAD_METADATA;
 use wire::refusal::TYPE_NOT_TAKEN;
@@ -11,9 +12,6 @@ ghost use Rattle.value.specs.Columns.{familyOf, metadataBytes, isKnown, 
 ghost use Rattle.value.specs.declared.column.Family.the-variants.{Char, Blob, Bit, Decimal, Enum, Set};
 ghost use Rattle.value.specs.declared.shape.Shape.the-variants.{Unsigned, Signed};
 
-// How many bytes 0 to 8 digits of a decimal take.
-const LEFTOVER_BYTES: [usize; 9] = [0, 1, 1, 2, 2, 3, 3, 4, 4];
-
 // Which columns a server counts where it gives signedness bits and charsets: document 01's lists, or those that servers of this
 // name were seen to use.
 pub enum Dialect {
@@ -22,7 +20,7 @@ pub enum Dialect {
     Mariadb,
 }
 
-// What a column's values need to be known: its real type, its metadata, and whether an integer is unsigned.
+// What must be known of a column to read its values: its real type, its metadata, and whether an integer is unsigned.
 pub struct Column {
     pub kind: u8,
     pub m0: u8,
@@ -144,7 +142,7 @@ pub fn metadata_bytes(kind: u8) -> usize
     }
 }
 
-// m0 or-ed with 0x30.
+// m0 or-ed with 0x30: the two bits of 0x30 set, the others as they are. Written as sums and products, it needs no laws of bits.
 fn or_30(m0: u8) -> u8
     ensures { λ r. ⌜ r ≡ or30 m0 ⌝ }
 {
@@ -164,6 +162,7 @@ pub fn real_type(kind: u8, m0: u8) -> u8
     kind
 }
 
+// A byte as a usize. The contract spares callers the proof that the cast keeps it.
 fn wide(x: u8) -> usize
     ensures { λ r. ⌜ r ≡ x ⌝ }
 {
@@ -181,6 +180,8 @@ fn length_bytes(declared: usize) -> usize
 }
 
 // How many bytes 0 to 8 digits of a decimal take.
+const LEFTOVER_BYTES: [usize; 9] = [0, 1, 1, 2, 2, 3, 3, 4, 4];
+
 fn leftover_bytes(digits: usize) -> usize
     requires { ⌜ digits < 9 ⌝ }
     ensures { λ r. ⌜ r ≡ leftoverBytes digits ⌝ }
@@ -203,7 +204,7 @@ fn decimal_bytes(precision: u8, scale: u8) -> usize
     digits_bytes(precision - scale) + digits_bytes(scale)
 }
 
-// The shape, if the metadata are the one byte told.
+// The shape, if m0 is as told and m1 is 0.
 fn if_just(m0: u8, m1: u8, told: u8, shape: Shape) -> Shape
     ensures { λ r. ⌜ r ≡ given (eqb m0 told && eqb m1 0) shape ⌝ }
 {
@@ -216,7 +217,7 @@ fn if_just(m0: u8, m1: u8, told: u8, shape: Shape) -> Shape
     shape
 }
 
-// The shape, if the metadata are one byte, a number of fraction digits.
+// The shape, if m0 is a number of fraction digits and m1 is 0.
 fn if_digits(m0: u8, m1: u8, shape: Shape) -> Shape
     ensures { λ r. ⌜ r ≡ given (leb m0 6 && eqb m1 0) shape ⌝ }
 {
@@ -325,6 +326,7 @@ fn set_shape(m1: u8) -> Shape
     Shape::NotTaken(BAD_METADATA)
 }
 
+// Which metadata a family accepts, and how its values are then stored. Metadata bytes that it does not have are 0.
 fn shape_in(family: Family, m0: u8, m1: u8, unsigned: bool) -> Shape
     ensures { λ r. ⌜ r ≡ shapeIn family m0 m1 unsigned ⌝ }
 {
@@ -371,10 +373,7 @@ pub fn shape_of(column: Column) -> Shape
 pub fn is_accepted(column: Column) -> bool
     ensures { λ r. ⌜ r ≡ isTaken (shapeOf column) ⌝ }
 {
-    match shape_of(column) {
-        Shape::NotTaken(_) => false,
-        _ => true,
-    }
+    is_taken(shape_of(column))
 }
 
 // Whether document 01 gives the type a signedness bit (ColumnType::is_numeric_type).

@@ -19,7 +19,7 @@ pub enum Value {
     Bytes { start: usize, len: usize },
 }
 
-// The sorts of values that `tag_of` tells.
+// The sorts of values that `tag_of` tells; it tells 0 for NULL.
 pub(crate) const INT: u8 = 1;
 
 pub(crate) const UINT: u8 = 2;
@@ -34,6 +34,7 @@ pub(crate) const WHEN: u8 = 6;
 
 pub(crate) const BYTES: u8 = 7;
 
+// Which sort a value is of. That does not hang on its bytes, so the contract speaks of a value with none lent beside it.
 pub(crate) fn tag_of(value: Value) -> u8
     ensures { λ r. ⌜ r ≡ tag (datumOf [] value) ⌝ }
 {
@@ -49,21 +50,18 @@ pub(crate) fn tag_of(value: Value) -> u8
     }
 }
 
+// ---- what a value of one sort holds, and nothing in particular of any other
+
 pub(crate) fn int_in(value: Value) -> i64
     ensures { λ r. ⌜ r ≡ intIn (datumOf [] value) ⌝ }
 {
     match value {
         Value::Int(z) => z,
-        Value::Null => 0,
-        Value::Uint(_) => 0,
-        Value::Float(_) => 0,
-        Value::Double(_) => 0,
-        Value::Year(_) => 0,
-        Value::When(_) => 0,
-        Value::Bytes { start: _, len: _ } => 0,
+        _ => 0,
     }
 }
 
+// The number of any sort that is one.
 pub(crate) fn number_in(value: Value) -> u64
     ensures { λ r. ⌜ r ≡ numberIn (datumOf [] value) ⌝ }
 {
@@ -72,44 +70,30 @@ pub(crate) fn number_in(value: Value) -> u64
         Value::Float(bits) => bits as u64,
         Value::Double(bits) => bits,
         Value::Year(y) => y as u64,
-        Value::Null => 0,
-        Value::Int(_) => 0,
-        Value::When(_) => 0,
-        Value::Bytes { start: _, len: _ } => 0,
+        _ => 0,
     }
 }
 
 pub(crate) fn when_in(value: Value) -> Temporal
     ensures { λ r. ⌜ r ≡ whenIn (datumOf [] value) ⌝ }
 {
-    let none = Temporal::Since(Stamp {
-        seconds: 0,
-        micros: 0,
-    });
     match value {
         Value::When(t) => t,
-        Value::Null => none,
-        Value::Int(_) => none,
-        Value::Uint(_) => none,
-        Value::Float(_) => none,
-        Value::Double(_) => none,
-        Value::Year(_) => none,
-        Value::Bytes { start: _, len: _ } => none,
+        _ => Temporal::Since(Stamp {
+            seconds: 0,
+            micros: 0,
+        }),
     }
 }
+
+// ---- where a value's bytes stand; a value that is no bytes has none
 
 pub(crate) fn start_of(value: Value) -> usize
     ensures { λ r. ⌜ r ≡ startOf value ⌝ }
 {
     match value {
         Value::Bytes { start, len: _ } => start,
-        Value::Null => 0,
-        Value::Int(_) => 0,
-        Value::Uint(_) => 0,
-        Value::Float(_) => 0,
-        Value::Double(_) => 0,
-        Value::Year(_) => 0,
-        Value::When(_) => 0,
+        _ => 0,
     }
 }
 
@@ -118,12 +102,6 @@ pub(crate) fn len_of(value: Value) -> usize
 {
     match value {
         Value::Bytes { start: _, len } => len,
-        Value::Null => 0,
-        Value::Int(_) => 0,
-        Value::Uint(_) => 0,
-        Value::Float(_) => 0,
-        Value::Double(_) => 0,
-        Value::Year(_) => 0,
-        Value::When(_) => 0,
+        _ => 0,
     }
 }

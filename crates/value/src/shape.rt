@@ -21,34 +21,22 @@ pub enum Shape {
     NotTaken(u8),
 }
 
+// Whether there is a column of the shape.
 pub(crate) fn is_taken(shape: Shape) -> bool
     ensures { λ r. ⌜ r ≡ isTaken shape ⌝ }
 {
     match shape {
-        Shape::Unsigned(_) => true,
-        Shape::Signed(_) => true,
-        Shape::FloatBits => true,
-        Shape::DoubleBits => true,
-        Shape::YearByte => true,
-        Shape::Timed(_) => true,
-        Shape::Fixed(_) => true,
-        Shape::Counted(_) => true,
         Shape::NotTaken(_) => false,
+        _ => true,
     }
 }
 
+// The refusal number where there is none.
 pub(crate) fn refusal_of(shape: Shape) -> u8
     ensures { λ r. ⌜ r ≡ refusalOf shape ⌝ }
 {
     match shape {
-        Shape::Unsigned(_) => 0,
-        Shape::Signed(_) => 0,
-        Shape::FloatBits => 0,
-        Shape::DoubleBits => 0,
-        Shape::YearByte => 0,
-        Shape::Timed(_) => 0,
-        Shape::Fixed(_) => 0,
-        Shape::Counted(_) => 0,
         Shape::NotTaken(n) => n,
+        _ => 0,
     }
 }

@@ -31,7 +31,7 @@ pub(crate) fn signed(x: u64, most: u64) -> i64
     }
 }
 
-// n of n and of -1 - n.
+// The n of a number that is n or -1 - n.
 fn magnitude(z: i64) -> u64
     ensures { λ r. ⌜ r ≡ magnitudeOf z ⌝ }
 {

@@ -135,6 +135,7 @@ pub(crate) fn size_in(shape: Shape, value: Value, lent: &[u8]) -> usize
         Shape::Timed(kind) => temporal::temporal_size(kind),
         Shape::Fixed(n) => n,
         Shape::Counted(k) => k + len_of(value),
+        // Not reached: such a shape takes no value.
         Shape::NotTaken(_) => 0,
     }
 }
@@ -186,6 +187,7 @@ pub(crate) fn store_shape(
         Shape::Timed(kind) => temporal::write_temporal(kind, buf, at, when_in(value), 0),
         Shape::Fixed(_) => write_part(0, value, lent, buf, at),
         Shape::Counted(k) => write_part(k, value, lent, buf, at),
+        // Not reached: such a shape takes no value.
         Shape::NotTaken(n) => Written::Refused(wire::refuse(n, 0)),
     }
 }

@@ -1,6 +1,6 @@
 -- `value::column::has_charset` meets its contract. Assumes nothing.
 use Rattle.value.specs.Columns.{hasCharset, isCharacter}
-use Rattle.value.proofs.Arms.{or-false}
+use mathlib.Core.Bool.{or-false}
 use mathlib.Core.Path.{sym, refl}
 use borrow.Author.Tests.{ne-eqb}
 use borrow.Author.Needs.{needs}

@@ -1,6 +1,8 @@
 -- `value::datum::number_in` meets its contract. Assumes nothing.
+use mathlib.Core.Path.{sym}
 use Rattle.value.specs.Data.{numberIn}
 use Rattle.value.specs.Reading.{datumOf}
+use Rattle.value.proofs.Sorts.{not-number}
 use borrow.Author.Needs.{needs}
 use Rattle.value.proofs.datum.number_in.Statement.{statement}
 use Rattle.value.proofs.datum.number_in.Tie as tie
@@ -25,18 +27,6 @@ enum-known-value-4 c = search needs
 cast-result-2 : tie.Need-cast-result-2
 cast-result-2 c = search needs
 
-enum-told : tie.Need-enum-told
-enum-told c = search needs
-
-enum-told-2 : tie.Need-enum-told-2
-enum-told-2 c = search needs
-
-enum-told-3 : tie.Need-enum-told-3
-enum-told-3 c = search needs
-
-enum-told-4 : tie.Need-enum-told-4
-enum-told-4 c = search needs
-
 returns : tie.Need-returns
 unfolding numberIn datumOf
 returns c = rw (c .before .value .given .1)
@@ -54,20 +44,7 @@ unfolding numberIn datumOf
 returns-4 c = rw (c .before .value4 .given .1)
 
 returns-5 : tie.Need-returns-5
-unfolding numberIn datumOf
-returns-5 c = rw (c .enum-told .given .1)
-
-returns-6 : tie.Need-returns-6
-unfolding numberIn datumOf
-returns-6 c = rw (c .enum-told2 .given .1)
-
-returns-7 : tie.Need-returns-7
-unfolding numberIn datumOf
-returns-7 c = rw (c .enum-told3 .given .1)
-
-returns-8 : tie.Need-returns-8
-unfolding numberIn datumOf
-returns-8 c = rw (c .enum-told4 .given .1)
+returns-5 c = sym (not-number (c .before .args .value) (c .match .keys5))
 
 pub number-in-spec : {M : Type 1} → statement M
 number-in-spec =
@@ -79,15 +56,8 @@ number-in-spec =
     enum-known-value-3
     enum-known-value-4
     cast-result-2
-    enum-told
-    enum-told-2
-    enum-told-3
-    enum-told-4
     returns
     returns-2
     returns-3
     returns-4
-    returns-5
-    returns-6
-    returns-7
-    returns-8)
+    returns-5)

@@ -1,6 +1,6 @@
 -- `value::reading::read_signed` meets its contract. Assumes nothing.
-use Prim.Native.Nat.{ℕ, _^_, min}
-use mathlib.Core.Path.{_≡_, refl, ap, _∙_}
+use Prim.Native.Nat.{ℕ, _^_}
+use mathlib.Core.Path.{refl, ap, _∙_}
 use native.Mathlib.Omega.{arith}
 use lib.ListN.{take, drop}
 use Rattle.value.specs.declared.shape.Shape.the-variants.{Signed}
@@ -45,10 +45,7 @@ top-requires : tie.Need-top-requires
 top-requires c κs = search needs
 
 signed-requires : tie.Need-signed-requires
-signed-requires c κs = let n : min (c .before .before .before .before .before .args .k) 8 ≡ c .before .before .before .before .before .args .k = omega arith in
-    let b = c .before .read-le .ensures .1 in
-    let b′ = rw n at b in
-    omega (arith, c .top .ensures)
+signed-requires c κs = let b = rw (narrow (c .before .before .before .before .before .args .k) (omega arith)) at (c .before .read-le .ensures .1) in omega (arith, c .top .ensures)
 
 returns-2 : tie.Need-returns-2
 unfolding isTaken need decode fault placed

@@ -1,93 +1,22 @@
 -- `value::shape::refusal_of` meets its contract. Assumes nothing.
+use mathlib.Core.Path.{sym}
 use Rattle.value.specs.Columns.{refusalOf}
+use Rattle.value.proofs.Sorts.{there-is}
 use borrow.Author.Needs.{needs}
 use Rattle.value.proofs.shape.refusal_of.Statement.{statement}
 use Rattle.value.proofs.shape.refusal_of.Tie as tie
 use Rattle.value.proofs.shape.refusal_of.Reads as reads
 use Rattle.value.proofs.shape.refusal_of.Lts as lts
 
-enum-told : tie.Need-enum-told
-enum-told c = search needs
-
-enum-told-2 : tie.Need-enum-told-2
-enum-told-2 c = search needs
-
-enum-told-3 : tie.Need-enum-told-3
-enum-told-3 c = search needs
-
-enum-told-4 : tie.Need-enum-told-4
-enum-told-4 c = search needs
-
-enum-told-5 : tie.Need-enum-told-5
-enum-told-5 c = search needs
-
-enum-told-6 : tie.Need-enum-told-6
-enum-told-6 c = search needs
-
-enum-told-7 : tie.Need-enum-told-7
-enum-told-7 c = search needs
-
-enum-told-8 : tie.Need-enum-told-8
-enum-told-8 c = search needs
-
 enum-known-shape : tie.Need-enum-known-shape
 enum-known-shape c = search needs
 
 returns : tie.Need-returns
 unfolding refusalOf
-returns c = rw (c .enum-told .given .1)
+returns c = rw (c .before .shape .given .1)
 
 returns-2 : tie.Need-returns-2
-unfolding refusalOf
-returns-2 c = rw (c .enum-told2 .given .1)
-
-returns-3 : tie.Need-returns-3
-unfolding refusalOf
-returns-3 c = rw (c .enum-told3 .given .1)
-
-returns-4 : tie.Need-returns-4
-unfolding refusalOf
-returns-4 c = rw (c .enum-told4 .given .1)
-
-returns-5 : tie.Need-returns-5
-unfolding refusalOf
-returns-5 c = rw (c .enum-told5 .given .1)
-
-returns-6 : tie.Need-returns-6
-unfolding refusalOf
-returns-6 c = rw (c .enum-told6 .given .1)
-
-returns-7 : tie.Need-returns-7
-unfolding refusalOf
-returns-7 c = rw (c .enum-told7 .given .1)
-
-returns-8 : tie.Need-returns-8
-unfolding refusalOf
-returns-8 c = rw (c .enum-told8 .given .1)
-
-returns-9 : tie.Need-returns-9
-unfolding refusalOf
-returns-9 c = rw (c .before .shape .given .1)
+returns-2 c = sym (there-is (c .before .args .shape) (c .match .keys2) .1)
 
 pub refusal-of-spec : {M : Type 1} → statement M
-refusal-of-spec =
-    tie.close
-    (tie.spec
-    enum-told
-    enum-told-2
-    enum-told-3
-    enum-told-4
-    enum-told-5
-    enum-told-6
-    enum-told-7
-    enum-told-8
-    enum-known-shape
-    returns
-    returns-2
-    returns-3
-    returns-4
-    returns-5
-    returns-6
-    returns-7
-    returns-8
-    returns-9)
+refusal-of-spec = tie.close (tie.spec enum-known-shape returns returns-2)

@@ -1,5 +1,4 @@
 -- `value::storing::size_in` meets its contract. Assumes nothing.
-use Rattle.value.proofs.Ins.{lent-fits}
 use Prim.Native.Nat.{ℕ, _+_, _≤_}
 use mathlib.Core.Path.{_≡_, refl, sym, ap, subst, _∙_}
 use mathlib.Core.Bool.{true}
@@ -10,7 +9,7 @@ use Rattle.value.specs.declared.shape.Shape.the-variants.{Unsigned, Sign
 use Rattle.value.specs.Shapes.{Sized, need, bytesOf}
 use Rattle.value.specs.Reading.{datumOf}
 use Rattle.value.specs.Storing.{isIn, lenOf, startOf}
-use Rattle.value.proofs.Ins.{size-at, size-counted, is-in, in-none}
+use Rattle.value.proofs.Ins.{lent-fits, size-at, size-counted, is-in, none-in}
 use borrow.Author.Needs.{needs}
 use Rattle.value.proofs.storing.size_in.Statement.{statement}
 use Rattle.value.proofs.storing.size_in.Tie as tie
@@ -95,9 +94,7 @@ returns-8 c = let a = c .before .before .before .before .before .args in
 
 returns-9 : tie.Need-returns-9
 returns-9 c = let a = c .before .before .before .args in
-    let h = ap (λ (sh : Shape). isIn sh (a .lent .now) (a .value)) (sym (c .enum-told4 .given .1)) ∙ c .before .before .before .pre .1 in
-    let e = in-none _ (a .lent .now) (a .value) (is-in _ (a .lent .now) (a .value) (c .before .before .before .pre .1) .0) ∙ h in
-    let z : _≡_ {A = ℕ} 0 1 = cc in absurd (omega arith)
+    absurd (none-in _ (a .lent .now) (a .value) (ap (λ (sh : Shape). isIn sh (a .lent .now) (a .value)) (sym (c .enum-told4 .given .1)) ∙ c .before .before .before .pre .1))
 
 pub size-in-spec : {M : Type 1} → statement M
 size-in-spec =

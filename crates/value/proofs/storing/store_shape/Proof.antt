@@ -1,13 +1,12 @@
 -- `value::storing::store_shape` meets its contract. Assumes nothing.
-use Prim.Native.Nat.{ℕ}
-use mathlib.Core.Path.{_≡_, sym, ap, subst, _∙_}
+use mathlib.Core.Path.{sym, ap, subst, _∙_}
 use native.Mathlib.Omega.{arith}
 use Rattle.value.specs.declared.shape.Shape.{Shape}
 use Rattle.value.specs.Shapes.{Sized}
 use Rattle.value.specs.Storing.{isIn}
 use mir.Syntax.{w64}
 use mir.ValLaws.{toZ-ofZ}
-use Rattle.value.proofs.Ins.{is-in, in-none, put-unsigned, put-signed, put-float, put-double, put-year, put-fixed, put-counted, put-timed, signed-small, year-least}
+use Rattle.value.proofs.Ins.{is-in, none-in, put-unsigned, put-signed, put-float, put-double, put-year, put-fixed, put-counted, put-timed, signed-small, year-least}
 use borrow.Author.Needs.{needs}
 use Rattle.value.proofs.storing.store_shape.Statement.{statement}
 use Rattle.value.proofs.storing.store_shape.Tie as tie
@@ -192,9 +191,7 @@ returns-8 c = let a = c .before .before .before .before .before .before .before 
 
 returns-9 : tie.Need-returns-9
 returns-9 c = let a = c .before .before .before .before .before .before .args in
-    let h = ap (λ (sh : Shape). isIn sh (a .lent .now) (a .value)) (sym (c .before .before .shape5 .given .1)) ∙ c .before .before .before .before .before .before .pre .1 in
-    let e = in-none _ (a .lent .now) (a .value) (is-in _ (a .lent .now) (a .value) (c .before .before .before .before .before .before .pre .1) .0) ∙ h in
-    let z : _≡_ {A = ℕ} 0 1 = cc in absurd (omega arith)
+    absurd (none-in _ (a .lent .now) (a .value) (ap (λ (sh : Shape). isIn sh (a .lent .now) (a .value)) (sym (c .before .before .shape5 .given .1)) ∙ c .before .before .before .before .before .before .pre .1))
 
 pub store-shape-spec : {M : Type 1} → statement M
 store-shape-spec =

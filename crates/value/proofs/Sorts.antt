@@ -1,0 +1,75 @@
+-- What the last arm of a match, `_`, tells of the values or shapes that it serves, by the tag that the match looks at. Assumes nothing.
+use mathlib.Core.Path.{_≡_, refl}
+use mathlib.Core.Bool.{true}
+use mathlib.Core.List.{[], _∷_}
+use types.Run.{OneOf, miss}
+use denote.Enum.Declared.{tagOf}
+use lib.IntN.{pos}
+use Rattle.value.specs.declared.datum.Value.{Value}
+use Rattle.value.specs.declared.datum.Value.the-variants.{Null, Int, Uint, Float, Double, Year, When, Bytes}
+use Rattle.value.proofs.datum.Value.{the-type as value-type}
+use Rattle.value.specs.declared.shape.Shape.{Shape}
+use Rattle.value.specs.declared.shape.Shape.the-variants.{Unsigned, Signed, FloatBits, DoubleBits, YearByte, Timed, Fixed, Counted, NotTaken}
+use Rattle.value.proofs.shape.Shape.{the-type as shape-type}
+use Rattle.value.specs.Data.{intIn, numberIn, noWhen, whenIn}
+use Rattle.value.specs.Columns.{isTaken, refusalOf}
+use Rattle.value.specs.Reading.{datumOf}
+use Rattle.value.specs.Storing.{startOf, lenOf}
+
+-- ---- a value that is of another sort than the match asks for
+pub not-int : (v : Value) → OneOf (0 ∷ 2 ∷ 3 ∷ 4 ∷ 5 ∷ 6 ∷ 7 ∷ []) (tagOf value-type v) → intIn (datumOf [] v) ≡ pos 0
+unfolding intIn datumOf
+not-int Null o = refl
+not-int (Int z) o = absurd (miss (0 ∷ 2 ∷ 3 ∷ 4 ∷ 5 ∷ 6 ∷ 7 ∷ []) 1 tt o)
+not-int (Uint n) o = refl
+not-int (Float n) o = refl
+not-int (Double n) o = refl
+not-int (Year n) o = refl
+not-int (When t) o = refl
+not-int (Bytes start len) o = refl
+
+pub not-number : (v : Value) → OneOf (0 ∷ 1 ∷ 6 ∷ 7 ∷ []) (tagOf value-type v) → numberIn (datumOf [] v) ≡ 0
+unfolding numberIn datumOf
+not-number Null o = refl
+not-number (Int z) o = refl
+not-number (Uint n) o = absurd (miss (0 ∷ 1 ∷ 6 ∷ 7 ∷ []) 2 tt o)
+not-number (Float n) o = absurd (miss (0 ∷ 1 ∷ 6 ∷ 7 ∷ []) 3 tt o)
+not-number (Double n) o = absurd (miss (0 ∷ 1 ∷ 6 ∷ 7 ∷ []) 4 tt o)
+not-number (Year n) o = absurd (miss (0 ∷ 1 ∷ 6 ∷ 7 ∷ []) 5 tt o)
+not-number (When t) o = refl
+not-number (Bytes start len) o = refl
+
+pub not-when : (v : Value) → OneOf (0 ∷ 1 ∷ 2 ∷ 3 ∷ 4 ∷ 5 ∷ 7 ∷ []) (tagOf value-type v) → whenIn (datumOf [] v) ≡ noWhen
+unfolding whenIn datumOf
+not-when Null o = refl
+not-when (Int z) o = refl
+not-when (Uint n) o = refl
+not-when (Float n) o = refl
+not-when (Double n) o = refl
+not-when (Year n) o = refl
+not-when (When t) o = absurd (miss (0 ∷ 1 ∷ 2 ∷ 3 ∷ 4 ∷ 5 ∷ 7 ∷ []) 6 tt o)
+not-when (Bytes start len) o = refl
+
+pub not-bytes : (v : Value) → OneOf (0 ∷ 1 ∷ 2 ∷ 3 ∷ 4 ∷ 5 ∷ 6 ∷ []) (tagOf value-type v) → (startOf v ≡ 0) × (lenOf v ≡ 0)
+unfolding startOf lenOf
+not-bytes Null o = (refl, refl)
+not-bytes (Int z) o = (refl, refl)
+not-bytes (Uint n) o = (refl, refl)
+not-bytes (Float n) o = (refl, refl)
+not-bytes (Double n) o = (refl, refl)
+not-bytes (Year n) o = (refl, refl)
+not-bytes (When t) o = (refl, refl)
+not-bytes (Bytes start len) o = absurd (miss (0 ∷ 1 ∷ 2 ∷ 3 ∷ 4 ∷ 5 ∷ 6 ∷ []) 7 tt o)
+
+-- ---- a shape that there is
+pub there-is : (sh : Shape) → OneOf (0 ∷ 1 ∷ 2 ∷ 3 ∷ 4 ∷ 5 ∷ 6 ∷ 7 ∷ []) (tagOf shape-type sh) → (isTaken sh ≡ true) × (refusalOf sh ≡ 0)
+unfolding isTaken refusalOf
+there-is (Unsigned k) o = (refl, refl)
+there-is (Signed k) o = (refl, refl)
+there-is FloatBits o = (refl, refl)
+there-is DoubleBits o = (refl, refl)
+there-is YearByte o = (refl, refl)
+there-is (Timed k) o = (refl, refl)
+there-is (Fixed n) o = (refl, refl)
+there-is (Counted k) o = (refl, refl)
+there-is (NotTaken n) o = absurd (miss (0 ∷ 1 ∷ 2 ∷ 3 ∷ 4 ∷ 5 ∷ 6 ∷ 7 ∷ []) 8 tt o)
