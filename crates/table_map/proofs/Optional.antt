@@ -6,7 +6,7 @@ use mathlib.Core.Logic.{_⊎_, ⊎-elim}
 use mathlib.Core.Bool.{Bool, true, false, cond}
 use mathlib.Core.List.{List, [], _∷_}
 use native.Mathlib.Omega.{arith}
-use borrow.Author.Tests.{eqb-true}
+use borrow.Author.Tests.{le-leb, eqb-true}
 use lib.ListN.{length, getD, drop}
 use lib.Seq.{drop-cons}
 use Rattle.wire.specs.Bits.{bytesFor}
@@ -18,7 +18,7 @@ use Rattle.value.specs.declared.column.Dialect.{Dialect}
 use Rattle.value.specs.Columns.{hasSignBit}
 use Rattle.table_map.specs.declared.event.Part.{Part}
 use Rattle.table_map.specs.declared.field.Fields.{Fields}
-use Rattle.table_map.specs.Parts.{partOf, longPart}
+use Rattle.table_map.specs.Parts.{partOf, lentPart, longPart}
 use Rattle.table_map.specs.Lists.{Stepped, end, item, step, defaultCharset}
 use Rattle.table_map.specs.Fields.{signBits, countSigned, isField, isRead, contentsHold, fieldItem, withCursor, fieldStep}
 use Rattle.table_map.proofs.Steps.{step-before}
@@ -61,6 +61,13 @@ step-by-item c s h = rw (step-before (fieldItem (c .numeric) (c .columns)) s (c 
         → after (after o (λ x. ok (item (x .0) (x .1)))) (λ x. ok (withCursor c x)) ≡ after o (λ x. ok (withCursor c (item (x .0) (x .1))))
     regrouped (ok x) = refl
     regrouped (refused w) = refl
+
+-- a value that was cut out is lent whole
+pub value-lent : (s : List ℕ) (at : ℕ) (p : Part) (next : ℕ) → longPart s at ≡ ok (p, next) → lentPart s p ≡ partOf s p
+value-lent s at p next e =
+    let m = long-moves s at p next e in
+    let h : p .start + p .len ≤ length s = omega (arith, m .1, m .2) in
+    rw (le-leb _ _ h)
 
 -- the value is not there
 pub no-value : (c : Fields) (s : List ℕ) (w : Refusal) → c .at < length s → longPart s (c .at + 1) ≡ refused w → fieldStep c s ≡ refused w

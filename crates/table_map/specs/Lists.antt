@@ -17,10 +17,8 @@ use Rattle.table_map.specs.declared.list.StringStep.{StringStep}
 use Rattle.table_map.specs.declared.list.StringStep.the-variants.{Item as Item₃, End as End₃, Refused as Refused₃}
 use Rattle.table_map.specs.declared.list.GroupStep.{GroupStep}
 use Rattle.table_map.specs.declared.list.GroupStep.the-variants.{Item as Item₄, End as End₄, Refused as Refused₄}
-use Rattle.table_map.specs.declared.list.Reached.{Reached}
-use Rattle.table_map.specs.declared.list.Reached.the-variants.{To, Refused as Refused₅}
 use Rattle.table_map.specs.declared.list.DefaultCharset.{DefaultCharset}
-use Rattle.table_map.specs.declared.list.DefaultCharset.the-variants.{Read, Refused as Refused₆}
+use Rattle.table_map.specs.declared.list.DefaultCharset.the-variants.{Read, Refused as Refused₅}
 use Rattle.table_map.specs.Parts.{longPart}
 
 -- ---- one rule for every list. A rule of items reads the item at a place of the bytes, and answers it with the place after it
@@ -107,10 +105,6 @@ groupOf (Item₄ count first next) = ok (item (count, first) (next .at))
 groupOf End₄ = ok end
 groupOf (Refused₄ r) = refused r
 
-abbrev pub reachedOf : Reached → Outcome ℕ
-reachedOf (To place) = ok place
-reachedOf (Refused₅ r) = refused r
-
 abbrev pub charsetOf : DefaultCharset → Outcome (ℕ × ℕ)
 charsetOf (Read charset pairs) = ok (charset, pairs .at)
-charsetOf (Refused₆ r) = refused r
+charsetOf (Refused₅ r) = refused r

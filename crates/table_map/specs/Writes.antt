@@ -23,7 +23,7 @@ pub record Parts : Type 0 where
   pub bits : List ℕ
   pub optional : List ℕ
 
--- them, one by one
+-- the same, from its fields one by one
 abbrev pub parts : ℕ → ℕ → List ℕ → List ℕ → List ℕ → List ℕ → List ℕ → List ℕ → Parts
 parts id flags database table types metadata bits optional =
     record {

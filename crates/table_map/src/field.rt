@@ -1,5 +1,6 @@
 // The optional fields, one after the other (table_map_event.rs: OptionalMetadataIter).
 use crate::event::Part;
+use crate::event::part_of;
 use crate::part::PartRead;
 use crate::part::long_part;
 use value::Dialect;
@@ -46,36 +47,32 @@ impl Fields {
         ensures { λ r. ⌜ fieldOf r ≡ fieldStep self (now (optional .entry)) ⌝ }
     {
         let at = self.at;
-        let numeric = self.numeric;
-        let columns = self.columns;
         if at == optional.len() {
             return FieldStep::End;
         }
         if optional.len() < at {
             return FieldStep::Refused(wire::refuse(SHORT, at));
         }
-        match long_part(optional, at + 1) {
-            PartRead::Read { part, next: behind } => {
-                let kind = optional[at];
-                if is_field(kind) {
-                    let start = part.start;
-                    let end = start + part.len;
-                    if contents_hold(numeric, columns, kind, &optional[start..end]) {
-                        return FieldStep::Field {
-                            kind,
-                            value: part,
-                            next: Fields {
-                                at: behind,
-                                numeric,
-                                columns,
-                            },
-                        };
-                    }
-                    return FieldStep::Refused(wire::refuse(BAD_FIELD, at));
-                }
-                FieldStep::Refused(wire::refuse(UNKNOWN_FIELD, at))
-            }
-            PartRead::Refused(r) => FieldStep::Refused(r),
+        let cut = match long_part(optional, at + 1) {
+            PartRead::Read(cut) => cut,
+            PartRead::Refused(r) => return FieldStep::Refused(r),
+        };
+        let kind = optional[at];
+        if !is_field(kind) {
+            return FieldStep::Refused(wire::refuse(UNKNOWN_FIELD, at));
+        }
+        let value = cut.part;
+        if !contents_hold(self.numeric, self.columns, kind, part_of(optional, value)) {
+            return FieldStep::Refused(wire::refuse(BAD_FIELD, at));
+        }
+        FieldStep::Field {
+            kind,
+            value,
+            next: Fields {
+                at: cut.next,
+                numeric: self.numeric,
+                columns: self.columns,
+            },
         }
     }
 }

@@ -54,7 +54,9 @@ pub fn event_size(
     if !is_event(id, database, table, types, bits) {
         return Size::Refused(wire::refuse(NOT_TAKEN, 0));
     }
+    // a slice has fewer than 2^63 bytes, so the front fits: of long parts it has the types alone, and the bits, an eighth of them
     let lengths = wire::packed_size(types.len() as u64) + wire::packed_size(metadata.len() as u64);
+    // id, flags, and with each name a length byte and a zero byte: 12
     let head = 12 + database.len() + table.len() + lengths;
     let front = head + types.len() + bits.len();
     if !wire::has_room(SIZE_MOST, front, metadata.len()) {
