@@ -89,7 +89,8 @@ pub record Columned (s : List ℕ) (at : ℕ) (types metadata bits : Part) (next
   pub next-is : next ≡ bits .start + bits .len
   pub ends : next ≤ length s
 
-long-named : (s : List ℕ) (at : ℕ) (x : Part × ℕ) → longPart s at ≡ ok x
+-- a part behind a packed length, and the place after it
+pub long-named : (s : List ℕ) (at : ℕ) (x : Part × ℕ) → longPart s at ≡ ok x
     → (readPacked s at ≡ ok (x .0 .len, x .0 .start)) × (x .1 ≡ x .0 .start + x .0 .len) × (x .1 ≤ length s)
 unfolding longPart
 long-named s at x e =
