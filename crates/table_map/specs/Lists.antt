@@ -32,7 +32,10 @@ pub data Stepped (A : Type 0) (C : Type 0) : Type 0 where
 
 -- at the length it has ended; past it, refusal 1 there
 unfoldable pub step : {A : Type 0} → Rule A → List ℕ → ℕ → Outcome (Stepped A ℕ)
-step rule s at = cond (eqb at (length s)) (ok end) (cond (ltb (length s) at) (refuse 1 at) (after (rule s at) (λ x. ok (item (x .0) (x .1)))))
+step rule s at =
+    cond (eqb at (length s)) (ok end)
+    (cond (ltb (length s) at) (refuse 1 at)
+    (after (rule s at) (λ x. ok (item (x .0) (x .1)))))
 
 -- how a walk ended
 pub data Ended : Type 0 where

@@ -134,7 +134,7 @@ fn id_bytes(post_header: u8) -> usize
     6
 }
 
-// The event in the lent bytes, which stand behind its header; post_header is what the format description says of table maps.
+// The event in the lent bytes, which stand behind its header; post_header is the length that the format description gives for table maps.
 pub fn read_event(event: &[u8], post_header: u8) -> EventRead
     ensures { λ r. ⌜ eventOf r ≡ readEvent (now (event .entry)) «post_header» ⌝ }
 {

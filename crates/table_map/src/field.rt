@@ -15,10 +15,12 @@ ghost use lib.ListN.{length};
 ghost use Rattle.wire.specs.Packed.{readPacked};
 ghost use Rattle.table_map.specs.Fields.{signBits, countSigned, isField, isRead, contentsHold, fieldStep, fieldOf};
 
-// Where a walk over the optional bytes stands, with what it needs of the map: how many columns have a signedness bit, and how many columns there are. The two are counted once.
+// Where a walk over the optional bytes stands, with what it needs of the map, counted once.
 pub struct Fields {
     pub at: usize,
+    // how many columns have a signedness bit
     pub numeric: usize,
+    // how many columns there are
     pub columns: usize,
 }
 
@@ -109,7 +111,7 @@ fn is_field(kind: u8) -> bool
     kind <= 13
 }
 
-// Whether the contents of a field are as the walk asks.
+// Whether the contents of a field are as the walk asks: 1 and 12 are bits of columns, 2 and 10 start with a default charset.
 fn contents_hold(numeric: usize, columns: usize, kind: u8, value: &[u8]) -> bool
     ensures { λ r. ⌜ r ≡ contentsHold numeric columns kind (now (value .entry)) ⌝ }
 {

@@ -11,7 +11,7 @@ ghost use Rattle.wire.specs.Bits.{bitMsb0};
 ghost use Rattle.table_map.specs.Lists.{step, integerItem, pairItem, stringItem, groupItem, strings, integerOf, pairOf, stringOf, groupOf, defaultCharset, charsetOf};
 ghost use Rattle.table_map.specs.Reads.{placeOf};
 
-// Fields 3, 7, 8, 11 and 13.
+// The cursor of a list of integers: fields 3, 7, 8, 11 and 13.
 pub struct Integers {
     pub at: usize,
 }
@@ -40,7 +40,7 @@ impl Integers {
     }
 }
 
-// Field 9: a column and the length of its prefix. And fields 2 and 10 behind their default: a rank and its charset.
+// The cursor of a list of pairs: in field 9 a column and the length of its prefix; in fields 2 and 10, behind the default, a rank and its charset.
 pub struct Pairs {
     pub at: usize,
 }
@@ -83,7 +83,7 @@ impl Pairs {
     }
 }
 
-// Field 4.
+// The cursor of a list of strings: field 4.
 pub struct Strings {
     pub at: usize,
 }
@@ -115,7 +115,7 @@ impl Strings {
     }
 }
 
-// Fields 5 and 6. A group is told by how many strings it has and where the first stands.
+// The cursor of a list of groups of strings: fields 5 and 6. A group is told by how many strings it has and where the first stands.
 pub struct Groups {
     pub at: usize,
 }
