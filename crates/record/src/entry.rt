@@ -28,6 +28,7 @@ pub fn column_of(entry: Entry) -> Column
     }
 }
 
+// Flags 1 and 4 stand on numeric columns alone, and 1 only with 4; there is none above 8.
 fn flags_hold(entry: Entry) -> bool
     ensures { λ r. ⌜ r ≡ flagsHold entry ⌝ }
 {
@@ -45,6 +46,7 @@ fn flags_hold(entry: Entry) -> bool
     known == 0
 }
 
+// Character, ENUM and SET columns alone have a charset.
 fn charset_holds(entry: Entry) -> bool
     ensures { λ r. ⌜ r ≡ charsetHolds entry ⌝ }
 {

@@ -1,4 +1,4 @@
-// The whole record: whether it is valid, and its columns.
+// The whole record: whether it is valid, what it says of its columns, and how it begins. `profile` is its bytes.
 use crate::entry::Entry;
 use crate::entry::entry_holds;
 use wire::Refusal;
@@ -15,6 +15,7 @@ pub enum RecordRead {
     Refused(Refusal),
 }
 
+// The byte at a place, 0 past the end.
 fn byte_at(s: &[u8], at: usize) -> u8
     ensures { λ r. ⌜ r ≡ getD (now (s .entry)) at 0 ⌝ }
 {
@@ -34,6 +35,7 @@ fn wide(x: u8) -> usize
 pub fn entry_in(profile: &[u8], column: usize) -> Entry
     ensures { λ r. ⌜ r ≡ entryIn (now (profile .entry)) column ⌝ }
 {
+    // far past the end, where the entry's place might fit no machine number
     if profile.len() / 6 < column {
         return Entry {
             kind: 0,
@@ -54,7 +56,7 @@ pub fn entry_in(profile: &[u8], column: usize) -> Entry
     }
 }
 
-// Whether the first n columns may be a record's.
+// Whether each of the first n entries is one that a record may have.
 fn entries_hold(profile: &[u8], n: usize) -> bool
     ensures { λ r. ⌜ r ≡ entriesHold n (now (profile .entry)) 0 ⌝ }
 {

@@ -71,13 +71,6 @@ canonical-same s postHeader e h r c =
     let l : Laid s 6 e = subst (λ (w : ℕ). Laid s w e) (c .id) (laid s postHeader e r) in
     let o : Ordered s 6 e = subst (λ (w : ℕ). Ordered s w e) (c .id) (parts-within s postHeader e r) in
     let w : Within s e = each-within s postHeader e r in
-    let d₀ = o .database in
-    let t₀ = o .table in
-    let y₀ = o .types in
-    let m₀ = o .metadata in
-    let b₀ = o .bits in
-    let p₀ = o .optional in
-    let n₀ = o .ends in
     let dn = e .database .start + e .database .len in
     let tn = e .table .start + e .table .len in
     let yn = e .types .start + e .types .len in
@@ -86,9 +79,9 @@ canonical-same s postHeader e h r c =
     let ly : length (partOf s (e .types)) ≡ e .types .len = part-length s (e .types) (w .types) in
     let lm : length (partOf s (e .metadata)) ≡ e .metadata .len = part-length s (e .metadata) (w .metadata) in
     let x₉ : partOf s (e .optional) ≡ drop bn s =
-    take-all (e .optional .len) (drop (e .optional .start) s) (rw length-drop (omega arith)) ∙ ap (λ (k : ℕ). drop k s) p₀ in
+    take-all (e .optional .len) (drop (e .optional .start) s) (rw length-drop (omega arith)) ∙ ap (λ (k : ℕ). drop k s) (o .optional) in
     let x₈ : partOf s (e .bits) ++ partOf s (e .optional) ≡ drop mn s =
-    ap (λ (z : List ℕ). partOf s (e .bits) ++ z) x₉ ∙ sym (rest-split s (e .bits .start) (e .bits .len)) ∙ ap (λ (k : ℕ). drop k s) b₀ in
+    ap (λ (z : List ℕ). partOf s (e .bits) ++ z) x₉ ∙ sym (rest-split s (e .bits .start) (e .bits .len)) ∙ ap (λ (k : ℕ). drop k s) (o .bits) in
     let x₇ : partOf s (e .metadata) ++ (partOf s (e .bits) ++ partOf s (e .optional)) ≡ drop (e .metadata .start) s =
     ap (λ (z : List ℕ). partOf s (e .metadata) ++ z) x₈ ∙ sym (rest-split s (e .metadata .start) (e .metadata .len)) in
     let x₆ : packedBytes (length (partOf s (e .metadata))) ++ (partOf s (e .metadata) ++ (partOf s (e .bits) ++ partOf s (e .optional))) ≡ drop yn s =
@@ -132,11 +125,6 @@ same-six s postHeader e h r i q =
     let o : Ordered s 6 e = subst (λ (w : ℕ). Ordered s w e) i (parts-within s postHeader e r) in
     let w : Within s e = each-within s postHeader e r in
     let p = partsOf s e in
-    let d₀ = o .database in
-    let t₀ = o .table in
-    let b₀ = o .bits in
-    let p₀ = o .optional in
-    let n₀ = o .ends in
     let a : length s ≡ 12 + e .database .len + e .table .len
     + (length (packedBytes (e .types .len)) + (e .types .len + (length (packedBytes (e .metadata .len)) + (e .metadata .len + (e .bits .len + e .optional .len))))) =
     ap length (sym q) ∙ again-length s e w in
@@ -197,18 +185,10 @@ never-four s e h l o w q =
     let f₀ : From s 0 (leBytes 6 (e .id) ++ (leBytes 2 (e .flags) ++ behindFlags p)) =
     subst (λ (z : List ℕ). From z 0 (leBytes 6 (e .id) ++ (leBytes 2 (e .flags) ++ behindFlags p))) q (from-id p) in
     let f₁ : From s 6 (leBytes 2 (e .flags) ++ behindFlags p) = subst (λ (z : List ℕ). From z 6 (leBytes 2 (e .flags) ++ behindFlags p)) q (from-flags p) in
-    let d₀ : e .database .start ≡ 7 = o .database in
-    let t₀ = o .table in
-    let b₀ = o .bits in
-    let p₀ = o .optional in
-    let n₀ = o .ends in
-    let wd = w .database in
-    let wt = w .table in
-    let wy = w .types in
     let t₆ : take 6 s ≡ leBytes 6 (e .id) = from-part (leBytes 6 (e .id)) (leBytes 2 (e .flags) ++ behindFlags p) 6 (leBytes-length 6 (e .id)) f₀ in
     let z : e .flags ≡ 0 = no-flags s e h (omega arith) (l .id) (l .flags) t₆ in
-    let ld : length (p .database) ≡ e .database .len = part-length s (e .database) wd in
-    let lt : length (p .table) ≡ e .table .len = part-length s (e .table) wt in
+    let ld : length (p .database) ≡ e .database .len = part-length s (e .database) (w .database) in
+    let lt : length (p .table) ≡ e .table .len = part-length s (e .table) (w .table) in
     let d : e .database .len ≡ 0 = l .names .one .len ∙ zero-bytes (behindFlags p) z f₁ in
     let x = short-back (p .database) (nameBytes (p .table) ++ b) (names-from s p q) in
     let n = names-back (p .database) (p .table) b (names-from s p q) in
@@ -269,8 +249,6 @@ read-taken s postHeader e h r =
     let l = laid s postHeader e r in
     let o = parts-within s postHeader e r in
     let w = each-within s postHeader e r in
-    let wd = w .database in
-    let od = o .database in
     let i : e .id < 2 ^ 48 = subst (λ (v : ℕ). v < 2 ^ 48) (sym (l .id)) (id-fits s postHeader h (omega arith)) in
     let d : length (partOf s (e .database)) ≤ 255 = omega (arith, part-length s (e .database) (w .database), l .names .one .len, h (idBytes postHeader + 2)) in
     let t : length (partOf s (e .table)) ≤ 255 =

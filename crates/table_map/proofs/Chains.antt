@@ -70,12 +70,10 @@ two-named s at x e =
     let qn : b .0 ≡ x .2 = ap (λ (y : Part × Part × ℕ). y .2) q in
     let i′ : Named s at (x .0) (d .0 .1) = subst (λ (p : Part). Named s at p (d .0 .1)) qd i in
     let k′ : Named s (a .0) (x .1) (t .0 .1) = subst (λ (p : Part). Named s (a .0) p (t .0 .1)) qt k in
-    let n1 : d .0 .1 ≡ x .0 .start + x .0 .len = i′ .next-is in
-    let n2 : t .0 .1 ≡ x .1 .start + x .1 .len = k′ .next-is in
-    let n3 : a .0 ≡ x .0 .start + x .0 .len + 1 = omega arith in
+    let n : a .0 ≡ x .0 .start + x .0 .len + 1 = omega arith in
     record {
-      one = record { start = i′ .start; len = i′ .len; next-is = refl; ends = omega (arith, i′ .ends) };
-      two = record { start = omega (arith, k′ .start); len = k′ .len ∙ ap (λ (p : ℕ). getD s p 0) n3; next-is = refl; ends = omega (arith, k′ .ends) };
+      one = record { start = i′ .start; len = i′ .len; next-is = refl; ends = omega arith };
+      two = record { start = omega arith; len = k′ .len ∙ ap (λ (p : ℕ). getD s p 0) n; next-is = refl; ends = omega arith };
       next-is = omega arith;
       ends = omega arith;
     }
@@ -89,7 +87,8 @@ pub record Columned (s : List ℕ) (at : ℕ) (types metadata bits : Part) (next
   pub next-is : next ≡ bits .start + bits .len
   pub ends : next ≤ length s
 
-long-named : (s : List ℕ) (at : ℕ) (x : Part × ℕ) → longPart s at ≡ ok x
+-- a part behind a packed length, and the place after it
+pub long-named : (s : List ℕ) (at : ℕ) (x : Part × ℕ) → longPart s at ≡ ok x
     → (readPacked s at ≡ ok (x .0 .len, x .0 .start)) × (x .1 ≡ x .0 .start + x .0 .len) × (x .1 ≤ length s)
 unfolding longPart
 long-named s at x e =
@@ -212,8 +211,6 @@ pub record Ordered (s : List ℕ) (w : ℕ) (e : Event) : Type 0 where
 pub parts-within : (s : List ℕ) (postHeader : ℕ) (e : Event) → readEvent s postHeader ≡ ok e → Ordered s (idBytes postHeader) e
 parts-within s postHeader e r =
     let l = laid s postHeader e r in
-    let d : e .database .start ≡ idBytes postHeader + 2 + 1 = l .names .one .start in
-    let t : e .table .start ≡ e .database .start + e .database .len + 1 + 1 = l .names .two .start in
     record {
       database = omega arith;
       table = omega arith;
@@ -236,12 +233,6 @@ pub record Within (s : List ℕ) (e : Event) : Type 0 where
 pub each-within : (s : List ℕ) (postHeader : ℕ) (e : Event) → readEvent s postHeader ≡ ok e → Within s e
 each-within s postHeader e r =
     let o = parts-within s postHeader e r in
-    let t = o .table in
-    let y = o .types in
-    let m = o .metadata in
-    let b = o .bits in
-    let p = o .optional in
-    let n = o .ends in
     record { database = omega arith; table = omega arith; types = omega arith; metadata = omega arith; bits = omega arith; optional = omega arith }
 
 -- so to lend a part of what was read is to say its bytes: none where the event is refused

@@ -1,23 +1,20 @@
--- The items of lists: what the readers' loops turn on, and that every item takes bytes, ends within them, and is refused only with 1 or 2 at a place within
--- them. Assumes nothing.
+-- The items of lists: what the loop over strings turns on, that nothing is read past the bytes, and that every item takes bytes and ends within them. Assumes
+-- nothing.
 use Prim.Native.Nat.{ℕ, zero, suc, _+_, _-_, _≤_, _<_}
-use mathlib.Core.Path.{_≡_, refl, ap, subst}
-use mathlib.Core.Logic.{⊎-elim}
+use mathlib.Core.Path.{_≡_, sym, ap, subst}
 use mathlib.Core.List.{List}
 use native.Mathlib.Omega.{arith}
-use borrow.Author.Tests.{le-leb, leb-true}
+use borrow.Author.Tests.{le-leb}
 use lib.ListN.{length}
-use lib.Dec.{leb}
-use Rattle.wire.specs.declared.refusal.Refusal.{Refusal}
-use Rattle.wire.specs.Outcome.{ok, refused, refuse, why, after}
-use Rattle.wire.specs.Number.{Bytes}
+use Rattle.wire.specs.Outcome.{ok, refuse, after}
 use Rattle.wire.specs.Packed.{readPacked}
-use Rattle.wire.proofs.Outcomes.{after-is-ok, after-refuses, test-is-ok, test-refuses, ok-not-refused, same-ok}
-use Rattle.wire.proofs.Forms.{Refuses, short, cut, none, read-moves, read-refuses}
+use Rattle.wire.proofs.Outcomes.{after-is-ok, same-ok}
+use Rattle.wire.proofs.Forms.{read-moves}
 use Rattle.table_map.specs.declared.event.Part.{Part}
-use Rattle.table_map.specs.Parts.{part, within, longPart}
+use Rattle.table_map.specs.Parts.{longPart}
 use Rattle.table_map.specs.Lists.{Rule, integerItem, pairItem, stringItem, strings, groupItem}
 use Rattle.table_map.proofs.Steps.{Early}
+use Rattle.table_map.proofs.Chains.{long-named}
 
 -- ---- the loop over the strings of a group, i of n read
 pub strings-none : (s : List ℕ) (n i at : ℕ) → n ≤ i → strings (n - i) s at ≡ ok at
@@ -54,25 +51,11 @@ group-early = record { early = λ s at h. rw (integer-early .early s at h) }
 pub record Moves {A : Type 0} (rule : Rule A) : Type 0 where
   pub moves : (s : List ℕ) (at : ℕ) (a : A) (next : ℕ) → rule s at ≡ ok (a, next) → (at < next) × (next ≤ length s)
 
--- a part that is there ends where what follows starts, within the bytes
-part-ends : (s : List ℕ) (start len place : ℕ) (p : Part) (next : ℕ)
-    → after {B = Part × ℕ} (within s start len place) (λ b. ok (part start len, b)) ≡ ok (p, next)
-    → (start ≡ p .start) × (p .start + p .len ≡ next) × (next ≤ length s)
-unfolding within
-part-ends s start len place p next e =
-    let x = after-is-ok (within s start len place) (λ b. ok (part start len, b)) (p, next) e in
-    let t = test-is-ok (leb (start + len) (length s)) (start + len) (why 1 place) (x .0) (x .1) in
-    let l = leb-true (start + len) (length s) (t .0) in
-    subst (λ (w : Part × ℕ). (start ≡ w .0 .start) × (w .0 .start + w .0 .len ≡ w .1) × (w .1 ≤ length s)) (same-ok (x .2)) (refl, t .1, omega (arith, t .1, l))
-
 -- a part behind its length: it starts behind it
 pub long-moves : (s : List ℕ) (at : ℕ) (p : Part) (next : ℕ) → longPart s at ≡ ok (p, next) → (at < p .start) × (p .start + p .len ≡ next) × (next ≤ length s)
-unfolding longPart
 long-moves s at p next e =
-    let x = after-is-ok (readPacked s at) (λ n. after (within s (n .1) (n .0) at) (λ b. ok (part (n .1) (n .0), b))) (p, next) e in
-    let m = read-moves s at (x .0 .0) (x .0 .1) (x .1) in
-    let y = part-ends s (x .0 .1) (x .0 .0) at p next (x .2) in
-    (omega (arith, m .0, y .0), y .1, y .2)
+    let x = long-named s at (p, next) e in
+    (read-moves s at (p .len) (p .start) (x .0) .0, sym (x .1), x .2)
 
 pub integer-moves : Moves integerItem
 integer-moves = record { moves = read-moves }
@@ -151,78 +134,4 @@ group-moves = record {
       let m = read-moves s at (a .0) (a .1) (x .0) in
       let n = strings-move (a .0) s (a .1) next (m .1) (x .1) in
       (omega (arith, m .0, n .0), n .1);
-}
-
--- ---- items are refused
--- with a number of these, at a place within the bytes
-pub record Told (numbers : ℕ → Type 0) (s : List ℕ) (w : Refusal) : Type 0 where
-  pub number : numbers (w .number)
-  pub place : w .place ≤ length s
-
--- every refusal of the rule, at a place before the end, is such
-pub record Tells {A : Type 0} (numbers : ℕ → Type 0) (rule : Rule A) : Type 0 where
-  pub tells : (s : List ℕ) (at : ℕ) (w : Refusal) → Bytes s → at < length s → rule s at ≡ refused w → Told numbers s w
-
--- lists refuse with these
-pub data OneOrTwo : ℕ → Type 0 where
-  one : OneOrTwo 1
-  two : OneOrTwo 2
-
-read-told : (s : List ℕ) (at : ℕ) (w : Refusal) → Bytes s → at ≤ length s → readPacked s at ≡ refused w → Told OneOrTwo s w
-read-told s at w b h e = go (read-refuses s at w b e)
-  where
-    go : {w : Refusal} → Refuses s at w → Told OneOrTwo s w
-    go (short l) = record { number = one; place = h }
-    go (cut first k least t g l m) = record { number = one; place = h }
-    go (none l g) = record { number = two; place = h }
-
-pub integer-tells : Tells OneOrTwo integerItem
-integer-tells = record { tells = λ s at w b h e. read-told s at w b (omega arith) e }
-
-pub long-told : (s : List ℕ) (at : ℕ) (w : Refusal) → Bytes s → at ≤ length s → longPart s at ≡ refused w → Told OneOrTwo s w
-unfolding longPart within
-long-told s at w b h e =
-    ⊎-elim (λ l. read-told s at w b h l)
-    (λ r.
-    ⊎-elim
-    (λ l.
-    let x = test-refuses (leb (r .0 .1 + r .0 .0) (length s)) (r .0 .1 + r .0 .0) (why 1 at) w l in
-    subst (Told OneOrTwo s) (x .1) (record { number = one; place = h }))
-    (λ x. absurd (ok-not-refused (x .2)))
-    (after-refuses (within s (r .0 .1) (r .0 .0) at) (λ b. ok (part (r .0 .1) (r .0 .0), b)) w (r .2)))
-    (after-refuses (readPacked s at) (λ n. after (within s (n .1) (n .0) at) (λ b. ok (part (n .1) (n .0), b))) w e)
-
-pub string-tells : Tells OneOrTwo stringItem
-string-tells = record { tells = λ s at w b h e. long-told s at w b (omega arith) e }
-
-pub pair-tells : Tells OneOrTwo pairItem
-unfolding pairItem
-pair-tells = record {
-  tells = λ s at w b h e.
-      ⊎-elim (λ l. read-told s at w b (omega arith) l)
-      (λ r.
-      ⊎-elim (λ l. read-told s (r .0 .1) w b (read-moves s at (r .0 .0) (r .0 .1) (r .1) .1) l)
-      (λ x. absurd (ok-not-refused (x .2)))
-      (after-refuses (readPacked s (r .0 .1)) (λ b. ok ((r .0 .0, b .0), b .1)) w (r .2)))
-      (after-refuses (readPacked s at) (λ a. after (readPacked s (a .1)) (λ b. ok ((a .0, b .0), b .1))) w e);
-}
-
-strings-told : (n : ℕ) (s : List ℕ) (at : ℕ) (w : Refusal) → Bytes s → at ≤ length s → strings n s at ≡ refused w → Told OneOrTwo s w
-unfolding strings
-strings-told zero s at w b h e = absurd (ok-not-refused e)
-strings-told (suc n) s at w b h e =
-    ⊎-elim (λ l. long-told s at w b h l)
-    (λ r. strings-told n s (r .0 .1) w b (long-moves s at (r .0 .0) (r .0 .1) (r .1) .2) (r .2))
-    (after-refuses (longPart s at) (λ x. strings n s (x .1)) w e)
-
-pub group-tells : Tells OneOrTwo groupItem
-unfolding groupItem
-group-tells = record {
-  tells = λ s at w b h e.
-      ⊎-elim (λ l. read-told s at w b (omega arith) l)
-      (λ r.
-      ⊎-elim (λ l. strings-told (r .0 .0) s (r .0 .1) w b (read-moves s at (r .0 .0) (r .0 .1) (r .1) .1) l)
-      (λ x. absurd (ok-not-refused (x .2)))
-      (after-refuses (strings (r .0 .0) s (r .0 .1)) (λ b. ok ((r .0 .0, r .0 .1), b)) w (r .2)))
-      (after-refuses (readPacked s at) (λ n. after (strings (n .0) s (n .1)) (λ b. ok ((n .0, n .1), b))) w e);
 }

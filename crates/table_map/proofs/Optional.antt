@@ -1,28 +1,27 @@
--- Optional fields: what a step answers, by what it met; what a field that was read is; that fields move, and which refusals they give; how many columns have a
--- signedness bit. Assumes nothing.
+-- Optional fields: how many columns have a signedness bit; what a step answers, by what it met; what a field that was read is; that fields move. Assumes nothing.
 use Prim.Native.Nat.{ℕ, suc, _+_, _≤_, _<_}
 use mathlib.Core.Path.{_≡_, refl, sym, subst}
 use mathlib.Core.Logic.{_⊎_, ⊎-elim}
 use mathlib.Core.Bool.{Bool, true, false, cond}
 use mathlib.Core.List.{List, [], _∷_}
 use native.Mathlib.Omega.{arith}
-use borrow.Author.Tests.{eqb-true}
+use borrow.Author.Tests.{le-leb, eqb-true}
 use lib.ListN.{length, getD, drop}
 use lib.Seq.{drop-cons}
 use Rattle.wire.specs.Bits.{bytesFor}
 use Rattle.wire.specs.declared.refusal.Refusal.{Refusal}
 use Rattle.wire.specs.Outcome.{Outcome, ok, refused, refuse, after}
 use Rattle.wire.specs.Packed.{readPacked}
-use Rattle.wire.proofs.Outcomes.{by-test, after-is-ok, after-refuses, ok-not-refused, same-ok, same-refused}
+use Rattle.wire.proofs.Outcomes.{by-test, after-after, after-is-ok, ok-not-refused, same-ok, same-refused}
 use Rattle.value.specs.declared.column.Dialect.{Dialect}
 use Rattle.value.specs.Columns.{hasSignBit}
 use Rattle.table_map.specs.declared.event.Part.{Part}
 use Rattle.table_map.specs.declared.field.Fields.{Fields}
-use Rattle.table_map.specs.Parts.{partOf, longPart}
+use Rattle.table_map.specs.Parts.{partOf, lentPart, longPart}
 use Rattle.table_map.specs.Lists.{Stepped, end, item, step, defaultCharset}
 use Rattle.table_map.specs.Fields.{signBits, countSigned, isField, isRead, contentsHold, fieldItem, withCursor, fieldStep}
 use Rattle.table_map.proofs.Steps.{step-before}
-use Rattle.table_map.proofs.Items.{Moves, Told, Tells, OneOrTwo, one, two, long-moves, long-told}
+use Rattle.table_map.proofs.Items.{Moves, long-moves}
 
 -- ---- counting
 one-at-most : (t : Bool) → cond t 1 0 ≤ 1
@@ -55,12 +54,14 @@ signed-none d = refl
 step-by-item : (c : Fields) (s : List ℕ) → c .at < length s
     → fieldStep c s ≡ after (fieldItem (c .numeric) (c .columns) s (c .at)) (λ x. ok (withCursor c (item (x .0) (x .1))))
 unfolding fieldStep
-step-by-item c s h = rw (step-before (fieldItem (c .numeric) (c .columns)) s (c .at) h) (regrouped (fieldItem (c .numeric) (c .columns) s (c .at)))
-  where
-    regrouped : (o : Outcome ((ℕ × Part) × ℕ))
-        → after (after o (λ x. ok (item (x .0) (x .1)))) (λ x. ok (withCursor c x)) ≡ after o (λ x. ok (withCursor c (item (x .0) (x .1))))
-    regrouped (ok x) = refl
-    regrouped (refused w) = refl
+step-by-item c s h = rw (step-before (fieldItem (c .numeric) (c .columns)) s (c .at) h) (after-after (fieldItem (c .numeric) (c .columns) s (c .at)) _ _)
+
+-- a value that was cut out is lent whole
+pub value-lent : (s : List ℕ) (at : ℕ) (p : Part) (next : ℕ) → longPart s at ≡ ok (p, next) → lentPart s p ≡ partOf s p
+value-lent s at p next e =
+    let m = long-moves s at p next e in
+    let h : p .start + p .len ≤ length s = omega (arith, m .1, m .2) in
+    rw (le-leb _ _ h)
 
 -- the value is not there
 pub no-value : (c : Fields) (s : List ℕ) (w : Refusal) → c .at < length s → longPart s (c .at + 1) ≡ refused w → fieldStep c s ≡ refused w
@@ -169,33 +170,4 @@ field-moves numeric columns = record {
   moves = λ s at a next e.
       let m = long-moves s (at + 1) (a .1) next (field-read numeric columns s at a next e .value) in
       (omega (arith, m .0, m .1), m .2);
-}
-
--- ---- fields are refused with these
-pub data FieldNumber : ℕ → Type 0 where
-  cut-short : FieldNumber 1
-  not-packed : FieldNumber 2
-  unknown : FieldNumber 6
-  contents : FieldNumber 7
-
-of-value : {n : ℕ} → OneOrTwo n → FieldNumber n
-of-value one = cut-short
-of-value two = not-packed
-
-pub field-tells : (numeric columns : ℕ) → Tells FieldNumber (fieldItem numeric columns)
-unfolding fieldItem
-field-tells numeric columns = record {
-  tells = λ s at w b h e.
-      let kind = getD s at 0 in
-      ⊎-elim
-      (λ l.
-      let x = long-told s (at + 1) w b (omega arith) l in
-      record { number = of-value (x .number); place = x .place })
-      (λ r. by-test (isField kind) _ _ _ (r .2)
-      (λ t f. by-test (contentsHold numeric columns kind (partOf s (r .0 .0))) _ _ _ f (λ u g. absurd (ok-not-refused g))
-      (λ u g. subst (Told FieldNumber s) (same-refused g) (record { number = contents; place = omega arith })))
-      (λ t f. subst (Told FieldNumber s) (same-refused f) (record { number = unknown; place = omega arith })))
-      (after-refuses (longPart s (at + 1))
-      (λ v. cond (isField kind) (cond (contentsHold numeric columns kind (partOf s (v .0))) (ok ((kind, v .0), v .1)) (refuse 7 at)) (refuse 6 at))
-      w e);
 }

@@ -101,13 +101,10 @@ after-name name {d} {x} {at} {next} p = (omega (arith, after-put p, name-length 
 pub then : {d v x w y : List ℕ} {at n m : ℕ} → Put d at v x n → Put x n w y m → Put d at (v ++ w) y m
 then {d} {v} {x} {w} {y} {at} {n} {m} a b =
     let l : length x ≡ length d = after-put a .1 in
-    let i : n ≡ at + length v = a .next-is in
-    let j : m ≡ n + length w = b .next-is in
     let k : length (v ++ w) ≡ length v + length w = length-append v w in
-    let g : n + length w ≤ length x = b .room in
     record {
       room = omega arith;
-      left = b .left ∙ ap (λ (z : ℕ). stored x z w) i ∙ ap (λ (z : List ℕ). stored z (at + length v) w) (a .left) ∙ stored-stored d at v w (a .room);
+      left = b .left ∙ ap (λ (z : ℕ). stored x z w) (a .next-is) ∙ ap (λ (z : List ℕ). stored z (at + length v) w) (a .left) ∙ stored-stored d at v w (a .room);
       next-is = omega arith;
     }
 

@@ -47,16 +47,12 @@ step-else rule r s at n =
     (λ h. step-before rule s at (omega arith))
 
 -- ---- the other way
-same-item : {A : Type 0} {a b : A} {m n : ℕ} → _≡_ {A = Stepped A ℕ} (item a m) (item b n) → (a ≡ b) × (m ≡ n)
-same-item e = (cc, cc)
-
 end-not-item : {A : Type 0} {a : A} {n : ℕ} → _≡_ {A = Stepped A ℕ} end (item a n) → ⊥
 end-not-item e = let z : _≡_ {A = ℕ} 0 1 = cc in omega arith
 
 handed-item : {A : Type 0} {a : A} {next : ℕ} (o : Outcome (A × ℕ)) → after o (λ x. ok (item (x .0) (x .1))) ≡ ok (item a next) → o ≡ ok (a, next)
 handed-item {A} {a} {next} (ok x) e =
-    let y = same-item (same-ok e) in
-    let p : _≡_ {A = A × ℕ} (x .0, x .1) (a, next) = rw (y .0, y .1) in
+    let p : _≡_ {A = A × ℕ} (x .0, x .1) (a, next) = cc in
     ap (λ (z : A × ℕ). ok z) p
 handed-item (refused v) e = absurd (ok-not-refused (sym e))
 

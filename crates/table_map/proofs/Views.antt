@@ -13,14 +13,9 @@ use Rattle.table_map.specs.declared.list.StringStep.{StringStep}
 use Rattle.table_map.specs.declared.list.StringStep.the-variants.{Item as Item₃, End as End₃, Refused as Refused₃}
 use Rattle.table_map.specs.declared.list.GroupStep.{GroupStep}
 use Rattle.table_map.specs.declared.list.GroupStep.the-variants.{Item as Item₄, End as End₄, Refused as Refused₄}
-use Rattle.table_map.specs.declared.list.Reached.{Reached}
-use Rattle.table_map.specs.declared.list.Reached.the-variants.{To, Refused as Refused₆}
 use Rattle.table_map.specs.declared.list.DefaultCharset.{DefaultCharset}
-use Rattle.table_map.specs.declared.list.DefaultCharset.the-variants.{Read as Read₇, Refused as Refused₇}
-use Rattle.table_map.specs.declared.part.PartRead.{PartRead}
-use Rattle.table_map.specs.declared.part.PartRead.the-variants.{Read, Refused as Refused₈}
-use Rattle.table_map.specs.Parts.{partRead}
-use Rattle.table_map.specs.Lists.{Stepped, end, item, integerOf, pairOf, stringOf, groupOf, reachedOf, charsetOf}
+use Rattle.table_map.specs.declared.list.DefaultCharset.the-variants.{Read, Refused as Refused₆}
+use Rattle.table_map.specs.Lists.{Stepped, end, item, integerOf, pairOf, stringOf, groupOf, charsetOf}
 use Rattle.table_map.specs.Fields.{fieldOf}
 
 -- the way back from what a step says, and from what a reader says
@@ -78,26 +73,10 @@ field-way (Refused₅ r) = refl
 pub same-field : (a b : FieldStep) → fieldOf a ≡ fieldOf b → a ≡ b
 same-field = same-by-back fieldOf (back-step (λ x next. Field (x .0) (x .1) next) End₅ Refused₅) field-way
 
-reached-way : (a : Reached) → back-read To Refused₆ (reachedOf a) ≡ a
-reached-way (To place) = refl
-reached-way (Refused₆ r) = refl
-
--- of places after strings
-pub same-reached : (a b : Reached) → reachedOf a ≡ reachedOf b → a ≡ b
-same-reached = same-by-back reachedOf (back-read To Refused₆) reached-way
-
-charset-way : (a : DefaultCharset) → back-read (λ x. Read₇ (x .0) (record { at = x .1 })) Refused₇ (charsetOf a) ≡ a
-charset-way (Read₇ charset pairs) = refl
-charset-way (Refused₇ r) = refl
+charset-way : (a : DefaultCharset) → back-read (λ x. Read (x .0) (record { at = x .1 })) Refused₆ (charsetOf a) ≡ a
+charset-way (Read charset pairs) = refl
+charset-way (Refused₆ r) = refl
 
 -- of default charsets
 pub same-charset : (a b : DefaultCharset) → charsetOf a ≡ charsetOf b → a ≡ b
-same-charset = same-by-back charsetOf (back-read (λ x. Read₇ (x .0) (record { at = x .1 })) Refused₇) charset-way
-
-part-read-way : (a : PartRead) → back-read (λ x. Read (x .0) (x .1)) Refused₈ (partRead a) ≡ a
-part-read-way (Read part next) = refl
-part-read-way (Refused₈ r) = refl
-
--- of parts behind a length
-pub same-part-read : (a b : PartRead) → partRead a ≡ partRead b → a ≡ b
-same-part-read = same-by-back partRead (back-read (λ x. Read (x .0) (x .1)) Refused₈) part-read-way
+same-charset = same-by-back charsetOf (back-read (λ x. Read (x .0) (record { at = x .1 })) Refused₆) charset-way

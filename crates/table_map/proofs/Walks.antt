@@ -7,11 +7,10 @@ use mathlib.Core.List.{List}
 use native.Mathlib.Omega.{arith}
 use lib.ListN.{length}
 use Rattle.wire.specs.declared.refusal.Refusal.{Refusal}
-use Rattle.wire.specs.Outcome.{Outcome, ok, refused, why}
-use Rattle.wire.specs.Number.{Bytes}
+use Rattle.wire.specs.Outcome.{Outcome, ok, refused}
 use Rattle.table_map.specs.Lists.{Rule, Stepped, end, item, step, whole, broken, onward, walkSteps, walk}
-use Rattle.table_map.proofs.Steps.{item-read, refusal-told}
-use Rattle.table_map.proofs.Items.{Moves, Told, Tells}
+use Rattle.table_map.proofs.Steps.{item-read}
+use Rattle.table_map.proofs.Items.{Moves}
 
 -- where a step that answers an item leads
 pub item-moves : {A : Type 0} (rule : Rule A) → Moves rule → (s : List ℕ) (at : ℕ) (a : A) (next : ℕ) → step rule s at ≡ ok (item a next)
@@ -71,9 +70,6 @@ pub record Breaks {A : Type 0} (rule : Rule A) (s : List ℕ) (at : ℕ) (w : Re
   pub from : (there ≡ at) ⊎ ((at < there) × (there ≤ length s))
   pub refuses : step rule s there ≡ refused w
 
-same-broken : {v w : Refusal} → broken v ≡ broken w → v ≡ w
-same-broken e = cc
-
 whole-not-broken : {w : Refusal} → whole ≡ broken w → ⊥
 whole-not-broken e = let z : _≡_ {A = ℕ} 0 1 = cc in omega arith
 
@@ -96,20 +92,8 @@ breaks {A} rule v (suc m) s at w e = go (λ next. breaks rule v m s next w) (ste
         let x = item-moves rule v s at a next f in
         further at next (x .0) (x .1) (again next g)
     go again (refused r) f g =
-        let x : r ≡ w = same-broken g in
+        let x : r ≡ w = cc in
         record { there = at; from = inl refl; refuses = f ∙ ap (λ (y : Refusal). refused y) x }
 
 pub walk-breaks : {A : Type 0} (rule : Rule A) → Moves rule → (s : List ℕ) (at : ℕ) (w : Refusal) → walk rule s at .how ≡ broken w → Breaks rule s at w
 walk-breaks rule v s at w e = breaks rule v (suc (length s - at)) s at w e
-
--- ---- which refusals a step and a walk give: those of the rule, or 1 at an offset past the bytes
-pub step-told : {A : Type 0} {numbers : ℕ → Type 0} (rule : Rule A) → Tells numbers rule → (s : List ℕ) (at : ℕ) (w : Refusal) → Bytes s
-    → step rule s at ≡ refused w → ((length s < at) × (w ≡ why 1 at)) ⊎ Told numbers s w
-step-told rule t s at w b e = ⊎-elim (λ l. inl l) (λ r. inr (t .tells s at w b (r .0) (r .1))) (refusal-told rule s at w e)
-
-pub walk-told : {A : Type 0} {numbers : ℕ → Type 0} (rule : Rule A) → Moves rule → Tells numbers rule → (s : List ℕ) (at : ℕ) (w : Refusal) → Bytes s
-    → walk rule s at .how ≡ broken w → ((length s < at) × (w ≡ why 1 at)) ⊎ Told numbers s w
-walk-told rule v t s at w b e =
-    let x = walk-breaks rule v s at w e in
-    ⊎-elim (λ l. ⊎-elim (λ f. inl (omega (arith, l .0), l .1 ∙ ap (why 1) f)) (λ f. absurd (omega (arith, l .0, f .1))) (x .from)) (λ r. inr r)
-    (step-told rule t s (x .there) w b (x .refuses))

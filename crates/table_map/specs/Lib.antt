@@ -1,5 +1,6 @@
--- The definitions of the crate: what people must believe. `Parts`: parts of the lent bytes. `Events`: the event read. `Reads`: what its inner readers answer. `Writes`: the event written. `Canonical`: which events are as a writer writes them. `Lists`: one rule
--- for every list, and the items. `Fields`: the optional fields.
+-- The definitions of the crate: what people must believe. `Parts`: parts of the lent bytes. `Events`: the event read. `Reads`: what the inner readers answer.
+-- `Writes`: the event written. `Canonical`: which events are as a writer writes them. `Lists`: one rule for every list, and the items. `Fields`: the
+-- optional fields.
 pub mod Parts
 pub mod Events
 pub mod Reads

@@ -17,10 +17,8 @@ use Rattle.table_map.specs.declared.list.StringStep.{StringStep}
 use Rattle.table_map.specs.declared.list.StringStep.the-variants.{Item as Item₃, End as End₃, Refused as Refused₃}
 use Rattle.table_map.specs.declared.list.GroupStep.{GroupStep}
 use Rattle.table_map.specs.declared.list.GroupStep.the-variants.{Item as Item₄, End as End₄, Refused as Refused₄}
-use Rattle.table_map.specs.declared.list.Reached.{Reached}
-use Rattle.table_map.specs.declared.list.Reached.the-variants.{To, Refused as Refused₅}
 use Rattle.table_map.specs.declared.list.DefaultCharset.{DefaultCharset}
-use Rattle.table_map.specs.declared.list.DefaultCharset.the-variants.{Read, Refused as Refused₆}
+use Rattle.table_map.specs.declared.list.DefaultCharset.the-variants.{Read, Refused as Refused₅}
 use Rattle.table_map.specs.Parts.{longPart}
 
 -- ---- one rule for every list. A rule of items reads the item at a place of the bytes, and answers it with the place after it
@@ -34,7 +32,10 @@ pub data Stepped (A : Type 0) (C : Type 0) : Type 0 where
 
 -- at the length it has ended; past it, refusal 1 there
 unfoldable pub step : {A : Type 0} → Rule A → List ℕ → ℕ → Outcome (Stepped A ℕ)
-step rule s at = cond (eqb at (length s)) (ok end) (cond (ltb (length s) at) (refuse 1 at) (after (rule s at) (λ x. ok (item (x .0) (x .1)))))
+step rule s at =
+    cond (eqb at (length s)) (ok end)
+    (cond (ltb (length s) at) (refuse 1 at)
+    (after (rule s at) (λ x. ok (item (x .0) (x .1)))))
 
 -- how a walk ended
 pub data Ended : Type 0 where
@@ -107,10 +108,6 @@ groupOf (Item₄ count first next) = ok (item (count, first) (next .at))
 groupOf End₄ = ok end
 groupOf (Refused₄ r) = refused r
 
-abbrev pub reachedOf : Reached → Outcome ℕ
-reachedOf (To place) = ok place
-reachedOf (Refused₅ r) = refused r
-
 abbrev pub charsetOf : DefaultCharset → Outcome (ℕ × ℕ)
 charsetOf (Read charset pairs) = ok (charset, pairs .at)
-charsetOf (Refused₆ r) = refused r
+charsetOf (Refused₅ r) = refused r

@@ -4,11 +4,9 @@ use mathlib.Core.List.{List, []}
 use mathlib.Core.Bool.{cond}
 use lib.ListN.{length, getD, take, drop}
 use lib.Dec.{leb}
-use Rattle.wire.specs.Outcome.{Outcome, ok, refused, refuse, after}
+use Rattle.wire.specs.Outcome.{Outcome, ok, refuse, after}
 use Rattle.wire.specs.Packed.{readPacked}
 use Rattle.table_map.specs.declared.event.Part.{Part}
-use Rattle.table_map.specs.declared.part.PartRead.{PartRead}
-use Rattle.table_map.specs.declared.part.PartRead.the-variants.{Read, Refused}
 
 abbrev pub part : ℕ → ℕ → Part
 part start len = record { start = start; len = len }
@@ -34,8 +32,3 @@ shortPart s at = after (within s at 1 at) (λ a. after (within s a (getD s at 0)
 unfoldable pub longPart : List ℕ → ℕ → Outcome (Part × ℕ)
 unfolding within readPacked
 longPart s at = after (readPacked s at) (λ n. after (within s (n .1) (n .0) at) (λ b. ok (part (n .1) (n .0), b)))
-
--- what the answer of a reader of parts says
-abbrev pub partRead : PartRead → Outcome (Part × ℕ)
-partRead (Read part next) = ok (part, next)
-partRead (Refused r) = refused r

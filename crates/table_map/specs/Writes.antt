@@ -23,7 +23,7 @@ pub record Parts : Type 0 where
   pub bits : List ℕ
   pub optional : List ℕ
 
--- them, one by one
+-- the same, from its fields one by one
 abbrev pub parts : ℕ → ℕ → List ℕ → List ℕ → List ℕ → List ℕ → List ℕ → List ℕ → Parts
 parts id flags database table types metadata bits optional =
     record {
@@ -58,7 +58,11 @@ eventBytes p =
 
 -- what the writer takes
 unfoldable pub isEvent : Parts → Bool
-isEvent p = ltb (p .id) (2 ^ 48) && (leb (length (p .database)) 255 && (leb (length (p .table)) 255 && eqb (length (p .bits)) (bytesFor (length (p .types)))))
+isEvent p =
+    ltb (p .id) (2 ^ 48)
+    && (leb (length (p .database)) 255
+    && (leb (length (p .table)) 255
+    && eqb (length (p .bits)) (bytesFor (length (p .types)))))
 
 unfoldable pub writeEvent : Parts → List ℕ → Outcome (ℕ × List ℕ)
 unfolding isEvent eventBytes store
@@ -67,7 +71,10 @@ writeEvent p buf = cond (isEvent p) (store buf 0 (eventBytes p)) (refuse 13 0)
 -- how many bytes it writes; a size that no machine number holds is refused as the writer refuses it, for no buffer has so many
 unfoldable pub eventSize : Parts → Outcome ℕ
 unfolding isEvent eventBytes
-eventSize p = cond (isEvent p) (cond (ltb (length (eventBytes p)) (2 ^ 64)) (ok (length (eventBytes p))) (refuse 8 0)) (refuse 13 0)
+eventSize p =
+    cond (isEvent p)
+    (cond (ltb (length (eventBytes p)) (2 ^ 64)) (ok (length (eventBytes p))) (refuse 8 0))
+    (refuse 13 0)
 
 -- what the inner writers write: the head, and the columns with what is behind them
 abbrev pub headBytes : ℕ → ℕ → List ℕ → List ℕ → List ℕ

@@ -1,14 +1,16 @@
 // The event's parts, as places in the lent bytes (table_map_event.rs: TableMapEvent).
+use crate::part::Announced;
 use crate::part::PartRead;
+use crate::part::Place;
 use crate::part::long_part;
-use wire::Packed;
+use crate::part::read_length;
+use crate::part::short_part;
+use crate::part::within;
 use wire::Refusal;
-use wire::refusal::SHORT;
 ghost use mathlib.Core.Path.{_≡_};
-ghost use Rattle.wire.specs.Packed.{readPacked};
-ghost use Rattle.table_map.specs.Parts.{lentPart, within, shortPart, partRead};
+ghost use Rattle.table_map.specs.Parts.{lentPart};
 ghost use Rattle.table_map.specs.Events.{idBytes, readNames, readColumns, readEvent, eventOf, orNone, partIn};
-ghost use Rattle.table_map.specs.Reads.{placeOf, announcedOf, namesOf, columnsOf};
+ghost use Rattle.table_map.specs.Reads.{namesOf, columnsOf};
 
 // The post-header length of events whose table id has 4 bytes.
 const SHORT_POST_HEADER: u8 = 6;
@@ -27,31 +29,15 @@ pub struct Event {
     // a type byte for each column
     pub types: Part,
     pub metadata: Part,
+    // a bit for each column: whether it can be NULL
     pub bits: Part,
+    // the optional fields
     pub optional: Part,
 }
 
 pub enum EventRead {
     Read(Event),
     Refused(Refusal),
-}
-
-// The place after some bytes, or why they are not all there.
-enum Place {
-    At(usize),
-    Refused(Refusal),
-}
-
-// What a packed length announces: it may run past the bytes.
-enum Announced {
-    Read(Part),
-    Refused(Refusal),
-}
-
-// A part, and the place after it.
-struct Cut {
-    part: Part,
-    next: usize,
 }
 
 // The names, and the place after the byte behind the second.
@@ -79,54 +65,11 @@ enum ColumnsRead {
     Refused(Refusal),
 }
 
-// The place after the n bytes from at on; if they end early, the refusal is placed at `place`.
-fn within(s: &[u8], at: usize, n: usize, place: usize) -> Place
-    ensures { λ r. ⌜ placeOf r ≡ within (now (s .entry)) at n place ⌝ }
-{
-    if wire::has_room(s.len(), at, n) {
-        let next = at + n;
-        return Place::At(next);
-    }
-    Place::Refused(wire::refuse(SHORT, place))
-}
-
-// The packed length at `at`, and the bytes behind it that it announces.
-fn read_length(s: &[u8], at: usize) -> Announced
-    ensures { λ r. ⌜ announcedOf r ≡ readPacked (now (s .entry)) at ⌝ }
-{
-    match wire::read_packed(s, at) {
-        Packed::Value { value, next } => {
-            let len = value as usize;
-            Announced::Read(Part { start: next, len })
-        }
-        Packed::Refused(r) => Announced::Refused(r),
-    }
-}
-
-// A part behind its length in a byte.
-fn short_part(s: &[u8], at: usize) -> PartRead
-    ensures { λ r. ⌜ partRead r ≡ shortPart (now (s .entry)) at ⌝ }
-{
-    let start = match within(s, at, 1, at) {
-        Place::At(next) => next,
-        Place::Refused(r) => return PartRead::Refused(r),
-    };
-    let len = s[at] as usize;
-    let next = match within(s, start, len, at) {
-        Place::At(next) => next,
-        Place::Refused(r) => return PartRead::Refused(r),
-    };
-    PartRead::Read {
-        part: Part { start, len },
-        next,
-    }
-}
-
 fn read_names(s: &[u8], at: usize) -> NamesRead
     ensures { λ r. ⌜ namesOf r ≡ readNames (now (s .entry)) at ⌝ }
 {
     let first = match short_part(s, at) {
-        PartRead::Read { part, next } => Cut { part, next },
+        PartRead::Read(cut) => cut,
         PartRead::Refused(r) => return NamesRead::Refused(r),
     };
     let behind = match within(s, first.next, 1, first.next) {
@@ -134,7 +77,7 @@ fn read_names(s: &[u8], at: usize) -> NamesRead
         Place::Refused(r) => return NamesRead::Refused(r),
     };
     let second = match short_part(s, behind) {
-        PartRead::Read { part, next } => Cut { part, next },
+        PartRead::Read(cut) => cut,
         PartRead::Refused(r) => return NamesRead::Refused(r),
     };
     let next = match within(s, second.next, 1, second.next) {
@@ -162,7 +105,7 @@ fn read_columns(s: &[u8], at: usize) -> ColumnsRead
         Place::Refused(r) => return ColumnsRead::Refused(r),
     };
     let cut = match long_part(s, behind) {
-        PartRead::Read { part, next } => Cut { part, next },
+        PartRead::Read(cut) => cut,
         PartRead::Refused(r) => return ColumnsRead::Refused(r),
     };
     let start = cut.next;
@@ -191,7 +134,7 @@ fn id_bytes(post_header: u8) -> usize
     6
 }
 
-// The event in the lent bytes, which stand behind its header; post_header is what the format description says of table maps.
+// The event in the lent bytes, which stand behind its header; post_header is the length that the format description gives for table maps.
 pub fn read_event(event: &[u8], post_header: u8) -> EventRead
     ensures { λ r. ⌜ eventOf r ≡ readEvent (now (event .entry)) «post_header» ⌝ }
 {

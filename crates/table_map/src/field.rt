@@ -1,5 +1,6 @@
 // The optional fields, one after the other (table_map_event.rs: OptionalMetadataIter).
 use crate::event::Part;
+use crate::event::part_of;
 use crate::part::PartRead;
 use crate::part::long_part;
 use value::Dialect;
@@ -14,10 +15,12 @@ ghost use lib.ListN.{length};
 ghost use Rattle.wire.specs.Packed.{readPacked};
 ghost use Rattle.table_map.specs.Fields.{signBits, countSigned, isField, isRead, contentsHold, fieldStep, fieldOf};
 
-// Where a walk over the optional bytes stands, with what it needs of the map: how many columns have a signedness bit, and how many columns there are. The two are counted once.
+// Where a walk over the optional bytes stands, with what it needs of the map, counted once.
 pub struct Fields {
     pub at: usize,
+    // how many columns have a signedness bit
     pub numeric: usize,
+    // how many columns there are
     pub columns: usize,
 }
 
@@ -46,36 +49,32 @@ impl Fields {
         ensures { λ r. ⌜ fieldOf r ≡ fieldStep self (now (optional .entry)) ⌝ }
     {
         let at = self.at;
-        let numeric = self.numeric;
-        let columns = self.columns;
         if at == optional.len() {
             return FieldStep::End;
         }
         if optional.len() < at {
             return FieldStep::Refused(wire::refuse(SHORT, at));
         }
-        match long_part(optional, at + 1) {
-            PartRead::Read { part, next: behind } => {
-                let kind = optional[at];
-                if is_field(kind) {
-                    let start = part.start;
-                    let end = start + part.len;
-                    if contents_hold(numeric, columns, kind, &optional[start..end]) {
-                        return FieldStep::Field {
-                            kind,
-                            value: part,
-                            next: Fields {
-                                at: behind,
-                                numeric,
-                                columns,
-                            },
-                        };
-                    }
-                    return FieldStep::Refused(wire::refuse(BAD_FIELD, at));
-                }
-                FieldStep::Refused(wire::refuse(UNKNOWN_FIELD, at))
-            }
-            PartRead::Refused(r) => FieldStep::Refused(r),
+        let cut = match long_part(optional, at + 1) {
+            PartRead::Read(cut) => cut,
+            PartRead::Refused(r) => return FieldStep::Refused(r),
+        };
+        let kind = optional[at];
+        if !is_field(kind) {
+            return FieldStep::Refused(wire::refuse(UNKNOWN_FIELD, at));
+        }
+        let value = cut.part;
+        if !contents_hold(self.numeric, self.columns, kind, part_of(optional, value)) {
+            return FieldStep::Refused(wire::refuse(BAD_FIELD, at));
+        }
+        FieldStep::Field {
+            kind,
+            value,
+            next: Fields {
+                at: cut.next,
+                numeric: self.numeric,
+                columns: self.columns,
+            },
         }
     }
 }
@@ -112,7 +111,7 @@ fn is_field(kind: u8) -> bool
     kind <= 13
 }
 
-// Whether the contents of a field are as the walk asks.
+// Whether the contents of a field are as the walk asks: 1 and 12 are bits of columns, 2 and 10 start with a default charset.
 fn contents_hold(numeric: usize, columns: usize, kind: u8, value: &[u8]) -> bool
     ensures { λ r. ⌜ r ≡ contentsHold numeric columns kind (now (value .entry)) ⌝ }
 {

@@ -1,14 +1,17 @@
-// The lists in optional fields: integers, pairs, strings and groups of strings (table_map_event.rs: IterCharsets, IterNonDefault, IterNames, IterSetStrValues and their like).
+// What stands in optional fields: integers, pairs, strings and groups of strings (table_map_event.rs: IterCharsets, IterNonDefault, IterNames, IterSetStrValues and their like), and bits.
 // A cursor is an offset: at the length the list has ended; past it there is no first byte, and the reader of that refuses.
 use crate::event::Part;
 use crate::part::PartRead;
+use crate::part::Place;
 use crate::part::long_part;
 use wire::Packed;
 use wire::Refusal;
 ghost use mathlib.Core.Path.{_≡_};
 ghost use Rattle.wire.specs.Bits.{bitMsb0};
-ghost use Rattle.table_map.specs.Lists.{step, integerItem, pairItem, stringItem, groupItem, strings, integerOf, pairOf, stringOf, groupOf, reachedOf, defaultCharset, charsetOf};
+ghost use Rattle.table_map.specs.Lists.{step, integerItem, pairItem, stringItem, groupItem, strings, integerOf, pairOf, stringOf, groupOf, defaultCharset, charsetOf};
+ghost use Rattle.table_map.specs.Reads.{placeOf};
 
+// The cursor of a list of integers: fields 3, 7, 8, 11 and 13.
 pub struct Integers {
     pub at: usize,
 }
@@ -37,6 +40,7 @@ impl Integers {
     }
 }
 
+// The cursor of a list of pairs: in field 9 a column and the length of its prefix; in fields 2 and 10, behind the default, a rank and its charset.
 pub struct Pairs {
     pub at: usize,
 }
@@ -79,6 +83,7 @@ impl Pairs {
     }
 }
 
+// The cursor of a list of strings: field 4.
 pub struct Strings {
     pub at: usize,
 }
@@ -98,16 +103,19 @@ impl Strings {
             return StringStep::End;
         }
         match long_part(s, at) {
-            PartRead::Read { part, next } => StringStep::Item {
-                value: part,
-                next: Strings { at: next },
-            },
+            PartRead::Read(cut) => {
+                let value = cut.part;
+                StringStep::Item {
+                    value,
+                    next: Strings { at: cut.next },
+                }
+            }
             PartRead::Refused(r) => StringStep::Refused(r),
         }
     }
 }
 
-// A group is told by how many strings it has and where the first stands.
+// The cursor of a list of groups of strings: fields 5 and 6. A group is told by how many strings it has and where the first stands.
 pub struct Groups {
     pub at: usize,
 }
@@ -135,40 +143,34 @@ impl Groups {
                 value: count,
                 next: first,
             } => match skip_strings(s, first, count) {
-                Reached::To(next) => GroupStep::Item {
+                Place::At(next) => GroupStep::Item {
                     count,
                     first,
                     next: Groups { at: next },
                 },
-                Reached::Refused(r) => GroupStep::Refused(r),
+                Place::Refused(r) => GroupStep::Refused(r),
             },
             Packed::Refused(r) => GroupStep::Refused(r),
         }
     }
 }
 
-// The place after what was read, or why it was not.
-enum Reached {
-    To(usize),
-    Refused(Refusal),
-}
-
 // Reads n strings, one after the other, up to the first that is not there: n is believed only as far as the bytes go.
-fn skip_strings(s: &[u8], at: usize, n: u64) -> Reached
-    ensures { λ r. ⌜ reachedOf r ≡ strings n (now (s .entry)) at ⌝ }
+fn skip_strings(s: &[u8], at: usize, n: u64) -> Place
+    ensures { λ r. ⌜ placeOf r ≡ strings n (now (s .entry)) at ⌝ }
 {
     let mut place = at;
     let mut i: u64 = 0;
     while i < n {
         match long_part(s, place) {
-            PartRead::Read { part: _, next } => {
-                place = next;
+            PartRead::Read(cut) => {
+                place = cut.next;
             }
-            PartRead::Refused(r) => return Reached::Refused(r),
+            PartRead::Refused(r) => return Place::Refused(r),
         }
         i += 1;
     }
-    Reached::To(place)
+    Place::At(place)
 }
 
 // The default charset at the start of fields 2 and 10, and the pairs (rank, charset) that follow it.

@@ -38,7 +38,7 @@ fn is_event(id: u64, database: &[u8], table: &[u8], types: &[u8], bits: &[u8]) -
     bits.len() == wire::bytes_for(types.len())
 }
 
-// How many bytes the event takes, or why it is not written.
+// How many bytes `write_event` writes of these parts, or why it writes none.
 pub fn event_size(
     id: u64,
     flags: u16,
@@ -55,7 +55,9 @@ pub fn event_size(
         return Size::Refused(wire::refuse(NOT_TAKEN, 0));
     }
     let lengths = wire::packed_size(types.len() as u64) + wire::packed_size(metadata.len() as u64);
+    // id and flags, and for each name a length byte and a zero byte: 12
     let head = 12 + database.len() + table.len() + lengths;
+    // this sum fits: a slice has fewer than 2^63 bytes, names are short, and the bits are an eighth of the types
     let front = head + types.len() + bits.len();
     if !wire::has_room(SIZE_MOST, front, metadata.len()) {
         return Size::Refused(wire::refuse(NO_ROOM, 0));

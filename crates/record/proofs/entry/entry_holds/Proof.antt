@@ -22,21 +22,33 @@ is-accepted-requires c κs = search needs
 
 returns : tie.Need-returns
 unfolding entryHolds
-returns c = rw (ap (λ (x : Column). isTaken (shapeOf x)) (sym (c .before .before .column-of .ensures)) ∙ sym (c .before .is-accepted .ensures) ∙ not-true _ (c .if1 .taken))
+returns c = rw (ap (λ (k : Column). isTaken (shapeOf k)) (sym (c .before .before .column-of .ensures)) ∙ sym (c .before .is-accepted .ensures) ∙ not-true _ (c .if1 .taken))
 
 flags-hold-requires : tie.Need-flags-hold-requires
 flags-hold-requires c κs = search needs
 
 returns-2 : tie.Need-returns-2
 unfolding entryHolds
-returns-2 c = rw (ap (λ (x : Column). isTaken (shapeOf x)) (sym (c .before .before .before .before .column-of .ensures)) ∙ sym (c .before .before .before .is-accepted .ensures) ∙ not-false _ (c .before .before .if1 .left), sym (c .before .flags-hold .ensures) ∙ not-true _ (c .if2 .taken))
+returns-2 c =
+    let x = c .before .before in
+    rw (
+      ap (λ (k : Column). isTaken (shapeOf k)) (sym (x .before .before .column-of .ensures)) ∙ sym (x .before .is-accepted .ensures) ∙ not-false _ (x .if1 .left),
+      sym (c .before .flags-hold .ensures) ∙ not-true _ (c .if2 .taken),
+    )
 
 charset-holds-requires : tie.Need-charset-holds-requires
 charset-holds-requires c κs = search needs
 
 returns-3 : tie.Need-returns-3
 unfolding entryHolds
-returns-3 c = rw (ap (λ (x : Column). isTaken (shapeOf x)) (sym (c .before .before .before .before .before .column-of .ensures)) ∙ sym (c .before .before .before .before .is-accepted .ensures) ∙ not-false _ (c .before .before .before .if1 .left), sym (c .before .before .flags-hold .ensures) ∙ not-false _ (c .before .if2 .left), c .charset-holds .ensures)
+returns-3 c =
+    let y = c .before in
+    let x = y .before .before in
+    rw (
+      ap (λ (k : Column). isTaken (shapeOf k)) (sym (x .before .before .column-of .ensures)) ∙ sym (x .before .is-accepted .ensures) ∙ not-false _ (x .if1 .left),
+      sym (y .before .flags-hold .ensures) ∙ not-false _ (y .if2 .left),
+      c .charset-holds .ensures,
+    )
 
 pub entry-holds-spec : {M : Type 1} → statement M
 entry-holds-spec =

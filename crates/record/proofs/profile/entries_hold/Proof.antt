@@ -1,6 +1,7 @@
--- `record::profile::entries_hold` meets its contract. Assumes nothing.
+-- `record::profile::entries_hold` meets its contract. The loop's invariant: whether the entries left hold says whether all do. Assumes nothing.
 use Prim.Native.Nat.{ℕ, _-_, _≤_}
 use mathlib.Core.Path.{_≡_, sym, ap, _∙_}
+use native.Mathlib.Nat.{sub-zero}
 use native.Mathlib.Omega.{arith}
 use borrow.Author.Needs.{needs}
 use borrow.Author.Tests.{not-true, not-false}
@@ -21,7 +22,7 @@ abbrev μ-loop : tie.MeasureT-loop
 μ-loop profile n j₀ j = n - j
 
 loop-holds : tie.Need-loop-holds Inv-loop μ-loop
-loop-holds c = let a = c .before .args in let z : a .n - 0 ≡ a .n = omega arith in (omega arith, ap (λ (k : ℕ). entriesHold k (a .profile .now) 0) z)
+loop-holds c = (omega arith, simp sub-zero)
 
 entry-in-requires : tie.Need-entry-in-requires Inv-loop μ-loop
 entry-in-requires c κs = search needs
@@ -30,7 +31,11 @@ entry-holds-requires : tie.Need-entry-holds-requires Inv-loop μ-loop
 entry-holds-requires c κs = search needs
 
 returns : tie.Need-returns Inv-loop μ-loop
-returns c = let a = c .before .before .before .before .before .before .args in let l = c .before .before .before .before .loop in sym (sym (l .inv .1) ∙ stops (a .n) (a .profile .now) (l .j) (c .before .before .before .loop-test .taken) (ap entryHolds (sym (c .before .before .entry-in .ensures)) ∙ sym (c .before .entry-holds .ensures) ∙ not-true _ (c .if1 .taken)))
+returns c =
+    let t = c .before .before .before in
+    let l = t .before .loop in
+    let h = ap entryHolds (sym (c .before .before .entry-in .ensures)) ∙ sym (c .before .entry-holds .ensures) ∙ not-true _ (c .if1 .taken) in
+    sym (sym (l .inv .1) ∙ stops _ _ (l .j) (t .loop-test .taken) h)
 
 add-j : tie.Need-add-j Inv-loop μ-loop
 add-j c = omega arith
@@ -39,10 +44,18 @@ loop-less : tie.Need-loop-less Inv-loop μ-loop
 loop-less c = omega arith
 
 loop-again : tie.Need-loop-again Inv-loop μ-loop
-loop-again c = let a = c .before .before .before .before .before .before .args in let l = c .before .before .before .before .loop in (omega (arith, c .before .before .before .loop-test .taken), sym (goes-on (a .n) (a .profile .now) (l .j) (c .before .before .before .loop-test .taken) (ap entryHolds (sym (c .before .before .entry-in .ensures)) ∙ sym (c .before .entry-holds .ensures) ∙ not-false _ (c .if1 .left))) ∙ l .inv .1)
+loop-again c =
+    let t = c .before .before .before in
+    let l = t .before .loop in
+    let h = ap entryHolds (sym (c .before .before .entry-in .ensures)) ∙ sym (c .before .entry-holds .ensures) ∙ not-false _ (c .if1 .left) in
+    (omega (arith, t .loop-test .taken), sym (goes-on _ _ (l .j) (t .loop-test .taken) h) ∙ l .inv .1)
 
 returns-2 : tie.Need-returns-2 Inv-loop μ-loop
-returns-2 c = let a = c .before .before .before .args in let l = c .before .loop in let z : a .n - l .j ≡ 0 = omega (arith, c .loop-test .left) in sym (sym (l .inv .1) ∙ ap (λ (k : ℕ). entriesHold k (a .profile .now) (l .j)) z ∙ none-left (a .profile .now) (l .j))
+returns-2 c =
+    let a = c .before .before .before .args in
+    let l = c .before .loop in
+    let z : a .n - l .j ≡ 0 = omega (arith, c .loop-test .left) in
+    sym (sym (l .inv .1) ∙ ap (λ (k : ℕ). entriesHold k (a .profile .now) (l .j)) z ∙ none-left (a .profile .now) (l .j))
 
 pub entries-hold-spec : {M : Type 1} → statement M
 entries-hold-spec =

@@ -13,7 +13,9 @@ use Rattle.record.proofs.profile.byte_at.Reads as byte-at-reads
 use Rattle.wire.proofs.read_le.Reads as read-le-reads
 
 returns : tie.Need-returns
-returns c = let a = c .before .before .args in sym (entry-past (a .profile .now) (a .column) (omega (arith, c .if1 .taken)))
+returns c =
+    let a = c .before .before .args in
+    sym (entry-past (a .profile .now) (a .column) (omega (arith, c .if1 .taken)))
 
 mul-at : tie.Need-mul-at
 mul-at c = search needs
@@ -53,7 +55,17 @@ byte-at-requires-4 c κs = search needs
 
 returns-2 : tie.Need-returns-2
 unfolding entryIn
-returns-2 c = let a = c .before .before .before .before .before .before .before .args in rw (entry-bytes (a .profile .now) (6 + 6 * a .column), c .byte-at4 .ensures, c .before .byte-at3 .ensures, c .before .before .byte-at2 .ensures, c .before .before .before .byte-at .ensures, c .before .before .before .before .read-le .ensures .0)
+returns-2 c =
+    let l = c .before .before .before .before in
+    let a = l .before .before .before .args in
+    rw (
+      entry-bytes (a .profile .now) (6 + 6 * a .column),
+      c .byte-at4 .ensures,
+      c .before .byte-at3 .ensures,
+      c .before .before .byte-at2 .ensures,
+      c .before .before .before .byte-at .ensures,
+      l .read-le .ensures .0,
+    )
 
 pub entry-in-spec : {M : Type 1} → statement M
 entry-in-spec =

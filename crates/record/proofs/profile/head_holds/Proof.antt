@@ -28,14 +28,33 @@ read-le-requires-2 c κs = search needs
 
 returns-3 : tie.Need-returns-3
 unfolding headHolds
-returns-3 c = rw (le-leb 6 _ (c .before .before .before .before .if1 .left), ← c .before .before .before .read-le .ensures .0, eq-eqb _ _ (c .before .before .if2 .left), ← c .before .read-le2 .ensures .0, ne-eqb _ _ (c .if3 .taken))
+returns-3 c =
+    let x = c .before .before in
+    rw (
+      le-leb 6 _ (x .before .before .if1 .left),
+      ← x .before .read-le .ensures .0,
+      eq-eqb _ _ (x .if2 .left),
+      ← c .before .read-le2 .ensures .0,
+      ne-eqb _ _ (c .if3 .taken),
+    )
 
 byte-at-requires : tie.Need-byte-at-requires
 byte-at-requires c κs = search needs
 
 returns-4 : tie.Need-returns-4
 unfolding headHolds
-returns-4 c = rw (le-leb 6 _ (c .before .before .before .before .before .before .if1 .left), ← c .before .before .before .before .before .read-le .ensures .0, eq-eqb _ _ (c .before .before .before .before .if2 .left), ← c .before .before .before .read-le2 .ensures .0, eq-eqb _ _ (c .before .before .if3 .left), ← c .before .byte-at .ensures, ne-eqb _ _ (c .if4 .taken))
+returns-4 c =
+    let y = c .before .before in
+    let x = y .before .before in
+    rw (
+      le-leb 6 _ (x .before .before .if1 .left),
+      ← x .before .read-le .ensures .0,
+      eq-eqb _ _ (x .if2 .left),
+      ← y .before .read-le2 .ensures .0,
+      eq-eqb _ _ (y .if3 .left),
+      ← c .before .byte-at .ensures,
+      ne-eqb _ _ (c .if4 .taken),
+    )
 
 byte-at-requires-2 : tie.Need-byte-at-requires-2
 byte-at-requires-2 c κs = search needs
@@ -51,7 +70,20 @@ add-result c = search needs
 
 returns-5 : tie.Need-returns-5
 unfolding headHolds
-returns-5 c = rw (le-leb 6 _ (c .before .before .before .before .before .before .before .before .if1 .left), ← c .before .before .before .before .before .before .before .read-le .ensures .0, eq-eqb _ _ (c .before .before .before .before .before .before .if2 .left), ← c .before .before .before .before .before .read-le2 .ensures .0, eq-eqb _ _ (c .before .before .before .before .if3 .left), ← c .before .before .before .byte-at .ensures, eq-eqb _ _ (c .before .before .if4 .left), c .wide .ensures ∙ c .before .byte-at2 .ensures)
+returns-5 c =
+    let z = c .before .before in
+    let y = z .before .before in
+    let x = y .before .before in
+    rw (
+      le-leb 6 _ (x .before .before .if1 .left),
+      ← x .before .read-le .ensures .0,
+      eq-eqb _ _ (x .if2 .left),
+      ← y .before .read-le2 .ensures .0,
+      eq-eqb _ _ (y .if3 .left),
+      ← z .before .byte-at .ensures,
+      eq-eqb _ _ (z .if4 .left),
+      c .wide .ensures ∙ c .before .byte-at2 .ensures,
+    )
 
 pub head-holds-spec : {M : Type 1} → statement M
 head-holds-spec =

@@ -38,11 +38,27 @@ refuse-requires-2 c κs = search needs
 
 returns-2 : tie.Need-returns-2
 unfolding readRecord recordValid
-returns-2 c = rw (sym (c .before .before .before .before .before .before .head-holds .ensures) ∙ not-false _ (c .before .before .before .before .before .if1 .left), ap (λ (n : ℕ). entriesHold n (c .before .before .before .before .before .before .before .before .args .profile .now) 0) (sym (c .before .before .before .wide .ensures ∙ c .before .before .before .before .byte-at .ensures)) ∙ sym (c .before .before .entries-hold .ensures) ∙ not-true _ (c .before .if2 .taken), c .refuse2 .ensures)
+returns-2 c =
+    let w = c .before .before .before in
+    let s = w .before .before .before .before .before .args .profile .now in
+    let n = w .wide .ensures ∙ w .before .byte-at .ensures in
+    rw (
+      sym (w .before .before .before .head-holds .ensures) ∙ not-false _ (w .before .before .if1 .left),
+      ap (λ (k : ℕ). entriesHold k s 0) (sym n) ∙ sym (c .before .before .entries-hold .ensures) ∙ not-true _ (c .before .if2 .taken),
+      c .refuse2 .ensures,
+    )
 
 returns-3 : tie.Need-returns-3
 unfolding readRecord recordValid
-returns-3 c = rw (sym (c .before .before .before .before .before .head-holds .ensures) ∙ not-false _ (c .before .before .before .before .if1 .left), ap (λ (n : ℕ). entriesHold n (c .before .before .before .before .before .before .before .args .profile .now) 0) (sym (c .before .before .wide .ensures ∙ c .before .before .before .byte-at .ensures)) ∙ sym (c .before .entries-hold .ensures) ∙ not-false _ (c .if2 .left), c .before .before .wide .ensures ∙ c .before .before .before .byte-at .ensures)
+returns-3 c =
+    let w = c .before .before in
+    let s = w .before .before .before .before .before .args .profile .now in
+    let n = w .wide .ensures ∙ w .before .byte-at .ensures in
+    rw (
+      sym (w .before .before .before .head-holds .ensures) ∙ not-false _ (w .before .before .if1 .left),
+      ap (λ (k : ℕ). entriesHold k s 0) (sym n) ∙ sym (c .before .entries-hold .ensures) ∙ not-false _ (c .if2 .left),
+      n,
+    )
 
 pub read-record-spec : {M : Type 1} → statement M
 read-record-spec =

@@ -1,11 +1,9 @@
 -- `table_map::event::part_of` meets its contract. Assumes nothing.
-use Prim.Native.Nat.{_+_, _≤_}
+use Prim.Native.Nat.{_+_, _-_, _≤_}
+use mathlib.Core.Path.{_≡_, sym, _∙_}
 use native.Mathlib.Omega.{arith}
-use mathlib.Core.Path.{sym, _∙_}
 use lib.ListN.{length}
 use Rattle.wire.proofs.Stores.{room}
-use Prim.Native.Nat.{_-_}
-use mathlib.Core.Path.{_≡_}
 use borrow.Author.Needs.{needs}
 use Rattle.table_map.proofs.event.part_of.Statement.{statement}
 use Rattle.table_map.proofs.event.part_of.Tie as tie
@@ -17,7 +15,10 @@ has-room-requires : tie.Need-has-room-requires
 has-room-requires c κs = search needs
 
 add-end : tie.Need-add-end
-add-end c = let r : c .before .before .before .before .args .part .start + c .before .before .before .before .args .part .len ≤ length (c .before .before .before .before .args .s .now) = room _ _ _ _ (c .before .before .has-room .ensures) (c .before .if1 .taken) in omega arith
+add-end c =
+    let a = c .before .before .before .before .args in
+    let r : a .part .start + a .part .len ≤ length (a .s .now) = room _ _ _ _ (c .before .before .has-room .ensures) (c .before .if1 .taken) in
+    omega arith
 
 sub-result : tie.Need-sub-result
 sub-result c = search needs
@@ -26,10 +27,16 @@ part-result-start : tie.Need-part-result-start
 part-result-start c = search needs
 
 part-result-end : tie.Need-part-result-end
-part-result-end c = let r : c .before .before .before .before .args .part .start + c .before .before .before .before .args .part .len ≤ length (c .before .before .before .before .args .s .now) = room _ _ _ _ (c .before .before .has-room .ensures) (c .before .if1 .taken) in omega arith
+part-result-end c =
+    let a = c .before .before .before .before .args in
+    let r : a .part .start + a .part .len ≤ length (a .s .now) = room _ _ _ _ (c .before .before .has-room .ensures) (c .before .if1 .taken) in
+    omega arith
 
 returns : tie.Need-returns
-returns c = let e : c .before .before .before .before .before .args .part .start + c .before .before .before .before .before .args .part .len - c .before .before .before .before .before .args .part .start ≡ c .before .before .before .before .before .args .part .len = omega arith in rw (sym (c .before .before .before .has-room .ensures) ∙ c .before .before .if1 .taken, e)
+returns c =
+    let p = c .before .before .before .before .before .args .part in
+    let e : p .start + p .len - p .start ≡ p .len = omega arith in
+    rw (sym (c .before .before .before .has-room .ensures) ∙ c .before .before .if1 .taken, e)
 
 sub-result-2 : tie.Need-sub-result-2
 sub-result-2 c = search needs

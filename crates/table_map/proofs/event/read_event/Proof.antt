@@ -1,4 +1,4 @@
--- `table_map::event::read_event` meets its contract. Assumes nothing.
+-- `table_map::event::read_event` meets its contract. `a`, `b`, `x` and `y` are where what the definition calls so is known. Assumes nothing.
 use mathlib.Core.Path.{sym, ap, _∙_}
 use Rattle.table_map.specs.Reads.{columnsOf, namesOf, placeOf}
 use Rattle.table_map.specs.Events.{readEvent}
@@ -14,7 +14,7 @@ use Rattle.table_map.proofs.event.read_event.Lts as lts
 use Rattle.table_map.proofs.event.id_bytes.Reads as id-bytes-reads
 use Rattle.table_map.proofs.event.read_columns.Reads as read-columns-reads
 use Rattle.table_map.proofs.event.read_names.Reads as read-names-reads
-use Rattle.table_map.proofs.event.within.Reads as within-reads
+use Rattle.table_map.proofs.part.within.Reads as within-reads
 use Rattle.wire.proofs.read_le.Reads as read-le-reads
 
 id-bytes-requires : tie.Need-id-bytes-requires
@@ -31,7 +31,10 @@ enum-known-r c = search needs
 
 returns : tie.Need-returns
 unfolding readEvent
-returns c = rw (← c .before .before .before .before .id-bytes .ensures, sym (c .before .before .before .within .ensures) ∙ ap placeOf (c .before .r .given .1))
+returns c = rw (
+  ← c .before .before .before .before .id-bytes .ensures,
+  sym (c .before .before .before .within .ensures) ∙ ap placeOf (c .before .r .given .1),
+)
 
 within-requires-2 : tie.Need-within-requires-2
 within-requires-2 c κs = search needs
@@ -44,7 +47,13 @@ enum-known-r-2 c = search needs
 
 returns-2 : tie.Need-returns-2
 unfolding readEvent
-returns-2 c = rw (← c .before .before .before .before .before .before .before .before .id-bytes .ensures, sym (c .before .before .before .before .before .before .before .within .ensures) ∙ ap placeOf (c .before .before .before .before .before .next .given .1), sym (c .before .before .before .within2 .ensures) ∙ ap placeOf (c .before .r2 .given .1))
+returns-2 c =
+    let a = c .before .before .before .before .before in
+    rw (
+      ← a .before .before .before .id-bytes .ensures,
+      sym (a .before .before .within .ensures) ∙ ap placeOf (a .next .given .1),
+      sym (c .before .before .before .within2 .ensures) ∙ ap placeOf (c .before .r2 .given .1),
+    )
 
 read-names-requires : tie.Need-read-names-requires
 read-names-requires c κs = search needs
@@ -57,7 +66,15 @@ enum-known-r-3 c = search needs
 
 returns-3 : tie.Need-returns-3
 unfolding readEvent
-returns-3 c = rw (← c .before .before .before .before .before .before .before .before .before .before .before .before .id-bytes .ensures, sym (c .before .before .before .before .before .before .before .before .before .before .before .within .ensures) ∙ ap placeOf (c .before .before .before .before .before .before .before .before .before .next .given .1), sym (c .before .before .before .before .before .before .before .within2 .ensures) ∙ ap placeOf (c .before .before .before .before .before .next2 .given .1), sym (c .before .before .before .read-names .ensures) ∙ ap namesOf (c .before .r3 .given .1))
+returns-3 c =
+    let b = c .before .before .before .before .before in
+    let a = b .before .before .before .before in
+    rw (
+      ← a .before .before .before .id-bytes .ensures,
+      sym (a .before .before .within .ensures) ∙ ap placeOf (a .next .given .1),
+      sym (b .before .before .within2 .ensures) ∙ ap placeOf (b .next2 .given .1),
+      sym (c .before .before .before .read-names .ensures) ∙ ap namesOf (c .before .r3 .given .1),
+    )
 
 read-columns-requires : tie.Need-read-columns-requires
 read-columns-requires c κs = search needs
@@ -70,7 +87,17 @@ enum-known-r-4 c = search needs
 
 returns-4 : tie.Need-returns-4
 unfolding readEvent
-returns-4 c = rw (← c .before .before .before .before .before .before .before .before .before .before .before .before .before .before .before .before .id-bytes .ensures, sym (c .before .before .before .before .before .before .before .before .before .before .before .before .before .before .before .within .ensures) ∙ ap placeOf (c .before .before .before .before .before .before .before .before .before .before .before .before .before .next .given .1), sym (c .before .before .before .before .before .before .before .before .before .before .before .within2 .ensures) ∙ ap placeOf (c .before .before .before .before .before .before .before .before .before .next2 .given .1), sym (c .before .before .before .before .before .before .before .read-names .ensures) ∙ ap namesOf (c .before .before .before .before .before .names .given .1), sym (c .before .before .before .read-columns .ensures) ∙ ap columnsOf (c .before .r4 .given .1))
+returns-4 c =
+    let x = c .before .before .before .before .before in
+    let b = x .before .before .before .before in
+    let a = b .before .before .before .before in
+    rw (
+      ← a .before .before .before .id-bytes .ensures,
+      sym (a .before .before .within .ensures) ∙ ap placeOf (a .next .given .1),
+      sym (b .before .before .within2 .ensures) ∙ ap placeOf (b .next2 .given .1),
+      sym (x .before .before .read-names .ensures) ∙ ap namesOf (x .names .given .1),
+      sym (c .before .before .before .read-columns .ensures) ∙ ap columnsOf (c .before .r4 .given .1),
+    )
 
 sub-len : tie.Need-sub-len
 sub-len c = omega (arith, columns-end _ _ _ (sym (c .before .before .before .read-columns .ensures) ∙ ap columnsOf (c .before .columns .given .1)))
@@ -86,11 +113,30 @@ cast-flags c = search needs
 
 returns-5 : tie.Need-returns-5
 unfolding readEvent
-returns-5 c = let w = c .before .before .before .before .before .before .before .before .before .before .before .before .before .before .before .before .before .before .before .before .before .before .before .id-bytes .result in
-    let k : w ≤ 6 = rw (c .before .before .before .before .before .before .before .before .before .before .before .before .before .before .before .before .before .before .before .before .before .before .before .id-bytes .ensures) (id-narrow (c .before .before .before .before .before .before .before .before .before .before .before .before .before .before .before .before .before .before .before .before .before .before .before .before .before .args .post-header)) in
+returns-5 c =
+    let l = c .before .before .before .before .before in
+    let y = l .before .before .before in
+    let x = y .before .before .before .before in
+    let b = x .before .before .before .before in
+    let a = b .before .before .before .before in
+    let i = a .before .before .before in
+    let v = i .before .before .args in
+    let w = i .id-bytes .result in
+    let e = sym (a .before .before .within .ensures) ∙ ap placeOf (a .next .given .1) in
+    let k : w ≤ 6 = rw (i .id-bytes .ensures) (id-narrow (v .post-header)) in
     let m : min w 8 ≡ w = omega arith in
-    let n : c .before .before .before .before .before .before .before .before .before .before .before .before .before .before .before .before .before .before .before .before .next .given .0 .0 ≡ w = omega (arith, within-ok (c .before .before .before .before .before .before .before .before .before .before .before .before .before .before .before .before .before .before .before .before .before .before .before .before .before .args .event .now) 0 w 0 (c .before .before .before .before .before .before .before .before .before .before .before .before .before .before .before .before .before .before .before .before .next .given .0 .0) (sym (c .before .before .before .before .before .before .before .before .before .before .before .before .before .before .before .before .before .before .before .before .before .before .within .ensures) ∙ ap placeOf (c .before .before .before .before .before .before .before .before .before .before .before .before .before .before .before .before .before .before .before .before .next .given .1))) in
-    rw (← c .before .before .before .before .before .before .before .before .before .before .before .before .before .before .before .before .before .before .before .before .before .before .before .id-bytes .ensures, sym (c .before .before .before .before .before .before .before .before .before .before .before .before .before .before .before .before .before .before .before .before .before .before .within .ensures) ∙ ap placeOf (c .before .before .before .before .before .before .before .before .before .before .before .before .before .before .before .before .before .before .before .before .next .given .1), sym (c .before .before .before .before .before .before .before .before .before .before .before .before .before .before .before .before .before .before .within2 .ensures) ∙ ap placeOf (c .before .before .before .before .before .before .before .before .before .before .before .before .before .before .before .before .next2 .given .1), sym (c .before .before .before .before .before .before .before .before .before .before .before .before .before .before .read-names .ensures) ∙ ap namesOf (c .before .before .before .before .before .before .before .before .before .before .before .before .names .given .1), sym (c .before .before .before .before .before .before .before .before .before .before .read-columns .ensures) ∙ ap columnsOf (c .before .before .before .before .before .before .before .before .columns .given .1), c .before .before .before .before .before .before .read-le .ensures .0, c .before .before .before .before .before .read-le2 .ensures .0, m, n)
+    let n : a .next .given .0 .0 ≡ w = omega (arith, within-ok (v .event .now) 0 w 0 (a .next .given .0 .0) e) in
+    rw (
+      ← i .id-bytes .ensures,
+      e,
+      sym (b .before .before .within2 .ensures) ∙ ap placeOf (b .next2 .given .1),
+      sym (x .before .before .read-names .ensures) ∙ ap namesOf (x .names .given .1),
+      sym (y .before .before .read-columns .ensures) ∙ ap columnsOf (y .columns .given .1),
+      l .before .read-le .ensures .0,
+      l .read-le2 .ensures .0,
+      m,
+      n,
+    )
 
 pub read-event-spec : {M : Type 1} → statement M
 read-event-spec =

@@ -1,28 +1,27 @@
--- `table_map::event::read_names` meets its contract. Assumes nothing.
+-- `table_map::event::read_names` meets its contract. `d`, `a`, `t` and `b` are where what the definition calls so is known. Assumes nothing.
 use mathlib.Core.Path.{sym, ap, _∙_}
-use Rattle.table_map.specs.Reads.{placeOf}
-use Rattle.table_map.specs.Parts.{partRead}
+use Rattle.table_map.specs.Reads.{placeOf, cutOf}
 use Rattle.table_map.specs.Events.{readNames}
 use borrow.Author.Needs.{needs}
 use Rattle.table_map.proofs.event.read_names.Statement.{statement}
 use Rattle.table_map.proofs.event.read_names.Tie as tie
 use Rattle.table_map.proofs.event.read_names.Reads as reads
 use Rattle.table_map.proofs.event.read_names.Lts as lts
-use Rattle.table_map.proofs.event.short_part.Reads as short-part-reads
-use Rattle.table_map.proofs.event.within.Reads as within-reads
+use Rattle.table_map.proofs.part.short_part.Reads as short-part-reads
+use Rattle.table_map.proofs.part.within.Reads as within-reads
 
 short-part-requires : tie.Need-short-part-requires
 short-part-requires c κs = search needs
 
-enum-known-part : tie.Need-enum-known-part
-enum-known-part c = search needs
+enum-known-cut : tie.Need-enum-known-cut
+enum-known-cut c = search needs
 
 enum-known-r : tie.Need-enum-known-r
 enum-known-r c = search needs
 
 returns : tie.Need-returns
 unfolding readNames
-returns c = rw (sym (c .before .before .before .short-part .ensures) ∙ ap partRead (c .before .r .given .1))
+returns c = rw (sym (c .before .before .before .short-part .ensures) ∙ ap cutOf (c .before .r .given .1))
 
 within-requires : tie.Need-within-requires
 within-requires c κs = search needs
@@ -35,20 +34,32 @@ enum-known-r-2 c = search needs
 
 returns-2 : tie.Need-returns-2
 unfolding readNames
-returns-2 c = rw (sym (c .before .before .before .before .before .before .before .short-part .ensures) ∙ ap partRead (c .before .before .before .before .before .part .given .1), sym (c .before .before .before .within .ensures) ∙ ap placeOf (c .before .r2 .given .1))
+returns-2 c =
+    let d = c .before .before .before .before .before in
+    rw (
+      sym (d .before .before .short-part .ensures) ∙ ap cutOf (d .cut .given .1),
+      sym (c .before .before .before .within .ensures) ∙ ap placeOf (c .before .r2 .given .1),
+    )
 
 short-part-requires-2 : tie.Need-short-part-requires-2
 short-part-requires-2 c κs = search needs
 
-enum-known-part-2 : tie.Need-enum-known-part-2
-enum-known-part-2 c = search needs
+enum-known-cut-2 : tie.Need-enum-known-cut-2
+enum-known-cut-2 c = search needs
 
 enum-known-r-3 : tie.Need-enum-known-r-3
 enum-known-r-3 c = search needs
 
 returns-3 : tie.Need-returns-3
 unfolding readNames
-returns-3 c = rw (sym (c .before .before .before .before .before .before .before .before .before .before .before .short-part .ensures) ∙ ap partRead (c .before .before .before .before .before .before .before .before .before .part .given .1), sym (c .before .before .before .before .before .before .before .within .ensures) ∙ ap placeOf (c .before .before .before .before .before .next .given .1), sym (c .before .before .before .short-part2 .ensures) ∙ ap partRead (c .before .r3 .given .1))
+returns-3 c =
+    let a = c .before .before .before .before .before in
+    let d = a .before .before .before .before in
+    rw (
+      sym (d .before .before .short-part .ensures) ∙ ap cutOf (d .cut .given .1),
+      sym (a .before .before .within .ensures) ∙ ap placeOf (a .next .given .1),
+      sym (c .before .before .before .short-part2 .ensures) ∙ ap cutOf (c .before .r3 .given .1),
+    )
 
 within-requires-2 : tie.Need-within-requires-2
 within-requires-2 c κs = search needs
@@ -61,18 +72,37 @@ enum-known-r-4 c = search needs
 
 returns-4 : tie.Need-returns-4
 unfolding readNames
-returns-4 c = rw (sym (c .before .before .before .before .before .before .before .before .before .before .before .before .before .before .before .short-part .ensures) ∙ ap partRead (c .before .before .before .before .before .before .before .before .before .before .before .before .before .part .given .1), sym (c .before .before .before .before .before .before .before .before .before .before .before .within .ensures) ∙ ap placeOf (c .before .before .before .before .before .before .before .before .before .next .given .1), sym (c .before .before .before .before .before .before .before .short-part2 .ensures) ∙ ap partRead (c .before .before .before .before .before .part2 .given .1), sym (c .before .before .before .within2 .ensures) ∙ ap placeOf (c .before .r4 .given .1))
+returns-4 c =
+    let t = c .before .before .before .before .before in
+    let a = t .before .before .before .before in
+    let d = a .before .before .before .before in
+    rw (
+      sym (d .before .before .short-part .ensures) ∙ ap cutOf (d .cut .given .1),
+      sym (a .before .before .within .ensures) ∙ ap placeOf (a .next .given .1),
+      sym (t .before .before .short-part2 .ensures) ∙ ap cutOf (t .cut2 .given .1),
+      sym (c .before .before .before .within2 .ensures) ∙ ap placeOf (c .before .r4 .given .1),
+    )
 
 returns-5 : tie.Need-returns-5
 unfolding readNames
-returns-5 c = rw (sym (c .before .before .before .before .before .before .before .before .before .before .before .before .before .before .before .before .before .short-part .ensures) ∙ ap partRead (c .before .before .before .before .before .before .before .before .before .before .before .before .before .before .before .part .given .1), sym (c .before .before .before .before .before .before .before .before .before .before .before .before .before .within .ensures) ∙ ap placeOf (c .before .before .before .before .before .before .before .before .before .before .before .next .given .1), sym (c .before .before .before .before .before .before .before .before .before .short-part2 .ensures) ∙ ap partRead (c .before .before .before .before .before .before .before .part2 .given .1), sym (c .before .before .before .before .before .within2 .ensures) ∙ ap placeOf (c .before .before .before .next2 .given .1))
+returns-5 c =
+    let b = c .before .before .before in
+    let t = b .before .before .before .before in
+    let a = t .before .before .before .before in
+    let d = a .before .before .before .before in
+    rw (
+      sym (d .before .before .short-part .ensures) ∙ ap cutOf (d .cut .given .1),
+      sym (a .before .before .within .ensures) ∙ ap placeOf (a .next .given .1),
+      sym (t .before .before .short-part2 .ensures) ∙ ap cutOf (t .cut2 .given .1),
+      sym (b .before .before .within2 .ensures) ∙ ap placeOf (b .next2 .given .1),
+    )
 
 pub read-names-spec : {M : Type 1} → statement M
 read-names-spec =
     tie.close
     (tie.spec
     short-part-requires
-    enum-known-part
+    enum-known-cut
     enum-known-r
     returns
     within-requires
@@ -80,7 +110,7 @@ read-names-spec =
     enum-known-r-2
     returns-2
     short-part-requires-2
-    enum-known-part-2
+    enum-known-cut-2
     enum-known-r-3
     returns-3
     within-requires-2

@@ -1,12 +1,11 @@
 -- `table_map::list::skip_strings` meets its contract. The loop's invariant: what is left leads from here to where all
 -- lead from the start. Assumes nothing.
-use mathlib.Core.Path.{sym, ap, _∙_}
 use Prim.Native.Nat.{_-_, _≤_}
-use mathlib.Core.Path.{_≡_}
+use mathlib.Core.Path.{_≡_, sym, ap, _∙_}
 use native.Mathlib.Nat.{sub-zero}
 use native.Mathlib.Omega.{arith}
-use Rattle.table_map.specs.Parts.{partRead}
 use Rattle.table_map.specs.Lists.{strings}
+use Rattle.table_map.specs.Reads.{cutOf}
 use Rattle.table_map.proofs.Items.{strings-turn, strings-none}
 use borrow.Author.Needs.{needs}
 use Rattle.table_map.proofs.list.skip_strings.Statement.{statement}
@@ -27,8 +26,8 @@ loop-holds c = (omega arith, simp sub-zero)
 long-part-requires : tie.Need-long-part-requires Inv-loop μ-loop
 long-part-requires c κs = search needs
 
-enum-known-next : tie.Need-enum-known-next Inv-loop μ-loop
-enum-known-next c = search needs
+enum-known-cut : tie.Need-enum-known-cut Inv-loop μ-loop
+enum-known-cut c = search needs
 
 enum-known-r : tie.Need-enum-known-r Inv-loop μ-loop
 enum-known-r c = search needs
@@ -37,7 +36,7 @@ returns : tie.Need-returns Inv-loop μ-loop
 returns c = rw (
   ← (c .before .before .before .before .before .loop .inv .1),
   strings-turn _ _ _ _ (c .before .before .before .before .loop-test .taken),
-  sym (c .before .before .before .long-part .ensures) ∙ ap partRead (c .before .r .given .1),
+  sym (c .before .before .before .long-part .ensures) ∙ ap cutOf (c .before .r .given .1),
 )
 
 add-i : tie.Need-add-i Inv-loop μ-loop
@@ -52,7 +51,7 @@ loop-again c = (
   rw (
     ← (c .before .before .before .before .before .loop .inv .1),
     strings-turn _ _ _ _ (c .before .before .before .before .loop-test .taken),
-    sym (c .before .before .before .long-part .ensures) ∙ ap partRead (c .before .next .given .1),
+    sym (c .before .before .before .long-part .ensures) ∙ ap cutOf (c .before .cut .given .1),
   ),
 )
 
@@ -67,7 +66,7 @@ skip-strings-spec =
     μ-loop
     loop-holds
     long-part-requires
-    enum-known-next
+    enum-known-cut
     enum-known-r
     returns
     add-i

@@ -1,12 +1,13 @@
 -- `table_map::write::event_size` meets its contract. Assumes nothing.
-use Prim.Native.Nat.{_+_, _≤_, _<_, _^_}
+use Prim.Native.Nat.{ℕ, _+_, _≤_, _<_, _^_}
 use native.Mathlib.Omega.{arith}
 use mathlib.Core.Bool.{true}
 use mathlib.Core.Path.{_≡_, sym, _∙_}
 use borrow.Author.Tests.{not-true, not-false}
 use lib.ListN.{length}
+use Rattle.wire.specs.Bits.{bytesFor}
 use Rattle.wire.proofs.Stores.{room, no-room}
-use Rattle.table_map.specs.Writes.{parts, isEvent, eventBytes}
+use Rattle.table_map.specs.Writes.{Parts, parts, isEvent, eventBytes}
 use Rattle.table_map.proofs.Puts.{any-rest, narrow, packed-narrow, size-not-taken, size-over, size-is, event-length}
 use borrow.Author.Needs.{needs}
 use Rattle.table_map.proofs.write.event_size.Statement.{statement}
@@ -18,6 +19,22 @@ use Rattle.wire.proofs.packed_size.Reads as packed-size-reads
 use Rattle.wire.proofs.refuse.Reads as refuse-reads
 use Rattle.wire.proofs.has_room.Reads as has-room-reads
 
+-- what bounds the sums before the metadata: names are short, there is a bit for each type, and a packed integer has at most 9 bytes
+bounds : (c : tie.After-packed-size2) → let a = c .before .before .before .before .before .before .before .before .before .before .args in
+    (length (a .database .now) ≤ 255)
+    × (length (a .table .now) ≤ 255)
+    × (length (a .bits .now) ≡ bytesFor (length (a .types .now)))
+    × (c .before .packed-size .result ≤ 9)
+    × (c .packed-size2 .result ≤ 9)
+bounds c =
+    let a = c .before .before .before .before .before .before .before .before .before .before .args in
+    let k = narrow _ _ _ _ _ (sym (c .before .before .before .is-event .ensures) ∙ not-false _ (c .before .before .if1 .left)) in
+    (k .0, k .1, k .2, omega (arith, c .before .packed-size .ensures, packed-narrow (length (a .types .now))), omega (arith, c .packed-size2 .ensures, packed-narrow (length (a .metadata .now))))
+
+-- what stands before the metadata, the two packed lengths having m and n bytes
+abbrev front : Parts → ℕ → ℕ → ℕ
+front p m n = 12 + length (p .database) + length (p .table) + (m + n) + length (p .types) + length (p .bits)
+
 is-event-requires : tie.Need-is-event-requires
 is-event-requires c κs = search needs
 
@@ -25,7 +42,8 @@ refuse-requires : tie.Need-refuse-requires
 refuse-requires c κs = search needs
 
 returns : tie.Need-returns
-returns c = let a = c .before .before .before .before .before .before .before .before .before .args in
+returns c =
+    let a = c .before .before .before .before .before .before .before .before .before .args in
     let p = parts (a .id) (a .flags) (a .database .now) (a .table .now) (a .types .now) (a .metadata .now) (a .bits .now) (a .optional .now) in
     rw (size-not-taken p (any-rest _ _ _ _ _ _ _ _ _ (sym (c .before .before .is-event .ensures) ∙ not-true _ (c .before .if1 .taken))), c .refuse .ensures)
 
@@ -36,34 +54,22 @@ packed-size-requires-2 : tie.Need-packed-size-requires-2
 packed-size-requires-2 c κs = search needs
 
 add-lengths : tie.Need-add-lengths
-add-lengths c = let a = c .before .before .before .before .before .before .before .before .before .before .args in omega (arith, c .before .packed-size .ensures, packed-narrow (length (a .types .now)), c .packed-size2 .ensures, packed-narrow (length (a .metadata .now)))
+add-lengths c = omega (arith, bounds c)
 
 add-head : tie.Need-add-head
 add-head c = search needs
 
 add-head-2 : tie.Need-add-head-2
-add-head-2 c =
-    let a = c .before .before .before .before .before .before .before .before .before .before .args in
-    let k = narrow _ _ _ _ _ (sym (c .before .before .before .is-event .ensures) ∙ not-false _ (c .before .before .if1 .left)) in
-    omega (arith, k .0, k .1, k .2, c .before .packed-size .ensures, packed-narrow (length (a .types .now)), c .packed-size2 .ensures, packed-narrow (length (a .metadata .now)))
+add-head-2 c = omega (arith, bounds c)
 
 add-head-3 : tie.Need-add-head-3
-add-head-3 c =
-    let a = c .before .before .before .before .before .before .before .before .before .before .args in
-    let k = narrow _ _ _ _ _ (sym (c .before .before .before .is-event .ensures) ∙ not-false _ (c .before .before .if1 .left)) in
-    omega (arith, k .0, k .1, k .2, c .before .packed-size .ensures, packed-narrow (length (a .types .now)), c .packed-size2 .ensures, packed-narrow (length (a .metadata .now)))
+add-head-3 c = omega (arith, bounds c)
 
 add-front : tie.Need-add-front
-add-front c =
-    let a = c .before .before .before .before .before .before .before .before .before .before .args in
-    let k = narrow _ _ _ _ _ (sym (c .before .before .before .is-event .ensures) ∙ not-false _ (c .before .before .if1 .left)) in
-    omega (arith, k .0, k .1, k .2, c .before .packed-size .ensures, packed-narrow (length (a .types .now)), c .packed-size2 .ensures, packed-narrow (length (a .metadata .now)))
+add-front c = omega (arith, bounds c)
 
 add-front-2 : tie.Need-add-front-2
-add-front-2 c =
-    let a = c .before .before .before .before .before .before .before .before .before .before .args in
-    let k = narrow _ _ _ _ _ (sym (c .before .before .before .is-event .ensures) ∙ not-false _ (c .before .before .if1 .left)) in
-    omega (arith, k .0, k .1, k .2, c .before .packed-size .ensures, packed-narrow (length (a .types .now)), c .packed-size2 .ensures, packed-narrow (length (a .metadata .now)))
+add-front-2 c = omega (arith, bounds c)
 
 has-room-requires : tie.Need-has-room-requires
 has-room-requires c κs = search needs
@@ -72,16 +78,25 @@ refuse-requires-2 : tie.Need-refuse-requires-2
 refuse-requires-2 c κs = search needs
 
 returns-2 : tie.Need-returns-2
-returns-2 c = let a = c .before .before .before .before .before .before .before .before .before .before .before .before .before .args in
+returns-2 c =
+    let z = c .before .before .before in
+    let a = z .before .before .before .before .before .before .before .before .before .before .args in
     let p = parts (a .id) (a .flags) (a .database .now) (a .table .now) (a .types .now) (a .metadata .now) (a .bits .now) (a .optional .now) in
-    let t : isEvent p ≡ true = any-rest _ _ _ _ _ _ _ _ _ (sym (c .before .before .before .before .before .before .is-event .ensures) ∙ not-false _ (c .before .before .before .before .before .if1 .left)) in
-    let rm : 18446744073709551615 < 12 + length (a .database .now) + length (a .table .now) + (c .before .before .before .before .packed-size .result + c .before .before .before .packed-size2 .result) + length (a .types .now) + length (a .bits .now) + length (a .metadata .now) = no-room _ _ _ _ (c .before .before .has-room .ensures) (not-true _ (c .before .if2 .taken)) in
-    let h : 2 ^ 64 ≤ length (eventBytes p) = omega (arith, event-length p, c .before .before .before .before .packed-size .ensures, c .before .before .before .packed-size2 .ensures) in
+    let m = z .before .packed-size in
+    let n = z .packed-size2 in
+    let t : isEvent p ≡ true = any-rest _ _ _ _ _ _ _ _ _ (sym (z .before .before .before .is-event .ensures) ∙ not-false _ (z .before .before .if1 .left)) in
+    let r : 18446744073709551615 < front p (m .result) (n .result) + length (p .metadata) = no-room _ _ _ _ (c .before .before .has-room .ensures) (not-true _ (c .before .if2 .taken)) in
+    let h : 2 ^ 64 ≤ length (eventBytes p) = omega (arith, event-length p, m .ensures, n .ensures) in
     rw (size-over p t h, c .refuse2 .ensures)
 
 add-body : tie.Need-add-body
-add-body c = let a = c .before .before .before .before .before .before .before .before .before .before .before .before .args in
-    let rm : 12 + length (a .database .now) + length (a .table .now) + (c .before .before .before .packed-size .result + c .before .before .packed-size2 .result) + length (a .types .now) + length (a .bits .now) + length (a .metadata .now) ≤ 18446744073709551615 = room _ _ _ _ (c .before .has-room .ensures) (not-false _ (c .if2 .left)) in
+add-body c =
+    let z = c .before .before in
+    let a = z .before .before .before .before .before .before .before .before .before .before .args in
+    let p = parts (a .id) (a .flags) (a .database .now) (a .table .now) (a .types .now) (a .metadata .now) (a .bits .now) (a .optional .now) in
+    let m = z .before .packed-size in
+    let n = z .packed-size2 in
+    let r : front p (m .result) (n .result) + length (p .metadata) ≤ 18446744073709551615 = room _ _ _ _ (c .before .has-room .ensures) (not-false _ (c .if2 .left)) in
     omega arith
 
 has-room-requires-2 : tie.Need-has-room-requires-2
@@ -91,25 +106,38 @@ refuse-requires-3 : tie.Need-refuse-requires-3
 refuse-requires-3 c κs = search needs
 
 returns-3 : tie.Need-returns-3
-returns-3 c = let a = c .before .before .before .before .before .before .before .before .before .before .before .before .before .before .before .args in
+returns-3 c =
+    let z = c .before .before .before .before .before in
+    let a = z .before .before .before .before .before .before .before .before .before .before .args in
     let p = parts (a .id) (a .flags) (a .database .now) (a .table .now) (a .types .now) (a .metadata .now) (a .bits .now) (a .optional .now) in
-    let t : isEvent p ≡ true = any-rest _ _ _ _ _ _ _ _ _ (sym (c .before .before .before .before .before .before .before .before .is-event .ensures) ∙ not-false _ (c .before .before .before .before .before .before .before .if1 .left)) in
-    let ro : 18446744073709551615 < 12 + length (a .database .now) + length (a .table .now) + (c .before .before .before .before .before .before .packed-size .result + c .before .before .before .before .before .packed-size2 .result) + length (a .types .now) + length (a .bits .now) + length (a .metadata .now) + length (a .optional .now) = no-room _ _ _ _ (c .before .before .has-room2 .ensures) (not-true _ (c .before .if3 .taken)) in
-    let h : 2 ^ 64 ≤ length (eventBytes p) = omega (arith, event-length p, c .before .before .before .before .before .before .packed-size .ensures, c .before .before .before .before .before .packed-size2 .ensures) in
+    let m = z .before .packed-size in
+    let n = z .packed-size2 in
+    let t : isEvent p ≡ true = any-rest _ _ _ _ _ _ _ _ _ (sym (z .before .before .before .is-event .ensures) ∙ not-false _ (z .before .before .if1 .left)) in
+    let r : 18446744073709551615 < front p (m .result) (n .result) + length (p .metadata) + length (p .optional) = no-room _ _ _ _ (c .before .before .has-room2 .ensures) (not-true _ (c .before .if3 .taken)) in
+    let h : 2 ^ 64 ≤ length (eventBytes p) = omega (arith, event-length p, m .ensures, n .ensures) in
     rw (size-over p t h, c .refuse3 .ensures)
 
 add-t17 : tie.Need-add-t17
-add-t17 c = let a = c .before .before .before .before .before .before .before .before .before .before .before .before .before .before .args in
-    let ro : 12 + length (a .database .now) + length (a .table .now) + (c .before .before .before .before .before .packed-size .result + c .before .before .before .before .packed-size2 .result) + length (a .types .now) + length (a .bits .now) + length (a .metadata .now) + length (a .optional .now) ≤ 18446744073709551615 = room _ _ _ _ (c .before .has-room2 .ensures) (not-false _ (c .if3 .left)) in
+add-t17 c =
+    let z = c .before .before .before .before in
+    let a = z .before .before .before .before .before .before .before .before .before .before .args in
+    let p = parts (a .id) (a .flags) (a .database .now) (a .table .now) (a .types .now) (a .metadata .now) (a .bits .now) (a .optional .now) in
+    let m = z .before .packed-size in
+    let n = z .packed-size2 in
+    let r : front p (m .result) (n .result) + length (p .metadata) + length (p .optional) ≤ 18446744073709551615 = room _ _ _ _ (c .before .has-room2 .ensures) (not-false _ (c .if3 .left)) in
     omega arith
 
 returns-4 : tie.Need-returns-4
-returns-4 c = let a = c .before .before .before .before .before .before .before .before .before .before .before .before .before .before .args in
+returns-4 c =
+    let z = c .before .before .before .before in
+    let a = z .before .before .before .before .before .before .before .before .before .before .args in
     let p = parts (a .id) (a .flags) (a .database .now) (a .table .now) (a .types .now) (a .metadata .now) (a .bits .now) (a .optional .now) in
-    let t : isEvent p ≡ true = any-rest _ _ _ _ _ _ _ _ _ (sym (c .before .before .before .before .before .before .before .is-event .ensures) ∙ not-false _ (c .before .before .before .before .before .before .if1 .left)) in
-    let ro : 12 + length (a .database .now) + length (a .table .now) + (c .before .before .before .before .before .packed-size .result + c .before .before .before .before .packed-size2 .result) + length (a .types .now) + length (a .bits .now) + length (a .metadata .now) + length (a .optional .now) ≤ 18446744073709551615 = room _ _ _ _ (c .before .has-room2 .ensures) (not-false _ (c .if3 .left)) in
-    let n : length (eventBytes p) ≡ 12 + length (a .database .now) + length (a .table .now) + (c .before .before .before .before .before .packed-size .result + c .before .before .before .before .packed-size2 .result) + length (a .types .now) + length (a .bits .now) + length (a .metadata .now) + length (a .optional .now) = omega (arith, event-length p, c .before .before .before .before .before .packed-size .ensures, c .before .before .before .before .packed-size2 .ensures) in
-    rw (size-is p _ t n (omega arith))
+    let m = z .before .packed-size in
+    let n = z .packed-size2 in
+    let t : isEvent p ≡ true = any-rest _ _ _ _ _ _ _ _ _ (sym (z .before .before .before .is-event .ensures) ∙ not-false _ (z .before .before .if1 .left)) in
+    let r : front p (m .result) (n .result) + length (p .metadata) + length (p .optional) ≤ 18446744073709551615 = room _ _ _ _ (c .before .has-room2 .ensures) (not-false _ (c .if3 .left)) in
+    let l : length (eventBytes p) ≡ front p (m .result) (n .result) + length (p .metadata) + length (p .optional) = omega (arith, event-length p, m .ensures, n .ensures) in
+    rw (size-is p _ t l (omega arith))
 
 pub event-size-spec : {M : Type 1} → statement M
 event-size-spec =

@@ -19,7 +19,9 @@ same-length : tie.Need-same-length
 same-length c = search needs
 
 returns : tie.Need-returns
-returns c = let a = c .before .before .before .before .before .before .args in put-stored (a .buf .now) (a .bytes .now) _ (a .at) _ _ refl (omega arith) (c .before .before .write-bytes .ensures .1) refl
+returns c =
+    let a = c .before .before .before .before .before .before .args in
+    put-stored (a .buf .now) (a .bytes .now) _ (a .at) _ _ refl (omega arith) (c .before .before .write-bytes .ensures .1) refl
 
 pub put-bytes-spec : {M : Type 1} → statement M
 put-bytes-spec = tie.close (tie.spec write-bytes-requires add-result same-length returns)

@@ -13,19 +13,37 @@ put-le-requires : tie.Need-put-le-requires
 put-le-requires c κs = search needs
 
 put-le-requires-2 : tie.Need-put-le-requires-2
-put-le-requires-2 c κs = (omega arith, omega (arith, after-number 6 (c .before .before .before .before .before .before .before .before .args .id) (c .before .before .before .put-le .ensures)))
+put-le-requires-2 c κs =
+    let a = c .before .before .before .before .before .before .before .before .args in
+    (omega arith, omega (arith, after-number 6 (a .id) (c .before .before .before .put-le .ensures)))
 
 put-name-requires : tie.Need-put-name-requires
-put-name-requires c κs = (omega arith, omega (arith, after-number 6 (c .before .before .before .before .before .before .before .before .before .before .before .before .args .id) (c .before .before .before .before .before .before .before .put-le .ensures), after-number 2 (c .before .before .before .before .before .before .before .before .before .before .before .before .args .flags) (c .before .before .before .put-le2 .ensures)))
+put-name-requires c κs =
+    let q = c .before .before .before in
+    let p = q .before .before .before .before in
+    let a = p .before .before .before .before .before .args in
+    (omega arith, omega (arith, after-number 6 (a .id) (p .put-le .ensures), after-number 2 (a .flags) (q .put-le2 .ensures)))
 
 put-name-requires-2 : tie.Need-put-name-requires-2
-put-name-requires-2 c κs = (omega arith, omega (arith, after-number 6 (c .before .before .before .before .before .before .before .before .before .before .before .before .before .before .before .before .args .id) (c .before .before .before .before .before .before .before .before .before .before .before .put-le .ensures), after-number 2 (c .before .before .before .before .before .before .before .before .before .before .before .before .before .before .before .before .args .flags) (c .before .before .before .before .before .before .before .put-le2 .ensures), after-name (c .before .before .before .before .before .before .before .before .before .before .before .before .before .before .before .before .args .database .now) (c .before .before .before .put-name .ensures)))
+put-name-requires-2 c κs =
+    let r = c .before .before .before in
+    let q = r .before .before .before .before in
+    let p = q .before .before .before .before in
+    let a = p .before .before .before .before .before .args in (
+      omega arith,
+      omega (arith, after-number 6 (a .id) (p .put-le .ensures), after-number 2 (a .flags) (q .put-le2 .ensures), after-name (a .database .now) (r .put-name .ensures)),
+    )
 
 same-length : tie.Need-same-length
 same-length c = search needs
 
 returns : tie.Need-returns
-returns c = then (c .before .before .before .before .before .before .before .before .before .before .before .before .before .before .put-le .ensures) (then (c .before .before .before .before .before .before .before .before .before .before .put-le2 .ensures) (then (c .before .before .before .before .before .before .put-name .ensures) (c .before .before .put-name2 .ensures)))
+returns c =
+    let t = c .before .before in
+    let r = t .before .before .before .before in
+    let q = r .before .before .before .before in
+    let p = q .before .before .before .before in
+    then (p .put-le .ensures) (then (q .put-le2 .ensures) (then (r .put-name .ensures) (t .put-name2 .ensures)))
 
 pub put-head-spec : {M : Type 1} → statement M
 put-head-spec =

@@ -19,7 +19,9 @@ same-length : tie.Need-same-length
 same-length c = search needs
 
 returns : tie.Need-returns
-returns c = let a = c .before .before .before .before .before .args in put-number (a .buf .now) _ (a .at) (a .k) (a .v) _ (omega arith) (omega arith) (c .before .before .write-le .ensures .1) refl
+returns c =
+    let a = c .before .before .before .before .before .args in
+    put-number (a .buf .now) _ (a .at) (a .k) (a .v) _ (omega arith) (omega arith) (c .before .before .write-le .ensures .1) refl
 
 pub put-le-spec : {M : Type 1} → statement M
 put-le-spec = tie.close (tie.spec write-le-requires add-result same-length returns)

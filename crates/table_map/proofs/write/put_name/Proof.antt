@@ -14,16 +14,27 @@ put-le-requires : tie.Need-put-le-requires
 put-le-requires c κs = search needs
 
 put-bytes-requires : tie.Need-put-bytes-requires
-put-bytes-requires c κs = omega (arith, after-number 1 (length (c .before .before .before .before .before .before .before .args .name .now)) (c .before .before .before .put-le .ensures))
+put-bytes-requires c κs =
+    let p = c .before .before .before in
+    let a = p .before .before .before .before .args in
+    omega (arith, after-number 1 (length (a .name .now)) (p .put-le .ensures))
 
 put-le-requires-2 : tie.Need-put-le-requires-2
-put-le-requires-2 c κs = (omega arith, omega (arith, after-number 1 (length (c .before .before .before .before .before .before .before .before .before .before .before .args .name .now)) (c .before .before .before .before .before .before .before .put-le .ensures), after-put (c .before .before .before .put-bytes .ensures)))
+put-le-requires-2 c κs =
+    let q = c .before .before .before in
+    let p = q .before .before .before .before in
+    let a = p .before .before .before .before .args in
+    (omega arith, omega (arith, after-number 1 (length (a .name .now)) (p .put-le .ensures), after-put (q .put-bytes .ensures)))
 
 same-length : tie.Need-same-length
 same-length c = search needs
 
 returns : tie.Need-returns
-returns c = put-name (c .before .before .before .before .before .before .before .before .before .before .before .before .before .before .args .name .now) (omega arith) (then (c .before .before .before .before .before .before .before .before .before .before .put-le .ensures) (then (c .before .before .before .before .before .before .put-bytes .ensures) (c .before .before .put-le2 .ensures)))
+returns c =
+    let r = c .before .before in
+    let q = r .before .before .before .before in
+    let p = q .before .before .before .before in
+    put-name (p .before .before .before .before .args .name .now) (omega arith) (then (p .put-le .ensures) (then (q .put-bytes .ensures) (r .put-le2 .ensures)))
 
 pub put-name-spec : {M : Type 1} → statement M
 put-name-spec =

@@ -24,7 +24,8 @@ enum-known-r : tie.Need-enum-known-r
 enum-known-r c = search needs
 
 returns : tie.Need-returns
-returns c = let a = c .before .before .before .before .before .before .before .before .before .before .before .args in
+returns c =
+    let a = c .before .before .before .before .before .before .before .before .before .before .before .args in
     let p = parts (a .id) (a .flags) (a .database .now) (a .table .now) (a .types .now) (a .metadata .now) (a .bits .now) (a .optional .now) in
     rw (not-sized p (a .buf .now) _ (omega arith) (sym (c .before .before .before .event-size .ensures) ∙ ap sizeSaid (c .before .r .given .1))) (refl, refl)
 
@@ -32,34 +33,49 @@ refuse-requires : tie.Need-refuse-requires
 refuse-requires c κs = search needs
 
 returns-2 : tie.Need-returns-2
-returns-2 c = let a = c .before .before .before .before .before .before .before .before .before .before .before .before .before .args in
+returns-2 c =
+    let z = c .before .before .before in
+    let a = z .before .before .before .before .before .before .before .before .before .before .args in
     let p = parts (a .id) (a .flags) (a .database .now) (a .table .now) (a .types .now) (a .metadata .now) (a .bits .now) (a .optional .now) in
-    let e = sym (c .before .before .before .before .before .event-size .ensures) ∙ ap sizeSaid (c .before .before .before .n .given .1) in
-    rw (no-room-for p (a .buf .now) (c .before .before .before .n .given .0 .0) (omega arith) e, c .refuse .ensures) (refl, refl)
+    let e = sym (z .before .before .event-size .ensures) ∙ ap sizeSaid (z .n .given .1) in
+    rw (no-room-for p (a .buf .now) (z .n .given .0 .0) (omega arith) e, c .refuse .ensures) (refl, refl)
 
 put-head-requires : tie.Need-put-head-requires
-put-head-requires c κs = let a = c .before .before .before .before .before .before .before .before .before .before .before .before .before .args in
+put-head-requires c κs =
+    let z = c .before .before .before in
+    let a = z .before .before .before .before .before .before .before .before .before .before .args in
     let p = parts (a .id) (a .flags) (a .database .now) (a .table .now) (a .types .now) (a .metadata .now) (a .bits .now) (a .optional .now) in
-    let e = sym (c .before .before .before .before .before .event-size .ensures) ∙ ap sizeSaid (c .before .before .before .n .given .1) in
-    let z = sized p (c .before .before .before .n .given .0 .0) e in
-    let k = taken p (z .0) in
-    (k .database, k .table, omega (arith, z .1, event-length p))
+    let e = sym (z .before .before .event-size .ensures) ∙ ap sizeSaid (z .n .given .1) in
+    let y = sized p (z .n .given .0 .0) e in
+    let k = taken p (y .0) in
+    (k .database, k .table, omega (arith, y .1, event-length p))
 
 put-columns-requires : tie.Need-put-columns-requires
-put-columns-requires c κs = let a = c .before .before .before .before .before .before .before .before .before .before .before .before .before .before .before .before .before .args in
+put-columns-requires c κs =
+    let z = c .before .before .before .before .before .before .before in
+    let a = z .before .before .before .before .before .before .before .before .before .before .args in
     let p = parts (a .id) (a .flags) (a .database .now) (a .table .now) (a .types .now) (a .metadata .now) (a .bits .now) (a .optional .now) in
-    let e = sym (c .before .before .before .before .before .before .before .before .before .event-size .ensures) ∙ ap sizeSaid (c .before .before .before .before .before .before .before .n .given .1) in
-    let z = sized p (c .before .before .before .before .before .before .before .n .given .0 .0) e in
-    omega (arith, z .1, event-length p, column-length (a .types .now) (a .metadata .now) (a .bits .now) (a .optional .now), head-length (a .id) (a .flags) (a .database .now) (a .table .now), after-put (c .before .before .before .put-head .ensures))
+    let e = sym (z .before .before .event-size .ensures) ∙ ap sizeSaid (z .n .given .1) in
+    let y = sized p (z .n .given .0 .0) e in
+    omega (
+      arith,
+      y .1,
+      event-length p,
+      column-length (a .types .now) (a .metadata .now) (a .bits .now) (a .optional .now),
+      head-length (a .id) (a .flags) (a .database .now) (a .table .now),
+      after-put (c .before .before .before .put-head .ensures),
+    )
 
 same-length : tie.Need-same-length
 same-length c = search needs
 
 returns-3 : tie.Need-returns-3
-returns-3 c = let a = c .before .before .before .before .before .before .before .before .before .before .before .before .before .before .before .before .before .before .before .before .args in
+returns-3 c =
+    let z = c .before .before .before .before .before .before .before .before .before .before in
+    let a = z .before .before .before .before .before .before .before .before .before .before .args in
     let p = parts (a .id) (a .flags) (a .database .now) (a .table .now) (a .types .now) (a .metadata .now) (a .bits .now) (a .optional .now) in
-    let e = sym (c .before .before .before .before .before .before .before .before .before .before .before .before .event-size .ensures) ∙ ap sizeSaid (c .before .before .before .before .before .before .before .before .before .before .n .given .1) in
-    rw (event-put p (a .buf .now) _ (c .before .before .before .before .before .before .before .before .before .before .n .given .0 .0) _ e (then (c .before .before .before .before .before .before .put-head .ensures) (c .before .before .put-columns .ensures))) (refl, refl)
+    let e = sym (z .before .before .event-size .ensures) ∙ ap sizeSaid (z .n .given .1) in
+    rw (event-put p (a .buf .now) _ (z .n .given .0 .0) _ e (then (c .before .before .before .before .before .before .put-head .ensures) (c .before .before .put-columns .ensures))) (refl, refl)
 
 pub write-event-spec : {M : Type 1} → statement M
 write-event-spec =

@@ -1,30 +1,31 @@
 -- `table_map::field::Fields::next` meets its contract: each return is one of the ways in which a field is judged. Assumes nothing.
 use mathlib.Core.Path.{_≡_, sym, ap, _∙_}
-use Prim.Native.Nat.{_+_, _-_, _<_}
+use Prim.Native.Nat.{_+_, _<_}
 use native.Mathlib.Omega.{arith}
+use borrow.Author.Tests.{not-true, not-false}
 use lib.ListN.{length}
 use Rattle.wire.specs.Outcome.{ok}
-use Rattle.table_map.specs.Parts.{longPart, partRead}
+use Rattle.table_map.specs.Parts.{longPart}
+use Rattle.table_map.specs.Reads.{cutOf}
 use Rattle.table_map.specs.Fields.{fieldStep, fieldItem}
 use Rattle.table_map.proofs.Steps.{step-end, step-past}
-use Rattle.table_map.proofs.Items.{long-moves}
-use Rattle.table_map.proofs.Optional.{no-value, no-type, no-contents, a-field}
+use Rattle.table_map.proofs.Optional.{value-lent, no-value, no-type, no-contents, a-field}
 use borrow.Author.Needs.{needs}
 use Rattle.table_map.proofs.field.Fields.next.Statement.{statement}
 use Rattle.table_map.proofs.field.Fields.next.Tie as tie
 use Rattle.table_map.proofs.field.Fields.next.Reads as reads
 use Rattle.table_map.proofs.field.Fields.next.Lts as lts
+use Rattle.table_map.proofs.event.part_of.Reads as part-of-reads
 use Rattle.table_map.proofs.field.contents_hold.Reads as contents-hold-reads
 use Rattle.table_map.proofs.field.is_field.Reads as is-field-reads
 use Rattle.table_map.proofs.part.long_part.Reads as long-part-reads
 use Rattle.wire.proofs.refuse.Reads as refuse-reads
 
 -- where the value is known: the place is before the end, and the value stands behind the type byte
-met : (c : tie.After-part)
+met : (c : tie.After-cut)
     → (c .before .before .before .before .before .before .args .self .at < length (c .before .before .before .before .before .before .args .optional .now))
-    × (longPart (c .before .before .before .before .before .before .args .optional .now) (c .before .before .before .before .before .before .args .self .at + 1)
-    ≡ ok (c .part .given .0 .0, c .part .given .0 .1 .0))
-met c = (omega arith, sym (c .before .before .long-part .ensures) ∙ ap partRead (c .part .given .1))
+    × (longPart (c .before .before .before .before .before .before .args .optional .now) (c .before .before .before .before .before .before .args .self .at + 1) ≡ ok (c .cut .given .0 .0 .part, c .cut .given .0 .0 .next))
+met c = (omega arith, sym (c .before .before .long-part .ensures) ∙ ap cutOf (c .cut .given .1))
 
 returns : tie.Need-returns
 unfolding fieldStep
@@ -47,8 +48,17 @@ add-long-part c = search needs
 long-part-requires : tie.Need-long-part-requires
 long-part-requires c κs = search needs
 
-enum-known-part : tie.Need-enum-known-part
-enum-known-part c = search needs
+enum-known-cut : tie.Need-enum-known-cut
+enum-known-cut c = search needs
+
+enum-known-r : tie.Need-enum-known-r
+enum-known-r c = search needs
+
+returns-3 : tie.Need-returns-3
+returns-3 c =
+    let a = c .before .before .before .before .before .before .before .args in
+    let h : a .self .at < length (a .optional .now) = omega arith in
+    sym (no-value (a .self) _ _ h (sym (c .before .before .before .long-part .ensures) ∙ ap cutOf (c .before .r .given .1)))
 
 shared-slice-read-kind : tie.Need-shared-slice-read-kind
 shared-slice-read-kind c = search needs
@@ -56,66 +66,42 @@ shared-slice-read-kind c = search needs
 is-field-requires : tie.Need-is-field-requires
 is-field-requires c κs = search needs
 
-add-end : tie.Need-add-end
-add-end c =
-    let m = long-moves _ _ _ _ (met (c .before .before .before .before .before) .1) in
-    omega (arith, m .1, m .2)
-
-sub-contents-hold : tie.Need-sub-contents-hold
-sub-contents-hold c = search needs
-
-part-contents-hold-start : tie.Need-part-contents-hold-start
-part-contents-hold-start c = search needs
-
-part-contents-hold-end : tie.Need-part-contents-hold-end
-part-contents-hold-end c =
-    let m = long-moves _ _ _ _ (met (c .before .before .before .before .before) .1) in
-    omega (arith, m .1, m .2)
-
-contents-hold-requires : tie.Need-contents-hold-requires
-contents-hold-requires c κs = search needs
-
-returns-3 : tie.Need-returns-3
-returns-3 c =
-    let p = c .before .before .before .before .before .before .before .before in
-    let m = met p in
-    let t = sym (c .before .before .before .before .before .is-field .ensures) ∙ c .before .before .before .before .if3 .taken in
-    let g = p .part .given .0 .0 in
-    let d : g .start + g .len - g .start ≡ g .len = omega arith in
-    let u = rw d at (sym (c .before .contents-hold .ensures) ∙ c .if4 .taken) in
-    sym (a-field (p .before .before .before .before .before .before .args .self) _ _ _ (m .0) (m .1) t u)
-
 refuse-requires-2 : tie.Need-refuse-requires-2
 refuse-requires-2 c κs = search needs
 
 returns-4 : tie.Need-returns-4
 returns-4 c =
-    let p = c .before .before .before .before .before .before .before .before .before in
+    let p = c .before .before .before .before .before in
     let m = met p in
-    let t = sym (c .before .before .before .before .before .before .is-field .ensures) ∙ c .before .before .before .before .before .if3 .taken in
-    let g = p .part .given .0 .0 in
-    let d : g .start + g .len - g .start ≡ g .len = omega arith in
-    let u = rw d at (sym (c .before .before .contents-hold .ensures) ∙ c .before .if4 .left) in
-    rw (c .refuse2 .ensures) (sym (no-contents (p .before .before .before .before .before .before .args .self) _ _ _ (m .0) (m .1) t u))
+    let t = sym (c .before .before .is-field .ensures) ∙ not-true _ (c .before .if3 .taken) in
+    rw (c .refuse2 .ensures) (sym (no-type (p .before .before .before .before .before .before .args .self) _ _ _ (m .0) (m .1) t))
+
+part-of-requires : tie.Need-part-of-requires
+part-of-requires c κs = search needs
+
+contents-hold-requires : tie.Need-contents-hold-requires
+contents-hold-requires c κs = search needs
 
 refuse-requires-3 : tie.Need-refuse-requires-3
 refuse-requires-3 c κs = search needs
 
-enum-known-r : tie.Need-enum-known-r
-enum-known-r c = search needs
-
 returns-5 : tie.Need-returns-5
 returns-5 c =
-    let p = c .before .before .before .before .before in
+    let p = c .before .before .before .before .before .before .before .before .before in
     let m = met p in
-    let t = sym (c .before .before .is-field .ensures) ∙ c .before .if3 .left in
-    rw (c .refuse3 .ensures) (sym (no-type (p .before .before .before .before .before .before .args .self) _ _ _ (m .0) (m .1) t))
+    let t = sym (c .before .before .before .before .before .before .is-field .ensures) ∙ not-false _ (c .before .before .before .before .before .if3 .left) in
+    let v = c .before .before .before .part-of .ensures ∙ value-lent _ _ _ _ (m .1) in
+    let u = rw v at (sym (c .before .before .contents-hold .ensures) ∙ not-true _ (c .before .if4 .taken)) in
+    rw (c .refuse3 .ensures) (sym (no-contents (p .before .before .before .before .before .before .args .self) _ _ _ (m .0) (m .1) t u))
 
 returns-6 : tie.Need-returns-6
 returns-6 c =
-    let a = c .before .before .before .before .before .before .before .args in
-    let h : a .self .at < length (a .optional .now) = omega arith in
-    sym (no-value (a .self) _ _ h (sym (c .before .before .before .long-part .ensures) ∙ ap partRead (c .before .r .given .1)))
+    let p = c .before .before .before .before .before .before .before .before in
+    let m = met p in
+    let t = sym (c .before .before .before .before .before .is-field .ensures) ∙ not-false _ (c .before .before .before .before .if3 .left) in
+    let v = c .before .before .part-of .ensures ∙ value-lent _ _ _ _ (m .1) in
+    let u = rw v at (sym (c .before .contents-hold .ensures) ∙ not-false _ (c .if4 .left)) in
+    sym (a-field (p .before .before .before .before .before .before .args .self) _ _ _ (m .0) (m .1) t u)
 
 pub next-spec : {M : Type 1} → statement M
 next-spec =
@@ -126,18 +112,15 @@ next-spec =
     returns-2
     add-long-part
     long-part-requires
-    enum-known-part
+    enum-known-cut
+    enum-known-r
+    returns-3
     shared-slice-read-kind
     is-field-requires
-    add-end
-    sub-contents-hold
-    part-contents-hold-start
-    part-contents-hold-end
-    contents-hold-requires
-    returns-3
     refuse-requires-2
     returns-4
+    part-of-requires
+    contents-hold-requires
     refuse-requires-3
-    enum-known-r
     returns-5
     returns-6)

@@ -1,7 +1,8 @@
 -- `table_map::list::Groups::next` meets its contract. Assumes nothing.
 use mathlib.Core.Path.{sym, ap, _∙_}
 use Rattle.wire.specs.Packed.{packedOf}
-use Rattle.table_map.specs.Lists.{groupItem, reachedOf}
+use Rattle.table_map.specs.Lists.{groupItem}
+use Rattle.table_map.specs.Reads.{placeOf}
 use Rattle.table_map.proofs.Steps.{step-end, step-else}
 use Rattle.table_map.proofs.Items.{group-early}
 use borrow.Author.Needs.{needs}
@@ -35,19 +36,23 @@ enum-known-r-2 c = search needs
 
 returns-2 : tie.Need-returns-2
 unfolding groupItem
-returns-2 c = rw (
-  step-else groupItem group-early _ _ (c .before .before .before .before .before .before .before .before .if1 .left),
-  sym (c .before .before .before .before .before .before .before .read-packed .ensures) ∙ ap packedOf (c .before .before .before .before .before .count .given .1),
-  sym (c .before .before .before .skip-strings .ensures) ∙ ap reachedOf (c .before .next .given .1),
-)
+returns-2 c =
+    let a = c .before .before .before .before .before in
+    rw (
+      step-else groupItem group-early _ _ (a .before .before .before .if1 .left),
+      sym (a .before .before .read-packed .ensures) ∙ ap packedOf (a .count .given .1),
+      sym (c .before .before .before .skip-strings .ensures) ∙ ap placeOf (c .before .next .given .1),
+    )
 
 returns-3 : tie.Need-returns-3
 unfolding groupItem
-returns-3 c = rw (
-  step-else groupItem group-early _ _ (c .before .before .before .before .before .before .before .before .if1 .left),
-  sym (c .before .before .before .before .before .before .before .read-packed .ensures) ∙ ap packedOf (c .before .before .before .before .before .count .given .1),
-  sym (c .before .before .before .skip-strings .ensures) ∙ ap reachedOf (c .before .r .given .1),
-)
+returns-3 c =
+    let a = c .before .before .before .before .before in
+    rw (
+      step-else groupItem group-early _ _ (a .before .before .before .if1 .left),
+      sym (a .before .before .read-packed .ensures) ∙ ap packedOf (a .count .given .1),
+      sym (c .before .before .before .skip-strings .ensures) ∙ ap placeOf (c .before .r .given .1),
+    )
 
 returns-4 : tie.Need-returns-4
 unfolding groupItem

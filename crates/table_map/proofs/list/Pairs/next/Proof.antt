@@ -34,19 +34,23 @@ enum-known-r-2 c = search needs
 
 returns-2 : tie.Need-returns-2
 unfolding pairItem
-returns-2 c = rw (
-  step-else pairItem pair-early _ _ (c .before .before .before .before .before .before .before .before .if1 .left),
-  sym (c .before .before .before .before .before .before .before .read-packed .ensures) ∙ ap packedOf (c .before .before .before .before .before .first .given .1),
-  sym (c .before .before .before .read-packed2 .ensures) ∙ ap packedOf (c .before .second .given .1),
-)
+returns-2 c =
+    let a = c .before .before .before .before .before in
+    rw (
+      step-else pairItem pair-early _ _ (a .before .before .before .if1 .left),
+      sym (a .before .before .read-packed .ensures) ∙ ap packedOf (a .first .given .1),
+      sym (c .before .before .before .read-packed2 .ensures) ∙ ap packedOf (c .before .second .given .1),
+    )
 
 returns-3 : tie.Need-returns-3
 unfolding pairItem
-returns-3 c = rw (
-  step-else pairItem pair-early _ _ (c .before .before .before .before .before .before .before .before .if1 .left),
-  sym (c .before .before .before .before .before .before .before .read-packed .ensures) ∙ ap packedOf (c .before .before .before .before .before .first .given .1),
-  sym (c .before .before .before .read-packed2 .ensures) ∙ ap packedOf (c .before .r .given .1),
-)
+returns-3 c =
+    let a = c .before .before .before .before .before in
+    rw (
+      step-else pairItem pair-early _ _ (a .before .before .before .if1 .left),
+      sym (a .before .before .read-packed .ensures) ∙ ap packedOf (a .first .given .1),
+      sym (c .before .before .before .read-packed2 .ensures) ∙ ap packedOf (c .before .r .given .1),
+    )
 
 returns-4 : tie.Need-returns-4
 unfolding pairItem

@@ -1,11 +1,11 @@
--- `table_map::event::read_length` meets its contract. Assumes nothing.
+-- `table_map::part::read_length` meets its contract. Assumes nothing.
 use mathlib.Core.Path.{sym, ap, _∙_}
 use Rattle.wire.specs.Packed.{packedOf}
 use borrow.Author.Needs.{needs}
-use Rattle.table_map.proofs.event.read_length.Statement.{statement}
-use Rattle.table_map.proofs.event.read_length.Tie as tie
-use Rattle.table_map.proofs.event.read_length.Reads as reads
-use Rattle.table_map.proofs.event.read_length.Lts as lts
+use Rattle.table_map.proofs.part.read_length.Statement.{statement}
+use Rattle.table_map.proofs.part.read_length.Tie as tie
+use Rattle.table_map.proofs.part.read_length.Reads as reads
+use Rattle.table_map.proofs.part.read_length.Lts as lts
 use Rattle.wire.proofs.read_packed.Reads as read-packed-reads
 
 read-packed-requires : tie.Need-read-packed-requires

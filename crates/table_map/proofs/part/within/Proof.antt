@@ -1,15 +1,15 @@
--- `table_map::event::within` meets its contract. Assumes nothing.
+-- `table_map::part::within` meets its contract. Assumes nothing.
 use Prim.Native.Nat.{_+_, _≤_}
-use native.Mathlib.Omega.{arith}
 use mathlib.Core.Path.{sym, _∙_}
+use native.Mathlib.Omega.{arith}
 use lib.ListN.{length}
 use Rattle.table_map.specs.Parts.{within}
 use Rattle.wire.proofs.Stores.{room}
 use borrow.Author.Needs.{needs}
-use Rattle.table_map.proofs.event.within.Statement.{statement}
-use Rattle.table_map.proofs.event.within.Tie as tie
-use Rattle.table_map.proofs.event.within.Reads as reads
-use Rattle.table_map.proofs.event.within.Lts as lts
+use Rattle.table_map.proofs.part.within.Statement.{statement}
+use Rattle.table_map.proofs.part.within.Tie as tie
+use Rattle.table_map.proofs.part.within.Reads as reads
+use Rattle.table_map.proofs.part.within.Lts as lts
 use Rattle.wire.proofs.refuse.Reads as refuse-reads
 use Rattle.wire.proofs.has_room.Reads as has-room-reads
 
@@ -17,7 +17,10 @@ has-room-requires : tie.Need-has-room-requires
 has-room-requires c κs = search needs
 
 add-next : tie.Need-add-next
-add-next c = let r : c .before .before .before .args .at + c .before .before .before .args .n ≤ length (c .before .before .before .args .s .now) = room _ _ _ _ (c .before .has-room .ensures) (c .if1 .taken) in omega arith
+add-next c =
+    let a = c .before .before .before .args in
+    let r : a .at + a .n ≤ length (a .s .now) = room _ _ _ _ (c .before .has-room .ensures) (c .if1 .taken) in
+    omega arith
 
 returns : tie.Need-returns
 unfolding within

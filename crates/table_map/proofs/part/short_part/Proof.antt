@@ -1,15 +1,15 @@
--- `table_map::event::short_part` meets its contract. Assumes nothing.
+-- `table_map::part::short_part` meets its contract. `a` is where what the definition calls so is known. Assumes nothing.
 use mathlib.Core.Path.{sym, ap, _∙_}
 use Rattle.table_map.specs.Reads.{placeOf}
 use Rattle.table_map.specs.Parts.{shortPart}
 use Rattle.table_map.proofs.Chains.{within-ok}
 use native.Mathlib.Omega.{arith}
 use borrow.Author.Needs.{needs}
-use Rattle.table_map.proofs.event.short_part.Statement.{statement}
-use Rattle.table_map.proofs.event.short_part.Tie as tie
-use Rattle.table_map.proofs.event.short_part.Reads as reads
-use Rattle.table_map.proofs.event.short_part.Lts as lts
-use Rattle.table_map.proofs.event.within.Reads as within-reads
+use Rattle.table_map.proofs.part.short_part.Statement.{statement}
+use Rattle.table_map.proofs.part.short_part.Tie as tie
+use Rattle.table_map.proofs.part.short_part.Reads as reads
+use Rattle.table_map.proofs.part.short_part.Lts as lts
+use Rattle.table_map.proofs.part.within.Reads as within-reads
 
 within-requires : tie.Need-within-requires
 within-requires c κs = search needs
@@ -41,11 +41,21 @@ enum-known-r-2 c = search needs
 
 returns-2 : tie.Need-returns-2
 unfolding shortPart
-returns-2 c = rw (sym (c .before .before .before .before .before .before .before .before .within .ensures) ∙ ap placeOf (c .before .before .before .before .before .before .next .given .1), sym (c .before .before .before .within2 .ensures) ∙ ap placeOf (c .before .r2 .given .1))
+returns-2 c =
+    let a = c .before .before .before .before .before .before in
+    rw (
+      sym (a .before .before .within .ensures) ∙ ap placeOf (a .next .given .1),
+      sym (c .before .before .before .within2 .ensures) ∙ ap placeOf (c .before .r2 .given .1),
+    )
 
 returns-3 : tie.Need-returns-3
 unfolding shortPart
-returns-3 c = rw (sym (c .before .before .before .before .before .before .before .before .within .ensures) ∙ ap placeOf (c .before .before .before .before .before .before .next .given .1), sym (c .before .before .before .within2 .ensures) ∙ ap placeOf (c .before .next2 .given .1))
+returns-3 c =
+    let a = c .before .before .before .before .before .before in
+    rw (
+      sym (a .before .before .within .ensures) ∙ ap placeOf (a .next .given .1),
+      sym (c .before .before .before .within2 .ensures) ∙ ap placeOf (c .before .next2 .given .1),
+    )
 
 pub short-part-spec : {M : Type 1} → statement M
 short-part-spec =
