@@ -12,7 +12,7 @@ use Rattle.wire.specs.Packed.{readPacked}
 use Rattle.temporal.proofs.Ranges.{and-true}
 use Rattle.table_map.specs.Lists.{walk, integerItem, pairItem}
 use Rattle.map_check.specs.declared.contents.Meaning.the-variants.{Charset}
-use Rattle.map_check.specs.Contents.{all, exactly, isCharset, integerHolds, pairsHold, pairsWhole, fromDefault, defaultHolds}
+use Rattle.map_check.specs.Contents.{every, exactly, isCharset, integerHolds, pairsHold, pairsWhole, fromDefault, defaultHolds}
 use Rattle.map_check.specs.Profile.{pairOr}
 use Rattle.map_check.proofs.Tallies.{list-true, tally-true, pairs-true}
 
@@ -21,11 +21,11 @@ unfolding isCharset
 charset-fits c e = leb-true c 65535 (and-true (leb 1 c) (leb c 65535) e .1)
 
 -- ---- a list
-each-fits : (l : List ℕ) → all (integerHolds Charset) l ≡ true → (i : ℕ) → getD l i 0 ≤ 65535
-unfolding all integerHolds
+each-fits : (l : List ℕ) → every (integerHolds Charset) l ≡ true → (i : ℕ) → getD l i 0 ≤ 65535
+unfolding every integerHolds
 each-fits [] e i = omega arith
-each-fits (c ∷ l) e zero = charset-fits c (and-true (isCharset c) (all (integerHolds Charset) l) e .0)
-each-fits (c ∷ l) e (suc i) = each-fits l (and-true (isCharset c) (all (integerHolds Charset) l) e .1) i
+each-fits (c ∷ l) e zero = charset-fits c (and-true (isCharset c) (every (integerHolds Charset) l) e .0)
+each-fits (c ∷ l) e (suc i) = each-fits l (and-true (isCharset c) (every (integerHolds Charset) l) e .1) i
 
 pub charset-list : (n : ℕ) (value : List ℕ) → exactly integerItem (integerHolds Charset) n 0 value 0 ≡ true
     → (i : ℕ) → getD (walk integerItem value 0 .items) i 0 ≤ 65535

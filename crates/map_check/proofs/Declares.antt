@@ -16,7 +16,7 @@ use Rattle.map_check.specs.declared.column.Declared.{Declared}
 use Rattle.map_check.specs.declared.rank.Ranks.{Ranks}
 use Rattle.map_check.specs.Columns.{metaBytes, metaByte, declared, isAccepted, takeColumn, takeColumns, declareAll}
 use Rattle.map_check.specs.Ranks.{ranksAfter, ranksFrom}
-use Rattle.map_check.specs.Contents.{all}
+use Rattle.map_check.specs.Contents.{every}
 
 -- ---- a byte of the metadata
 constant : {A : Type 0} (t : Bool) (a b : A) → b ≡ a → cond t a b ≡ a
@@ -73,8 +73,8 @@ taken-all (kind ∷ types) meta p cs e =
     t .1 ∙ ap (λ (l : List Declared). declared kind meta ∷ l) (taken-all types (drop (metaBytes kind) meta) (suc p) (t .0) (t .2))
 
 -- and accepted
-pub taken-accepted : (types meta : List ℕ) (p : ℕ) (cs : List Declared) → takeColumns types meta p ≡ ok cs → all isAccepted cs ≡ true
-unfolding all takeColumns
+pub taken-accepted : (types meta : List ℕ) (p : ℕ) (cs : List Declared) → takeColumns types meta p ≡ ok cs → every isAccepted cs ≡ true
+unfolding every takeColumns
 taken-accepted [] meta p cs e = rw (sym (test-is-ok (eqb (length meta) 0) [] (why 5 p) cs e .1))
 taken-accepted (kind ∷ types) meta p cs e =
     let t = taken-turn kind types meta p cs e in

@@ -27,7 +27,7 @@ use Rattle.map_check.specs.declared.facts.Charsets.{Charsets}
 use Rattle.map_check.specs.Ranks.{place, ranksAfter}
 use Rattle.map_check.specs.Contents.{exactly, integerHolds, defaultHolds}
 use Rattle.map_check.specs.Fields.{valueIn}
-use Rattle.map_check.specs.Profile.{stands, fromList, charsetBy, charsetOf, one, isSignKnown, isUnsigned, isVisible, flagsOf, entryFor, entriesFrom}
+use Rattle.map_check.specs.Profile.{stands, fromList, charsetBy, charsetOf, oneIf, isSignKnown, isUnsigned, isVisible, flagsOf, entryFor, entriesFrom}
 use Rattle.map_check.specs.Standing.{ClassHolds}
 use Rattle.map_check.proofs.Bounds.{charset-list, charset-default}
 
@@ -72,9 +72,9 @@ charset-holds s x c j k = none-elsewhere (isCharacter (c .real)) (isEnumOrSet (c
 -- ---- flags
 -- the sum of the four, by whether the column is numeric, the field of signs stands, and the three bits
 abbrev flagsBy : Bool → Bool → Bool → Bool → Bool → ℕ
-flagsBy numeric known unsigned nullable visible = one ((numeric && known) && unsigned) + 2 * one nullable + 4 * one (numeric && known) + 8 * one visible
+flagsBy numeric known unsigned nullable visible = oneIf ((numeric && known) && unsigned) + 2 * oneIf nullable + 4 * oneIf (numeric && known) + 8 * oneIf visible
 
-one-narrow : (b : Bool) → one b ≤ 1
+one-narrow : (b : Bool) → oneIf b ≤ 1
 one-narrow true = omega arith
 one-narrow false = omega arith
 

@@ -14,7 +14,7 @@ use Rattle.table_map.specs.Lists.{Rule, end, item, step, walk, pairItem}
 use Rattle.table_map.proofs.Steps.{step-before}
 use Rattle.table_map.proofs.Items.{Moves, pair-moves}
 use Rattle.table_map.proofs.Walks.{item-moves, walk-steps}
-use Rattle.map_check.specs.Contents.{isWhole, all, listHolds, exactly, isCharset, pairsHold, pairsWhole}
+use Rattle.map_check.specs.Contents.{isWhole, every, listHolds, exactly, isCharset, pairsHold, pairsWhole}
 
 -- ---- tests may change places
 and-swap : (a b c : Bool) → (a && (b && c)) ≡ (b && (a && c))
@@ -37,13 +37,13 @@ refusal-stepped rule s at w h e = rw (step-before rule s at h, e)
 -- ---- a list
 pub list-end : {A : Type 0} (rule : Rule A) (p : A → Bool) → Moves rule → (value : List ℕ) (at : ℕ) → step rule value at ≡ ok end
     → listHolds rule p value at ≡ true
-unfolding listHolds all
+unfolding listHolds every
 list-end rule p m value at e = rw (walk-steps rule m value at, e)
 
 pub list-item : {A : Type 0} (rule : Rule A) (p : A → Bool) → Moves rule → (value : List ℕ) (at : ℕ) (a : A) (next : ℕ) → step rule value at ≡ ok (item a next)
     → listHolds rule p value at ≡ (p a && listHolds rule p value next)
-unfolding listHolds all
-list-item rule p m value at a next e = rw (walk-steps rule m value at, e) (and-swap (isWhole (walk rule value next .how)) (p a) (all p (walk rule value next .items)))
+unfolding listHolds every
+list-item rule p m value at a next e = rw (walk-steps rule m value at, e) (and-swap (isWhole (walk rule value next .how)) (p a) (every p (walk rule value next .items)))
 
 pub list-broken : {A : Type 0} (rule : Rule A) (p : A → Bool) → Moves rule → (value : List ℕ) (at : ℕ) (w : Refusal) → step rule value at ≡ refused w
     → listHolds rule p value at ≡ false
@@ -52,9 +52,9 @@ list-broken rule p m value at w e = rw (walk-steps rule m value at, e)
 
 -- a list that holds: it is whole, and so does each item
 pub list-true : {A : Type 0} (rule : Rule A) (p : A → Bool) (value : List ℕ) (at : ℕ) → listHolds rule p value at ≡ true
-    → (isWhole (walk rule value at .how) ≡ true) × (all p (walk rule value at .items) ≡ true)
+    → (isWhole (walk rule value at .how) ≡ true) × (every p (walk rule value at .items) ≡ true)
 unfolding listHolds
-list-true rule p value at e = and-true (isWhole (walk rule value at .how)) (all p (walk rule value at .items)) e
+list-true rule p value at e = and-true (isWhole (walk rule value at .how)) (every p (walk rule value at .items)) e
 
 -- ---- a list of n items, `before` of which were met
 pub tally-end : {A : Type 0} (rule : Rule A) (p : A → Bool) → Moves rule → (n before : ℕ) (value : List ℕ) (at : ℕ) → step rule value at ≡ ok end

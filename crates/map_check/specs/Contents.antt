@@ -17,17 +17,19 @@ abbrev pub isWhole : Ended → Bool
 isWhole whole = true
 isWhole (broken r) = false
 
-unfoldable pub all : {A : Type 0} → (A → Bool) → List A → Bool
-all p [] = true
-all p (a ∷ l) = p a && all p l
+-- whether every item passes a test
+unfoldable pub every : {A : Type 0} → (A → Bool) → List A → Bool
+every p [] = true
+every p (a ∷ l) = p a && every p l
 
-abbrev pub any : {A : Type 0} → A → Bool
-any a = true
+-- the test that every item passes, whatever it is
+abbrev pub whatever : {A : Type 0} → A → Bool
+whatever a = true
 
 -- the items from a place on are all there, up to the end of the value, and each holds
 unfoldable pub listHolds : {A : Type 0} → Rule A → (A → Bool) → List ℕ → ℕ → Bool
-unfolding walkSteps all
-listHolds rule p value at = isWhole (walk rule value at .how) && all p (walk rule value at .items)
+unfolding walkSteps every
+listHolds rule p value at = isWhole (walk rule value at .how) && every p (walk rule value at .items)
 
 -- and there are as many as make n together with `before`
 unfoldable pub exactly : {A : Type 0} → Rule A → (A → Bool) → ℕ → ℕ → List ℕ → ℕ → Bool
@@ -74,9 +76,9 @@ unfolding exactly listHolds defaultHolds keyItem integerHolds
 contentsFull sizes n kind value =
     cond (eqb kind 2) (defaultHolds (sizes .character .0) value)
     (cond (eqb kind 3) (exactly integerItem (integerHolds Charset) (sizes .character .0) 0 value 0)
-    (cond (eqb kind 4) (exactly stringItem any n 0 value 0)
-    (cond (eqb kind 5) (exactly groupItem any (sizes .set .0) 0 value 0)
-    (cond (eqb kind 6) (exactly groupItem any (sizes .enumeration .0) 0 value 0)
+    (cond (eqb kind 4) (exactly stringItem whatever n 0 value 0)
+    (cond (eqb kind 5) (exactly groupItem whatever (sizes .set .0) 0 value 0)
+    (cond (eqb kind 6) (exactly groupItem whatever (sizes .enumeration .0) 0 value 0)
     (cond (eqb kind 7) (exactly integerItem (integerHolds GeometryType) (sizes .geometry .0) 0 value 0)
     (cond (eqb kind 8) (listHolds (keyItem false) (λ k. ltb k n) value 0)
     (cond (eqb kind 9) (listHolds (keyItem true) (λ k. ltb k n) value 0)

@@ -72,8 +72,9 @@ charsetOf s x c k =
     0)
 
 -- ---- flags
-abbrev pub one : Bool → ℕ
-one t = cond t 1 0
+-- a flag as a number
+abbrev pub oneIf : Bool → ℕ
+oneIf t = cond t 1 0
 
 abbrev pub isSignKnown : Facts → Declared → Bool
 isSignKnown x c = isNumeric (familyOf (c .kind)) && stands (x .signs)
@@ -87,7 +88,7 @@ isVisible s x j = cond (stands (x .visibility)) (bitMsb0 (valueIn s (x .visibili
 unfoldable pub flagsOf : List ℕ → Facts → Declared → Place → Ranks → ℕ
 unfolding isNumeric familyOf bitLsb0 bitMsb0
 flagsOf s x c j k =
-    one (isUnsigned s x c (k .sign)) + 2 * one (bitLsb0 (lentPart s (x .bits)) (j .0)) + 4 * one (isSignKnown x c) + 8 * one (isVisible s x j)
+    oneIf (isUnsigned s x c (k .sign)) + 2 * oneIf (bitLsb0 (lentPart s (x .bits)) (j .0)) + 4 * oneIf (isSignKnown x c) + 8 * oneIf (isVisible s x j)
 
 -- ---- the entries of columns, from a place and ranks on
 abbrev pub entryFor : List ℕ → Facts → Declared → Place → Ranks → Entry

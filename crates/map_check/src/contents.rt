@@ -12,7 +12,7 @@ use table_map::StringStep;
 use table_map::Strings;
 ghost use mathlib.Core.Path.{_≡_};
 ghost use Rattle.table_map.specs.Lists.{integerItem, stringItem, groupItem};
-ghost use Rattle.map_check.specs.Contents.{any, exactly, isCharset, integerHolds, pairsWhole, defaultHolds, contentsFull};
+ghost use Rattle.map_check.specs.Contents.{whatever, exactly, isCharset, integerHolds, pairsWhole, defaultHolds, contentsFull};
 
 // What the integers of a list mean.
 pub(crate) enum Meaning {
@@ -64,7 +64,7 @@ fn integers_hold(value: &[u8], meaning: Meaning, n: usize) -> bool
 
 // Whether it is n strings.
 fn strings_hold(value: &[u8], n: usize) -> bool
-    ensures { λ r. ⌜ r ≡ exactly stringItem any n 0 (now (value .entry)) 0 ⌝ }
+    ensures { λ r. ⌜ r ≡ exactly stringItem whatever n 0 (now (value .entry)) 0 ⌝ }
 {
     let mut at: usize = 0;
     let mut count: usize = 0;
@@ -83,7 +83,7 @@ fn strings_hold(value: &[u8], n: usize) -> bool
 
 // Whether it is n groups of strings.
 fn groups_hold(value: &[u8], n: usize) -> bool
-    ensures { λ r. ⌜ r ≡ exactly groupItem any n 0 (now (value .entry)) 0 ⌝ }
+    ensures { λ r. ⌜ r ≡ exactly groupItem whatever n 0 (now (value .entry)) 0 ⌝ }
 {
     let mut at: usize = 0;
     let mut count: usize = 0;

@@ -27,7 +27,7 @@ ghost use Rattle.table_map.specs.Parts.{lentPart};
 ghost use Rattle.record.specs.Records.{entriesBytes, recordBytes};
 ghost use Rattle.map_check.specs.Columns.{declareAll};
 ghost use Rattle.map_check.specs.Ranks.{place, noRanks};
-ghost use Rattle.map_check.specs.Profile.{stands, one, isSignKnown, isUnsigned, isVisible, flagsOf, entriesFrom};
+ghost use Rattle.map_check.specs.Profile.{stands, oneIf, isSignKnown, isUnsigned, isVisible, flagsOf, entriesFrom};
 ghost use Rattle.map_check.specs.Standing.{ClassHolds, Takes, entryWith, Ready, Starts, Came};
 
 // Where the making of a record stands between two columns.
@@ -94,8 +94,9 @@ fn is_visible(event: &[u8], facts: Facts, column: Place) -> bool
     table_map::flag(value_in(event, visibility), column.0)
 }
 
-fn one(t: bool) -> u8
-    ensures { λ r. ⌜ (r ≡ one t) × (r ≤ 1) ⌝ }
+// A flag as a number.
+fn one_if(t: bool) -> u8
+    ensures { λ r. ⌜ (r ≡ oneIf t) × (r ≤ 1) ⌝ }
 {
     if t {
         return 1;
@@ -107,10 +108,10 @@ fn flags_of(event: &[u8], facts: Facts, column: Declared, place: Place, ranks: R
     ensures { λ r. ⌜ r ≡ flagsOf (now (event .entry)) facts column place ranks ⌝ }
 {
     let rank = ranks.sign;
-    let unsigned = one(is_unsigned(event, facts, column, rank));
-    let nullable = one(is_nullable(event, facts, place));
-    let known = one(is_sign_known(facts, column));
-    let visible = one(is_visible(event, facts, place));
+    let unsigned = one_if(is_unsigned(event, facts, column, rank));
+    let nullable = one_if(is_nullable(event, facts, place));
+    let known = one_if(is_sign_known(facts, column));
+    let visible = one_if(is_visible(event, facts, place));
     unsigned + 2 * nullable + 4 * known + 8 * visible
 }
 

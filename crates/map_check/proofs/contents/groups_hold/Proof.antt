@@ -7,7 +7,7 @@ use lib.ListN.{length}
 use Rattle.table_map.proofs.Items.{group-moves}
 use Rattle.table_map.proofs.Walks.{item-moves}
 use Rattle.table_map.specs.Lists.{groupItem, groupOf}
-use Rattle.map_check.specs.Contents.{any}
+use Rattle.map_check.specs.Contents.{whatever}
 use Rattle.map_check.proofs.Tallies.{Met, none-met, one-more, no-more, none-read}
 use Rattle.map_check.proofs.contents.groups_hold.Statement.{statement}
 use Rattle.map_check.proofs.contents.groups_hold.Tie as tie
@@ -16,7 +16,7 @@ use Rattle.map_check.proofs.contents.groups_hold.Lts as lts
 use Rattle.table_map.proofs.list.Groups.next.Reads as next-reads
 
 abbrev Inv-loop : tie.InvT-loop
-Inv-loop value n at₀ count₀ at count = Met groupItem any n value at count
+Inv-loop value n at₀ count₀ at count = Met groupItem whatever n value at count
 
 abbrev μ-loop : tie.MeasureT-loop
 μ-loop value n at₀ count₀ at count = length value - at

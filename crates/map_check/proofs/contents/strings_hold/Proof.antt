@@ -7,7 +7,7 @@ use lib.ListN.{length}
 use Rattle.table_map.proofs.Items.{string-moves}
 use Rattle.table_map.proofs.Walks.{item-moves}
 use Rattle.table_map.specs.Lists.{stringItem, stringOf}
-use Rattle.map_check.specs.Contents.{any}
+use Rattle.map_check.specs.Contents.{whatever}
 use Rattle.map_check.proofs.Tallies.{Met, none-met, one-more, no-more, none-read}
 use Rattle.map_check.proofs.contents.strings_hold.Statement.{statement}
 use Rattle.map_check.proofs.contents.strings_hold.Tie as tie
@@ -16,7 +16,7 @@ use Rattle.map_check.proofs.contents.strings_hold.Lts as lts
 use Rattle.table_map.proofs.list.Strings.next.Reads as next-reads
 
 abbrev Inv-loop : tie.InvT-loop
-Inv-loop value n at₀ count₀ at count = Met stringItem any n value at count
+Inv-loop value n at₀ count₀ at count = Met stringItem whatever n value at count
 
 abbrev μ-loop : tie.MeasureT-loop
 μ-loop value n at₀ count₀ at count = length value - at
