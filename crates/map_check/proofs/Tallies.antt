@@ -1,7 +1,7 @@
 -- Lists judged item by item: at a place, what the step there says decides, and the rest of the list. Assumes nothing.
 use Prim.Native.Nat.{ℕ, suc, _+_, _≤_, _<_}
 use mathlib.Core.Path.{_≡_, refl, sym, ap, _∙_}
-use mathlib.Core.Bool.{Bool, true, false, _&&_}
+use mathlib.Core.Bool.{Bool, true, false, _&&_, and-assoc}
 use mathlib.Core.List.{List}
 use native.Mathlib.Omega.{arith}
 use borrow.Author.Tests.{eqb-true}
@@ -16,15 +16,11 @@ use Rattle.table_map.proofs.Items.{Moves, pair-moves}
 use Rattle.table_map.proofs.Walks.{item-moves, walk-steps}
 use Rattle.map_check.specs.Contents.{isWhole, every, listHolds, exactly, isCharset, pairsHold, pairsWhole}
 
--- ---- tests may change places
+-- ---- two tests may change places
 and-swap : (a b c : Bool) → (a && (b && c)) ≡ (b && (a && c))
 and-swap true b c = refl
 and-swap false true c = refl
 and-swap false false c = refl
-
-and-assoc : (a b c : Bool) → ((a && b) && c) ≡ (a && (b && c))
-and-assoc true b c = refl
-and-assoc false b c = refl
 
 -- ---- before the end, a step answers what the rule answers
 pub item-stepped : {A : Type 0} (rule : Rule A) (s : List ℕ) (at : ℕ) (a : A) (next : ℕ) → at < length s → rule s at ≡ ok (a, next)
@@ -92,9 +88,9 @@ pub record Met {A : Type 0} (rule : Rule A) (p : A → Bool) (n : ℕ) (value : 
 pub none-met : {A : Type 0} {rule : Rule A} {p : A → Bool} {n : ℕ} {value : List ℕ} → Met rule p n value 0 0
 none-met = record { few = omega arith; to-come = refl }
 
-pub one-more : {A : Type 0} {rule : Rule A} {p : A → Bool} {n : ℕ} {value : List ℕ} {at count : ℕ} {a : A} {next : ℕ}
+pub more-met : {A : Type 0} {rule : Rule A} {p : A → Bool} {n : ℕ} {value : List ℕ} {at count : ℕ} {a : A} {next : ℕ}
     → Moves rule → Met rule p n value at count → step rule value at ≡ ok (item a next) → p a ≡ true → Met rule p n value next (count + 1)
-one-more {A} {rule} {p} {n} {value} {at} {count} {a} {next} m x e h =
+more-met {A} {rule} {p} {n} {value} {at} {count} {a} {next} m x e h =
     let w = item-moves rule m value at a next e in
     record {
       few = omega (arith, x .few, w .0);

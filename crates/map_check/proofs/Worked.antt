@@ -1,4 +1,4 @@
--- Document 01's worked event, and small maps that break one rule each, computed on the definitions. Assumes nothing.
+-- Document 01's worked event and its record, computed on the definitions. Assumes nothing.
 use Prim.Native.Nat.{ℕ}
 use mathlib.Core.Path.{_≡_, refl}
 use mathlib.Core.List.{List, [], _∷_}
@@ -22,7 +22,7 @@ use Rattle.map_check.specs.Keys.{placed, keysOnce, keysHold}
 use Rattle.map_check.specs.Profile.{pairOr, charsetBy, charsetOf, flagsOf, entriesFrom}
 use Rattle.map_check.specs.Check.{fewEnough, checkEvent, checkMap}
 
--- the event: INT unsigned NULL.., VARCHAR(20), TINYINT
+-- three columns: INT, VARCHAR(20) that may be NULL, TINYINT UNSIGNED
 abbrev event : List ℕ
 event =
     0x2a ∷ 0 ∷ 0 ∷ 0 ∷ 0 ∷ 0 ∷ 1 ∷ 0 ∷ 1 ∷ 0x74 ∷ 0 ∷ 1 ∷ 0x72 ∷ 0 ∷ 3 ∷ 3 ∷ 0x0f ∷ 1 ∷ 2 ∷ 0x14 ∷ 0 ∷ 2 ∷ 1 ∷ 1 ∷ 0x40 ∷ []

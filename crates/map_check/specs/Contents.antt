@@ -13,6 +13,7 @@ use Rattle.map_check.specs.declared.rank.Ranks.{Ranks}
 use Rattle.map_check.specs.declared.contents.Meaning.{Meaning}
 use Rattle.map_check.specs.declared.contents.Meaning.the-variants.{Charset, GeometryType, Dimension}
 
+-- whether a walk came to the end of the value
 abbrev pub isWhole : Ended → Bool
 isWhole whole = true
 isWhole (broken r) = false
@@ -56,13 +57,14 @@ unfoldable pub pairsWhole : ℕ → ℕ → List ℕ → ℕ → Bool
 unfolding walkSteps pairsHold
 pairsWhole size low value at = isWhole (walk pairItem value at .how) && pairsHold size low (walk pairItem value at .items)
 
-abbrev pub fromDefault : ℕ → List ℕ → Outcome (ℕ × ℕ) → Bool
-fromDefault size value (ok c) = isCharset (c .0) && pairsWhole size 0 value (c .1)
-fromDefault size value (refused r) = false
+-- the default that was read at the start, and the pairs behind it
+abbrev pub readHolds : ℕ → List ℕ → Outcome (ℕ × ℕ) → Bool
+readHolds size value (ok c) = isCharset (c .0) && pairsWhole size 0 value (c .1)
+readHolds size value (refused r) = false
 
 unfoldable pub defaultHolds : ℕ → List ℕ → Bool
 unfolding readPacked isCharset pairsWhole
-defaultHolds size value = fromDefault size value (readPacked value 0)
+defaultHolds size value = readHolds size value (readPacked value 0)
 
 -- ---- keys: the column's index, before its prefix length in field 9
 unfoldable pub keyItem : Bool → Rule ℕ

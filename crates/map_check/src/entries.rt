@@ -27,8 +27,8 @@ ghost use Rattle.table_map.specs.Parts.{lentPart};
 ghost use Rattle.record.specs.Records.{entriesBytes, recordBytes};
 ghost use Rattle.map_check.specs.Columns.{declareAll};
 ghost use Rattle.map_check.specs.Ranks.{place, noRanks};
-ghost use Rattle.map_check.specs.Profile.{stands, oneIf, isSignKnown, isUnsigned, isVisible, flagsOf, entriesFrom};
-ghost use Rattle.map_check.specs.Standing.{ClassHolds, Takes, entryWith, Ready, Starts, Came};
+ghost use Rattle.map_check.specs.Profile.{stands, oneIf, isSignKnown, isUnsigned, isVisible, flagsOf, entryWith, entriesFrom};
+ghost use Rattle.map_check.specs.Standing.{ClassHolds, Takes, Ready, Starts, Came};
 
 // Where the making of a record stands between two columns.
 pub(crate) struct Standing {
@@ -56,6 +56,7 @@ fn stands(found: Found) -> bool
     }
 }
 
+// Signedness is told of document 01's numeric columns alone, though a dialect may count a bit for others.
 fn is_sign_known(facts: Facts, column: Declared) -> bool
     ensures { λ r. ⌜ r ≡ isSignKnown facts column ⌝ }
 {
@@ -116,7 +117,7 @@ fn flags_of(event: &[u8], facts: Facts, column: Declared, place: Place, ranks: R
 }
 
 // The entry of a column, given its charset.
-fn entry_for(
+fn entry_with(
     event: &[u8],
     facts: Facts,
     column: Declared,
@@ -135,7 +136,8 @@ fn entry_for(
     }
 }
 
-// Of the charsets by the two classes, that of the class a column is of.
+// Of the two charsets looked up for a column, the one that the record gives. A dialect may count charsets of columns that are not character columns in document
+// 01: such a charset is passed over, and `choice` is 0 there.
 fn charset_of(real: u8, character: u16, choice: u16) -> u16
     ensures { λ r. ⌜ r ≡ cond (isCharacter real) character choice ⌝ }
 {
@@ -189,7 +191,7 @@ fn next_entry(
     let choices = facts.choices;
     let choice = charset_if(event, chosen, choices, standing.choices, ranks.choice);
     let charset = charset_of(real, character.charset, choice.charset);
-    let entry = entry_for(event, facts, column, place, ranks, charset);
+    let entry = entry_with(event, facts, column, place, ranks, charset);
     let characters = character.next;
     let choices = choice.next;
     let next = Standing {
