@@ -14,7 +14,7 @@ use Rattle.table_map.specs.Lists.{walk, integerItem, pairItem}
 use Rattle.map_check.specs.declared.contents.Meaning.the-variants.{Charset}
 use Rattle.map_check.specs.Contents.{every, exactly, isCharset, integerHolds, pairsHold, pairsWhole, readHolds, defaultHolds}
 use Rattle.map_check.specs.Profile.{pairOr}
-use Rattle.map_check.proofs.Tallies.{list-true, tally-true, pairs-true}
+use Rattle.map_check.proofs.Tallies.{list-true, exactly-true, pairs-true}
 
 -- one of two numbers is at most what both are
 pub either-at-most : (n : ℕ) (t : Bool) (a b : ℕ) → a ≤ n → b ≤ n → cond t a b ≤ n
@@ -32,10 +32,10 @@ each-fits [] e i = omega arith
 each-fits (c ∷ l) e zero = charset-fits c (and-true (isCharset c) (every (integerHolds Charset) l) e .0)
 each-fits (c ∷ l) e (suc i) = each-fits l (and-true (isCharset c) (every (integerHolds Charset) l) e .1) i
 
-pub charset-list : (n : ℕ) (value : List ℕ) → exactly integerItem (integerHolds Charset) n 0 value 0 ≡ true
+pub charset-list : (n : ℕ) (value : List ℕ) → exactly integerItem (integerHolds Charset) n value ≡ true
     → (i : ℕ) → getD (walk integerItem value 0 .items) i 0 ≤ 65535
 charset-list n value e =
-    let x = tally-true integerItem (integerHolds Charset) n 0 value 0 e in
+    let x = exactly-true integerItem (integerHolds Charset) n value e in
     each-fits (walk integerItem value 0 .items) (list-true integerItem (integerHolds Charset) value 0 (x .0) .1)
 
 -- ---- a default and pairs

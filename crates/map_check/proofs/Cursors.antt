@@ -181,7 +181,7 @@ paired-turn {value} {r} {c} t e h =
     )
 
 -- ---- the first cursors
-pub listed-first : (n : ℕ) (value : List ℕ) → exactly integerItem (integerHolds Charset) n 0 value 0 ≡ true → Listed value 0 (cursor 0 0)
+pub listed-first : (n : ℕ) (value : List ℕ) → exactly integerItem (integerHolds Charset) n value ≡ true → Listed value 0 (cursor 0 0)
 listed-first n value e = record { left = refl; fits = charset-list n value e }
 
 paired-first : (size : ℕ) (value : List ℕ) → Defaults size value → Paired value 0 (behind (readPacked value 0))

@@ -28,7 +28,7 @@ use Rattle.map_check.proofs.Bounds.{either-at-most, charset-list, chars
 
 -- ---- charsets
 class-narrow : (s : List ℕ) (r : ℕ) (default list : Found) (size : ℕ)
-    → ((p : Part) → list ≡ Value p → exactly integerItem (integerHolds Charset) size 0 (lentPart s p) 0 ≡ true)
+    → ((p : Part) → list ≡ Value p → exactly integerItem (integerHolds Charset) size (lentPart s p) ≡ true)
     → ((p : Part) → default ≡ Value p → defaultHolds size (lentPart s p) ≡ true)
     → fromList s r default list ≤ 65535
 class-narrow s r default (Value p) size h g = charset-list size (lentPart s p) (h p refl) r

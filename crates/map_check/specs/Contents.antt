@@ -1,7 +1,7 @@
 -- The contents of optional fields, in full: "3, 11: one charset per column of the class. 2, 10: ranks rise and lie below the class's size. Charsets
 -- 1..65,535. 4: n names. 5, 6, 7, 13: one item per SET, ENUM, real type 255, 242 column; geometry types 0..7. Keys below n." Every list ends exactly at the
 -- value's end. Assumes nothing.
-use Prim.Native.Nat.{ℕ, suc, _+_}
+use Prim.Native.Nat.{ℕ, suc}
 use mathlib.Core.Bool.{Bool, true, false, cond, _&&_}
 use mathlib.Core.List.{List, [], _∷_}
 use lib.ListN.{length}
@@ -32,10 +32,10 @@ unfoldable pub listHolds : {A : Type 0} → Rule A → (A → Bool) → List ℕ
 unfolding walkSteps every
 listHolds rule p value at = isWhole (walk rule value at .how) && every p (walk rule value at .items)
 
--- and there are as many as make n together with `before`
-unfoldable pub exactly : {A : Type 0} → Rule A → (A → Bool) → ℕ → ℕ → List ℕ → ℕ → Bool
+-- the value is n such items
+unfoldable pub exactly : {A : Type 0} → Rule A → (A → Bool) → ℕ → List ℕ → Bool
 unfolding walkSteps listHolds
-exactly rule p n before value at = listHolds rule p value at && eqb (before + length (walk rule value at .items)) n
+exactly rule p n value = listHolds rule p value 0 && eqb (length (walk rule value 0 .items)) n
 
 -- ---- the integers of a list, by what they mean
 unfoldable pub isCharset : ℕ → Bool
@@ -77,14 +77,14 @@ unfoldable pub contentsFull : Ranks → ℕ → ℕ → List ℕ → Bool
 unfolding exactly listHolds defaultHolds keyItem integerHolds
 contentsFull sizes n kind value =
     cond (eqb kind 2) (defaultHolds (sizes .character .0) value)
-    (cond (eqb kind 3) (exactly integerItem (integerHolds Charset) (sizes .character .0) 0 value 0)
-    (cond (eqb kind 4) (exactly stringItem whatever n 0 value 0)
-    (cond (eqb kind 5) (exactly groupItem whatever (sizes .set .0) 0 value 0)
-    (cond (eqb kind 6) (exactly groupItem whatever (sizes .enumeration .0) 0 value 0)
-    (cond (eqb kind 7) (exactly integerItem (integerHolds GeometryType) (sizes .geometry .0) 0 value 0)
+    (cond (eqb kind 3) (exactly integerItem (integerHolds Charset) (sizes .character .0) value)
+    (cond (eqb kind 4) (exactly stringItem whatever n value)
+    (cond (eqb kind 5) (exactly groupItem whatever (sizes .set .0) value)
+    (cond (eqb kind 6) (exactly groupItem whatever (sizes .enumeration .0) value)
+    (cond (eqb kind 7) (exactly integerItem (integerHolds GeometryType) (sizes .geometry .0) value)
     (cond (eqb kind 8) (listHolds (keyItem false) (λ k. ltb k n) value 0)
     (cond (eqb kind 9) (listHolds (keyItem true) (λ k. ltb k n) value 0)
     (cond (eqb kind 10) (defaultHolds (sizes .choice .0) value)
-    (cond (eqb kind 11) (exactly integerItem (integerHolds Charset) (sizes .choice .0) 0 value 0)
-    (cond (eqb kind 13) (exactly integerItem (integerHolds Dimension) (sizes .vector .0) 0 value 0)
+    (cond (eqb kind 11) (exactly integerItem (integerHolds Charset) (sizes .choice .0) value)
+    (cond (eqb kind 13) (exactly integerItem (integerHolds Dimension) (sizes .vector .0) value)
     true))))))))))

@@ -33,7 +33,7 @@ use Rattle.map_check.specs.Profile.{pairOr, fromPairs, charsetBy, entrie
 -- its fields are as the check lets them pass
 pub record ClassHolds (s : List ℕ) (class : Charsets) : Type 0 where
   pub size : ℕ
-  pub list : (p : Part) → class .list ≡ Value p → exactly integerItem (integerHolds Charset) size 0 (lentPart s p) 0 ≡ true
+  pub list : (p : Part) → class .list ≡ Value p → exactly integerItem (integerHolds Charset) size (lentPart s p) ≡ true
   pub default : (p : Part) → class .default ≡ Value p → defaultHolds size (lentPart s p) ≡ true
 
 -- a cursor, and a charset with the cursor for the next

@@ -42,7 +42,7 @@ fn integer_holds(meaning: Meaning, v: u64) -> bool
 
 // Whether the value is n integers that hold, and no more.
 fn integers_hold(value: &[u8], meaning: Meaning, n: usize) -> bool
-    ensures { λ r. ⌜ r ≡ exactly integerItem (integerHolds meaning) n 0 (now (value .entry)) 0 ⌝ }
+    ensures { λ r. ⌜ r ≡ exactly integerItem (integerHolds meaning) n (now (value .entry)) ⌝ }
 {
     let mut at: usize = 0;
     let mut count: usize = 0;
@@ -64,7 +64,7 @@ fn integers_hold(value: &[u8], meaning: Meaning, n: usize) -> bool
 
 // Whether it is n strings.
 fn strings_hold(value: &[u8], n: usize) -> bool
-    ensures { λ r. ⌜ r ≡ exactly stringItem whatever n 0 (now (value .entry)) 0 ⌝ }
+    ensures { λ r. ⌜ r ≡ exactly stringItem whatever n (now (value .entry)) ⌝ }
 {
     let mut at: usize = 0;
     let mut count: usize = 0;
@@ -83,7 +83,7 @@ fn strings_hold(value: &[u8], n: usize) -> bool
 
 // Whether it is n groups of strings.
 fn groups_hold(value: &[u8], n: usize) -> bool
-    ensures { λ r. ⌜ r ≡ exactly groupItem whatever n 0 (now (value .entry)) 0 ⌝ }
+    ensures { λ r. ⌜ r ≡ exactly groupItem whatever n (now (value .entry)) ⌝ }
 {
     let mut at: usize = 0;
     let mut count: usize = 0;

@@ -204,7 +204,7 @@ fn next_entry(
     EntryTurn { entry, next }
 }
 
-// Writes the entries of all columns, behind the six bytes before them.
+// Writes the entries of all columns, behind the six bytes before them. There is room for all, so no write is refused.
 fn write_entries(
     dialect: Dialect,
     event: &[u8],
