@@ -1,5 +1,5 @@
 // The contents of optional fields, judged in full.
-use crate::keys::keys_hold;
+use crate::keys::keys_below;
 use crate::rank::Ranks;
 use table_map::DefaultCharset;
 use table_map::GroupStep;
@@ -168,8 +168,8 @@ pub(crate) fn contents_full(sizes: Ranks, n: usize, kind: u8, value: &[u8]) -> b
         5 => groups_hold(value, set.0),
         6 => groups_hold(value, enumeration.0),
         7 => integers_hold(value, Meaning::GeometryType, geometry.0),
-        8 => keys_hold(value, false, n),
-        9 => keys_hold(value, true, n),
+        8 => keys_below(value, false, n),
+        9 => keys_below(value, true, n),
         10 => default_holds(value, choice.0),
         11 => integers_hold(value, Meaning::Charset, choice.0),
         13 => integers_hold(value, Meaning::Dimension, vector.0),

@@ -138,7 +138,7 @@ fn entry_with(
 
 // Of the two charsets looked up for a column, the one that the record gives. A dialect may count charsets of columns that are not character columns in document
 // 01: such a charset is passed over, and `choice` is 0 there.
-fn charset_of(real: u8, character: u16, choice: u16) -> u16
+fn pick_charset(real: u8, character: u16, choice: u16) -> u16
     ensures { λ r. ⌜ r ≡ cond (isCharacter real) character choice ⌝ }
 {
     if value::is_character(real) {
@@ -147,6 +147,7 @@ fn charset_of(real: u8, character: u16, choice: u16) -> u16
     choice
 }
 
+// Where the making stands before the first column.
 fn first_standing(event: &[u8], facts: Facts) -> Standing
     requires { ⌜ ClassHolds (now event) (facts .characters) × ClassHolds (now event) (facts .choices) ⌝ }
     ensures { λ r. ⌜ Starts (now (event .entry)) facts r ⌝ }
@@ -160,7 +161,7 @@ fn first_standing(event: &[u8], facts: Facts) -> Standing
     }
 }
 
-// The next column's entry.
+// The next column's entry, and where the making stands behind it.
 fn next_entry(
     dialect: Dialect,
     event: &[u8],
@@ -190,7 +191,7 @@ fn next_entry(
     let chosen = value::is_enum_or_set(real);
     let choices = facts.choices;
     let choice = charset_if(event, chosen, choices, standing.choices, ranks.choice);
-    let charset = charset_of(real, character.charset, choice.charset);
+    let charset = pick_charset(real, character.charset, choice.charset);
     let entry = entry_with(event, facts, column, place, ranks, charset);
     let characters = character.next;
     let choices = choice.next;

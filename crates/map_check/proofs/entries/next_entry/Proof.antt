@@ -12,7 +12,7 @@ use Rattle.map_check.proofs.entries.next_entry.Reads as reads
 use Rattle.map_check.proofs.entries.next_entry.Lts as lts
 use Rattle.map_check.proofs.charset.charset_if.Reads as charset-if-reads
 use Rattle.map_check.proofs.column.declare.Reads as declare-reads
-use Rattle.map_check.proofs.entries.charset_of.Reads as charset-of-reads
+use Rattle.map_check.proofs.entries.pick_charset.Reads as pick-charset-reads
 use Rattle.map_check.proofs.entries.entry_with.Reads as entry-with-reads
 use Rattle.map_check.proofs.rank.ranks_after.Reads as ranks-after-reads
 use Rattle.value.proofs.has_charset.Reads as has-charset-reads
@@ -37,8 +37,8 @@ is-enum-or-set-requires c κs = search needs
 charset-if-requires-2 : tie.Need-charset-if-requires-2
 charset-if-requires-2 c κs = search needs
 
-charset-of-requires : tie.Need-charset-of-requires
-charset-of-requires c κs = search needs
+pick-charset-requires : tie.Need-pick-charset-requires
+pick-charset-requires c κs = search needs
 
 entry-with-requires : tie.Need-entry-with-requires
 entry-with-requires c κs = search needs
@@ -66,7 +66,7 @@ returns c =
       column = c .before .before .before .before .before .before .before .before .before .before .before .before .before .declare .ensures;
       character = rw (← (c .before .before .before .before .before .before .before .before .before .before .before .before .has-charset .ensures)) (c .before .before .before .before .before .before .before .before .before .before .charset-if .ensures);
       choice = rw (← (c .before .before .before .before .before .before .before .before .before .is-enum-or-set .ensures)) (c .before .before .before .before .before .before .before .charset-if2 .ensures);
-      entry = c .before .before .before .before .before .entry-with .ensures ∙ rw (c .before .before .before .before .before .before .charset-of .ensures);
+      entry = c .before .before .before .before .before .entry-with .ensures ∙ rw (c .before .before .before .before .before .before .pick-charset .ensures);
       place = refl;
       metadata = rw (c .before .before .metadata-bytes .ensures);
       ranks = c .ranks-after .ensures;
@@ -84,7 +84,7 @@ next-entry-spec =
     charset-if-requires
     is-enum-or-set-requires
     charset-if-requires-2
-    charset-of-requires
+    pick-charset-requires
     entry-with-requires
     add-t26
     metadata-bytes-requires
