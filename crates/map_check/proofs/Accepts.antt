@@ -87,8 +87,3 @@ pub accepted-numeric : (kind : ℕ) (meta : List ℕ) → isAccepted (declared k
 unfolding isAccepted declared
 accepted-numeric kind meta e =
     numeric-real kind (metaByte 0 kind meta) (realType kind (metaByte 0 kind meta)) refl (and-true (isReal kind (realType kind (metaByte 0 kind meta))) _ e .0)
-
--- what a column says of itself
-pub declared-kind : (kind : ℕ) (meta : List ℕ) → declared kind meta .kind ≡ kind
-unfolding declared
-declared-kind kind meta = refl

@@ -1,7 +1,7 @@
 -- Charsets of fields that hold take two bytes, as the record gives them. Assumes nothing.
 use Prim.Native.Nat.{ℕ, zero, suc, _≤_}
 use mathlib.Core.Path.{_≡_, refl}
-use mathlib.Core.Bool.{Bool, true, false, cond, _&&_}
+use mathlib.Core.Bool.{Bool, true, false, cond, _&&_, false≢true}
 use mathlib.Core.List.{List, [], _∷_}
 use native.Mathlib.Omega.{arith}
 use borrow.Author.Tests.{leb-true}
@@ -12,32 +12,33 @@ use Rattle.wire.specs.Packed.{readPacked}
 use Rattle.temporal.proofs.Ranges.{and-true}
 use Rattle.table_map.specs.Lists.{walk, integerItem, pairItem}
 use Rattle.map_check.specs.declared.contents.Meaning.the-variants.{Charset}
-use Rattle.map_check.specs.Contents.{all, exactly, isCharset, integerHolds, pairsHold, pairsWhole, fromDefault, defaultHolds}
+use Rattle.map_check.specs.Contents.{every, exactly, isCharset, integerHolds, pairsHold, pairsWhole, readHolds, defaultHolds}
 use Rattle.map_check.specs.Profile.{pairOr}
-use Rattle.map_check.proofs.Tallies.{list-true, tally-true, pairs-true}
+use Rattle.map_check.proofs.Tallies.{list-true, exactly-true, pairs-true}
+
+-- one of two numbers is at most what both are
+pub either-at-most : (n : ℕ) (t : Bool) (a b : ℕ) → a ≤ n → b ≤ n → cond t a b ≤ n
+either-at-most n true a b h l = h
+either-at-most n false a b h l = l
 
 pub charset-fits : (c : ℕ) → isCharset c ≡ true → c ≤ 65535
 unfolding isCharset
 charset-fits c e = leb-true c 65535 (and-true (leb 1 c) (leb c 65535) e .1)
 
 -- ---- a list
-each-fits : (l : List ℕ) → all (integerHolds Charset) l ≡ true → (i : ℕ) → getD l i 0 ≤ 65535
-unfolding all integerHolds
+each-fits : (l : List ℕ) → every (integerHolds Charset) l ≡ true → (i : ℕ) → getD l i 0 ≤ 65535
+unfolding every integerHolds
 each-fits [] e i = omega arith
-each-fits (c ∷ l) e zero = charset-fits c (and-true (isCharset c) (all (integerHolds Charset) l) e .0)
-each-fits (c ∷ l) e (suc i) = each-fits l (and-true (isCharset c) (all (integerHolds Charset) l) e .1) i
+each-fits (c ∷ l) e zero = charset-fits c (and-true (isCharset c) (every (integerHolds Charset) l) e .0)
+each-fits (c ∷ l) e (suc i) = each-fits l (and-true (isCharset c) (every (integerHolds Charset) l) e .1) i
 
-pub charset-list : (n : ℕ) (value : List ℕ) → exactly integerItem (integerHolds Charset) n 0 value 0 ≡ true
+pub charset-list : (n : ℕ) (value : List ℕ) → exactly integerItem (integerHolds Charset) n value ≡ true
     → (i : ℕ) → getD (walk integerItem value 0 .items) i 0 ≤ 65535
 charset-list n value e =
-    let x = tally-true integerItem (integerHolds Charset) n 0 value 0 e in
+    let x = exactly-true integerItem (integerHolds Charset) n value e in
     each-fits (walk integerItem value 0 .items) (list-true integerItem (integerHolds Charset) value 0 (x .0) .1)
 
 -- ---- a default and pairs
-one-fits : (t : Bool) (c d : ℕ) → c ≤ 65535 → d ≤ 65535 → cond t c d ≤ 65535
-one-fits true c d h l = h
-one-fits false c d h l = l
-
 pairs-fit : (size low : ℕ) (ps : List (ℕ × ℕ)) (c : ℕ) → c ≤ 65535 → pairsHold size low ps ≡ true → (r : ℕ) → pairOr c r ps ≤ 65535
 unfolding pairsHold pairOr
 pairs-fit size low [] c h e r = h
@@ -46,7 +47,7 @@ pairs-fit size low (p ∷ ps) c h e r =
     let x = and-true (leb low (p .0)) (ltb (p .0) size && (isCharset (p .1) && rest)) e in
     let y = and-true (ltb (p .0) size) (isCharset (p .1) && rest) (x .1) in
     let z = and-true (isCharset (p .1)) rest (y .1) in
-    one-fits (eqb (p .0) r) (p .1) _ (charset-fits (p .1) (z .0)) (pairs-fit size (suc (p .0)) ps c h (z .1) r)
+    either-at-most 65535 (eqb (p .0) r) (p .1) _ (charset-fits (p .1) (z .0)) (pairs-fit size (suc (p .0)) ps c h (z .1) r)
 
 -- what such a field says: the default, where the pairs start, and what they are
 pub record Defaults (size : ℕ) (value : List ℕ) : Type 0 where
@@ -61,7 +62,7 @@ pub charset-default : (size : ℕ) (value : List ℕ) → defaultHolds size valu
 unfolding defaultHolds
 charset-default size value e = go (readPacked value 0) refl e
   where
-    go : (o : Outcome (ℕ × ℕ)) → readPacked value 0 ≡ o → fromDefault size value o ≡ true → Defaults size value
+    go : (o : Outcome (ℕ × ℕ)) → readPacked value 0 ≡ o → readHolds size value o ≡ true → Defaults size value
     go (ok c) f g =
         let x = and-true (isCharset (c .0)) (pairsWhole size 0 value (c .1)) g in
         let h = charset-fits (c .0) (x .0) in
@@ -74,4 +75,4 @@ charset-default size value e = go (readPacked value 0) refl e
           hold = y;
           each = pairs-fit size 0 (walk pairItem value (c .1) .items) (c .0) h y;
         }
-    go (refused w) f g = let z : _≡_ {A = ℕ} 0 1 = cc in absurd (omega arith)
+    go (refused w) f g = absurd (false≢true g)

@@ -14,7 +14,7 @@ use Rattle.map_check.specs.declared.column.Declared.{Declared}
 use Rattle.map_check.specs.declared.rank.Rank.{Rank}
 use Rattle.map_check.specs.declared.rank.Ranks.{Ranks}
 use Rattle.map_check.specs.Columns.{metaBytes, declared, takeColumns, declareAll}
-use Rattle.map_check.specs.Ranks.{rank, passed, noRanks, ranksAfter, ranksFrom, sizesOf, Below}
+use Rattle.map_check.specs.Ranks.{rank, passed, noRanks, ranksAfter, ranksFrom, sizesOf, AtMost}
 use Rattle.map_check.proofs.Declares.{taken-all}
 
 -- a column that is not of the class leaves its rank
@@ -27,8 +27,8 @@ one-at-most : (n m : ℕ) (member : Bool) → m ≤ n → m + cond member 1 0 �
 one-at-most n m true h = omega arith
 one-at-most n m false h = omega arith
 
-pub below-none : Below 0 noRanks
-below-none = record {
+pub at-most-none : AtMost 0 noRanks
+at-most-none = record {
   sign = omega arith;
   character = omega arith;
   choice = omega arith;
@@ -38,8 +38,8 @@ below-none = record {
   vector = omega arith;
 }
 
-pub below-wider : {m n : ℕ} {k : Ranks} → m ≤ n → Below m k → Below n k
-below-wider h b = record {
+pub at-most-wider : {m n : ℕ} {k : Ranks} → m ≤ n → AtMost m k → AtMost n k
+at-most-wider h b = record {
   sign = omega (arith, b .sign);
   character = omega (arith, b .character);
   choice = omega (arith, b .choice);
@@ -49,9 +49,9 @@ below-wider h b = record {
   vector = omega (arith, b .vector);
 }
 
-pub below-after : {n : ℕ} {k : Ranks} (d : Dialect) (c : Declared) → Below n k → Below (n + 1) (ranksAfter d k c)
+pub at-most-after : {n : ℕ} {k : Ranks} (d : Dialect) (c : Declared) → AtMost n k → AtMost (n + 1) (ranksAfter d k c)
 unfolding ranksAfter
-below-after {n} d c b = record {
+at-most-after {n} d c b = record {
   sign = one-at-most n _ (hasSignBit d (c .kind)) (b .sign);
   character = one-at-most n _ (hasCharset d (c .real)) (b .character);
   choice = one-at-most n _ (isEnumOrSet (c .real)) (b .choice);

@@ -33,6 +33,7 @@ use Rattle.map_check.specs.Profile.{pairOr, fromPairs, fromList, charset
 use Rattle.map_check.specs.Standing.{ClassHolds, cursor, turn, behind, listTurn, pairTurn, IntegerFits, PairFits, Listed, Paired, StandsIn, Stands, Taken}
 use Rattle.map_check.proofs.Between.{items-next}
 use Rattle.map_check.proofs.Bounds.{charset-fits, charset-list, Defaults, charset-default}
+use Rattle.map_check.proofs.KeptFields.{nothing-not-value}
 
 -- a walk's items, from its first step
 items-step : {A : Type 0} (rule : Rule A) → Moves rule → (value : List ℕ) (at : ℕ) → walk rule value at .items ≡ onward (walk rule value) (step rule value at) .items
@@ -73,12 +74,12 @@ listed-turn {value} {r} {c} t e h =
 
 -- ---- in pairs
 -- the first of pairs that hold
-pub record First (size low : ℕ) (p : ℕ × ℕ) (ps : List (ℕ × ℕ)) : Type 0 where
-  pub rank : low ≤ p .0
-  pub fits : p .1 ≤ 65535
-  pub below : ltb (p .0) size ≡ true
-  pub charset : isCharset (p .1) ≡ true
-  pub rise : pairsHold size (suc (p .0)) ps ≡ true
+record First (size low : ℕ) (p : ℕ × ℕ) (ps : List (ℕ × ℕ)) : Type 0 where
+  rank : low ≤ p .0
+  fits : p .1 ≤ 65535
+  below : ltb (p .0) size ≡ true
+  charset : isCharset (p .1) ≡ true
+  rise : pairsHold size (suc (p .0)) ps ≡ true
 
 first-pair : (size low : ℕ) (p : ℕ × ℕ) (ps : List (ℕ × ℕ)) → pairsHold size low (p ∷ ps) ≡ true → First size low p ps
 unfolding pairsHold
@@ -180,7 +181,7 @@ paired-turn {value} {r} {c} t e h =
     )
 
 -- ---- the first cursors
-pub listed-first : (n : ℕ) (value : List ℕ) → exactly integerItem (integerHolds Charset) n 0 value 0 ≡ true → Listed value 0 (cursor 0 0)
+pub listed-first : (n : ℕ) (value : List ℕ) → exactly integerItem (integerHolds Charset) n value ≡ true → Listed value 0 (cursor 0 0)
 listed-first n value e = record { left = refl; fits = charset-list n value e }
 
 paired-first : (size : ℕ) (value : List ℕ) → Defaults size value → Paired value 0 (behind (readPacked value 0))
@@ -204,9 +205,6 @@ first-fits s (Value p) size h charset next e =
 first-fits s Nothing size h charset next e = absurd (ok-not-refused (sym e))
 
 -- ---- a class, by the field that stands
-value-not-nothing : {p : Part} → Value p ≡ Nothing → ⊥
-value-not-nothing e = let z : _≡_ {A = ℕ} 0 1 = cc in omega arith
-
 pub first-in-list : (s : List ℕ) (class : Charsets) (p : Part) → class .list ≡ Value p → ClassHolds s class → Stands s class 0 (cursor 0 0)
 first-in-list s class p e h = rw e (listed-first (h .size) (lentPart s p) (h .list p e))
 
@@ -217,22 +215,22 @@ first-in-pairs s class c e h f = rw (e, f) (first-paired s (class .default) (h .
 pub fits-in-list : (s : List ℕ) (default list : Found) (p : Part) (r : ℕ) (c : CharsetCursor) → list ≡ Value p → StandsIn s default list r c
     → IntegerFits (valueIn s list) (c .at)
 fits-in-list s default (Value q) p r c e h = listed-fits h
-fits-in-list s default Nothing p r c e h = absurd (value-not-nothing (sym e))
+fits-in-list s default Nothing p r c e h = absurd (nothing-not-value e)
 
 pub fits-in-pairs : (s : List ℕ) (default list : Found) (r : ℕ) (c : CharsetCursor) → list ≡ Nothing → StandsIn s default list r c
     → PairFits (valueIn s default) (c .at)
-fits-in-pairs s default (Value q) r c e h = absurd (value-not-nothing e)
+fits-in-pairs s default (Value q) r c e h = absurd (nothing-not-value (sym e))
 fits-in-pairs s default Nothing r c e h = paired-fits h
 
 turn-in-list : (s : List ℕ) (default list : Found) (p : Part) (r : ℕ) (c : CharsetCursor) (t : CharsetTurn) → list ≡ Value p → StandsIn s default list r c
     → t ≡ listTurn c (step integerItem (valueIn s list) (c .at)) → (t .charset ≡ fromList s r default list) × StandsIn s default list (r + 1) (t .next)
 turn-in-list s default (Value q) p r c t e h f = listed-turn t f h
-turn-in-list s default Nothing p r c t e h f = absurd (value-not-nothing (sym e))
+turn-in-list s default Nothing p r c t e h f = absurd (nothing-not-value e)
 
 turn-in-pairs : (s : List ℕ) (default list : Found) (r : ℕ) (c : CharsetCursor) (t : CharsetTurn) → list ≡ Nothing → StandsIn s default list r c
     → t ≡ pairTurn c r (step pairItem (valueIn s default) (c .at)) → (t .charset ≡ fromList s r default list) × StandsIn s default list (r + 1) (t .next)
 unfolding readPacked
-turn-in-pairs s default (Value q) r c t e h f = absurd (value-not-nothing e)
+turn-in-pairs s default (Value q) r c t e h f = absurd (nothing-not-value (sym e))
 turn-in-pairs s (Value p) Nothing r c t e h f = paired-turn t f h
 turn-in-pairs s Nothing Nothing r c t e h f = paired-turn t f h
 

@@ -16,7 +16,7 @@ use Rattle.map_check.specs.declared.column.Declared.{Declared}
 use Rattle.map_check.specs.declared.rank.Ranks.{Ranks}
 use Rattle.map_check.specs.Columns.{metaBytes, metaByte, declared, isAccepted, takeColumn, takeColumns, declareAll}
 use Rattle.map_check.specs.Ranks.{ranksAfter, ranksFrom}
-use Rattle.map_check.specs.Contents.{all}
+use Rattle.map_check.specs.Contents.{every}
 
 -- ---- a byte of the metadata
 constant : {A : Type 0} (t : Bool) (a b : A) → b ≡ a → cond t a b ≡ a
@@ -73,8 +73,8 @@ taken-all (kind ∷ types) meta p cs e =
     t .1 ∙ ap (λ (l : List Declared). declared kind meta ∷ l) (taken-all types (drop (metaBytes kind) meta) (suc p) (t .0) (t .2))
 
 -- and accepted
-pub taken-accepted : (types meta : List ℕ) (p : ℕ) (cs : List Declared) → takeColumns types meta p ≡ ok cs → all isAccepted cs ≡ true
-unfolding all takeColumns
+pub taken-accepted : (types meta : List ℕ) (p : ℕ) (cs : List Declared) → takeColumns types meta p ≡ ok cs → every isAccepted cs ≡ true
+unfolding every takeColumns
 taken-accepted [] meta p cs e = rw (sym (test-is-ok (eqb (length meta) 0) [] (why 5 p) cs e .1))
 taken-accepted (kind ∷ types) meta p cs e =
     let t = taken-turn kind types meta p cs e in
@@ -87,11 +87,11 @@ declared-length (kind ∷ types) meta = ap suc (declared-length types (drop (met
 
 -- ---- the loop
 -- what is to come from ranks and columns on: how many there are of every class in the end
-abbrev pub toCome : Dialect → Ranks → List ℕ → List ℕ → ℕ → Outcome Ranks
-toCome d k types meta p = after (takeColumns types meta p) (λ cs. ok (ranksFrom d k cs))
+abbrev pub sizesToCome : Dialect → Ranks → List ℕ → List ℕ → ℕ → Outcome Ranks
+sizesToCome d k types meta p = after (takeColumns types meta p) (λ cs. ok (ranksFrom d k cs))
 
 first : (d : Dialect) (k : Ranks) (kind : ℕ) (types meta : List ℕ) (p : ℕ)
-    → toCome d k (kind ∷ types) meta p ≡ after (takeColumn kind meta p) (λ c. toCome d (ranksAfter d k c) types (drop (metaBytes kind) meta) (suc p))
+    → sizesToCome d k (kind ∷ types) meta p ≡ after (takeColumn kind meta p) (λ c. sizesToCome d (ranksAfter d k c) types (drop (metaBytes kind) meta) (suc p))
 unfolding takeColumns ranksFrom
 first d k kind types meta p = go (takeColumn kind meta p) (takeColumns types (drop (metaBytes kind) meta) (suc p))
   where
@@ -102,18 +102,18 @@ first d k kind types meta p = go (takeColumn kind meta p) (takeColumns types (dr
     go (refused w) l = refl
 
 -- a turn: the column at j decides, and then the rest
-pub turn : (d : Dialect) (k : Ranks) (types meta : List ℕ) (at j : ℕ) → j < length types
-    → toCome d k (drop j types) (drop at meta) j
-    ≡ after (takeColumn (getD types j 0) (drop at meta) j) (λ c. toCome d (ranksAfter d k c) (drop (j + 1) types) (drop (at + metaBytes (getD types j 0)) meta) (j + 1))
-turn d k types meta at j h =
+pub column-turn : (d : Dialect) (k : Ranks) (types meta : List ℕ) (at j : ℕ) → j < length types
+    → sizesToCome d k (drop j types) (drop at meta) j
+    ≡ after (takeColumn (getD types j 0) (drop at meta) j) (λ c. sizesToCome d (ranksAfter d k c) (drop (j + 1) types) (drop (at + metaBytes (getD types j 0)) meta) (j + 1))
+column-turn d k types meta at j h =
     let e : suc j ≡ j + 1 = omega arith in
-    ap (λ (l : List ℕ). toCome d k l (drop at meta) j) (drop-cons types j 0 h)
+    ap (λ (l : List ℕ). sizesToCome d k l (drop at meta) j) (drop-cons types j 0 h)
     ∙ first d k (getD types j 0) (drop (suc j) types) (drop at meta) j
-    ∙ ap (λ (i : ℕ). after (takeColumn (getD types j 0) (drop at meta) j) (λ c. toCome d (ranksAfter d k c) (drop i types) (drop (metaBytes (getD types j 0)) (drop at meta)) i)) e
-    ∙ ap (λ (l : List ℕ). after (takeColumn (getD types j 0) (drop at meta) j) (λ c. toCome d (ranksAfter d k c) (drop (j + 1) types) l (j + 1))) (drop-drop (metaBytes (getD types j 0)) at meta)
+    ∙ ap (λ (i : ℕ). after (takeColumn (getD types j 0) (drop at meta) j) (λ c. sizesToCome d (ranksAfter d k c) (drop i types) (drop (metaBytes (getD types j 0)) (drop at meta)) i)) e
+    ∙ ap (λ (l : List ℕ). after (takeColumn (getD types j 0) (drop at meta) j) (λ c. sizesToCome d (ranksAfter d k c) (drop (j + 1) types) l (j + 1))) (drop-drop (metaBytes (getD types j 0)) at meta)
 
 -- behind the last column
-none : (d : Dialect) (k : Ranks) (meta : List ℕ) (at j : ℕ) → toCome d k [] (drop at meta) j ≡ cond (eqb (length meta - at) 0) (ok k) (refuse 5 j)
+none : (d : Dialect) (k : Ranks) (meta : List ℕ) (at j : ℕ) → sizesToCome d k [] (drop at meta) j ≡ cond (eqb (length meta - at) 0) (ok k) (refuse 5 j)
 unfolding takeColumns ranksFrom
 none d k meta at j = rw (length-drop at meta) (go (eqb (length meta - at) 0))
   where
@@ -121,14 +121,14 @@ none d k meta at j = rw (length-drop at meta) (go (eqb (length meta - at) 0))
     go true = refl
     go false = refl
 
-pub none-left : (d : Dialect) (k : Ranks) (types meta : List ℕ) (at j : ℕ) → length types ≤ j → length meta ≤ at → toCome d k (drop j types) (drop at meta) j ≡ ok k
+pub none-left : (d : Dialect) (k : Ranks) (types meta : List ℕ) (at j : ℕ) → length types ≤ j → length meta ≤ at → sizesToCome d k (drop j types) (drop at meta) j ≡ ok k
 none-left d k types meta at j h l =
     let e : drop j types ≡ [] = drop-of-length-le types h in
     let z : length meta - at ≡ 0 = omega arith in
-    ap (λ (ts : List ℕ). toCome d k ts (drop at meta) j) e ∙ none d k meta at j ∙ rw (eq-eqb (length meta - at) 0 z)
+    ap (λ (ts : List ℕ). sizesToCome d k ts (drop at meta) j) e ∙ none d k meta at j ∙ rw (eq-eqb (length meta - at) 0 z)
 
-pub some-left : (d : Dialect) (k : Ranks) (types meta : List ℕ) (at j : ℕ) → length types ≤ j → at < length meta → toCome d k (drop j types) (drop at meta) j ≡ refuse 5 j
+pub some-left : (d : Dialect) (k : Ranks) (types meta : List ℕ) (at j : ℕ) → length types ≤ j → at < length meta → sizesToCome d k (drop j types) (drop at meta) j ≡ refuse 5 j
 some-left d k types meta at j h l =
     let e : drop j types ≡ [] = drop-of-length-le types h in
     let z : length meta - at ≡ 0 → ⊥ = λ z. omega arith in
-    ap (λ (ts : List ℕ). toCome d k ts (drop at meta) j) e ∙ none d k meta at j ∙ rw (ne-eqb (length meta - at) 0 z)
+    ap (λ (ts : List ℕ). sizesToCome d k ts (drop at meta) j) e ∙ none d k meta at j ∙ rw (ne-eqb (length meta - at) 0 z)

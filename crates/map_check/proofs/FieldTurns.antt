@@ -1,7 +1,7 @@
 -- The optional fields one by one: the loop that looks for one, and the loop that keeps them, with what it has marked. Assumes nothing.
-use Prim.Native.Nat.{ℕ, zero, suc, _-_, _≤_, _<_}
+use Prim.Native.Nat.{ℕ, zero, suc, _-_, _≤_, _<_, suc-le-suc}
 use mathlib.Core.Path.{_≡_, refl, sym, ap, _∙_}
-use mathlib.Core.Bool.{Bool, true, false, cond, _&&_, _||_, not}
+use mathlib.Core.Bool.{Bool, true, false, _&&_, _||_, not}
 use mathlib.Core.List.{List, [], _∷_}
 use native.Mathlib.Omega.{arith}
 use borrow.Author.Tests.{leb-true, eqb-true, eqb-false}
@@ -22,6 +22,7 @@ use Rattle.table_map.proofs.Optional.{field-stepped, field-ended, field-broken,
 use Rattle.map_check.specs.declared.rank.Ranks.{Ranks}
 use Rattle.map_check.specs.Contents.{contentsFull}
 use Rattle.map_check.specs.Fields.{stood, rivalOf, isKept, keep, keepSteps, keepFields, fieldsFrom, done}
+use Rattle.map_check.proofs.Bounds.{either-at-most}
 
 -- ---- a step leads on, within the bytes
 pub cursor-moves : (c : FieldCursor) (s : List ℕ) (f : ℕ × Part) (next : FieldCursor) → fieldStep c s ≡ ok (item f next)
@@ -30,21 +31,21 @@ cursor-moves c s f next e =
     item-moves (fieldItem (c .numeric) (c .columns)) (field-moves (c .numeric) (c .columns)) s (c .at) f (next .at) (field-stepped c s f next e .0)
 
 -- ---- looking for a field: the walk from a cursor is what its step met, and the walk from the next
-turn : (c : FieldCursor) (s : List ℕ)
+fields-turn : (c : FieldCursor) (s : List ℕ)
     → fieldsFrom c s ≡ onward (walk (fieldItem (c .numeric) (c .columns)) s) (step (fieldItem (c .numeric) (c .columns)) s (c .at)) .items
-turn c s =
+fields-turn c s =
     ap (λ (w : Walked (ℕ × Part)). w .items) (walk-steps (fieldItem (c .numeric) (c .columns)) (field-moves (c .numeric) (c .columns)) s (c .at))
 
 pub fields-on : (c : FieldCursor) (s : List ℕ) (f : ℕ × Part) (next : FieldCursor) → fieldStep c s ≡ ok (item f next) → fieldsFrom c s ≡ f ∷ fieldsFrom next s
 fields-on c s f next e =
     let w = field-stepped c s f next e in
-    turn c s ∙ rw (w .0, w .1, w .2)
+    fields-turn c s ∙ rw (w .0, w .1, w .2)
 
 pub fields-end : (c : FieldCursor) (s : List ℕ) → fieldStep c s ≡ ok end → fieldsFrom c s ≡ []
-fields-end c s e = turn c s ∙ rw (field-ended c s e)
+fields-end c s e = fields-turn c s ∙ rw (field-ended c s e)
 
 pub fields-break : (c : FieldCursor) (s : List ℕ) (w : Refusal) → fieldStep c s ≡ refused w → fieldsFrom c s ≡ []
-fields-break c s w e = turn c s ∙ rw (field-broken c s w e)
+fields-break c s w e = fields-turn c s ∙ rw (field-broken c s w e)
 
 -- ---- keeping fields: more turns than bytes are enough
 abbrev stepAt : FieldCursor → List ℕ → ℕ → Outcome (Stepped (ℕ × Part) ℕ)
@@ -90,7 +91,7 @@ keep-turn sizes c s before at = go (stepAt c s at) refl
     go (refused r) e = refl
 
 -- ---- where the loop stands, at a cursor, with what it has marked of the types before it: what is to come decides all
-pub record Stands (sizes : Ranks) (c : FieldCursor) (s : List ℕ) (here : FieldCursor) (seen : List Bool) : Type 0 where
+pub record KeptTo (sizes : Ranks) (c : FieldCursor) (s : List ℕ) (here : FieldCursor) (seen : List Bool) : Type 0 where
   pub before : List ℕ
   pub size : length seen ≡ 14
   pub marks : (k : ℕ) → k < 14 → getD seen k false ≡ stood k before
@@ -98,9 +99,9 @@ pub record Stands (sizes : Ranks) (c : FieldCursor) (s : List ℕ) (here : Field
   pub columns : here .columns ≡ c .columns
   pub rest : done (keepFrom sizes c s before (here .at)) ≡ done (keepFields sizes c s)
 
-pub stands-first : (sizes : Ranks) (c : FieldCursor) (s : List ℕ) → Stands sizes c s c (replicate 14 false)
+pub kept-to-first : (sizes : Ranks) (c : FieldCursor) (s : List ℕ) → KeptTo sizes c s c (replicate 14 false)
 unfolding stood
-stands-first sizes c s = record {
+kept-to-first sizes c s = record {
   before = [];
   size = refl;
   marks = λ k h. getD-replicate 14 k false false h;
@@ -110,7 +111,7 @@ stands-first sizes c s = record {
 }
 
 -- its step is the walk's
-stepped : {sizes : Ranks} {c : FieldCursor} {s : List ℕ} {here : FieldCursor} {seen : List Bool} → Stands sizes c s here seen
+stepped : {sizes : Ranks} {c : FieldCursor} {s : List ℕ} {here : FieldCursor} {seen : List Bool} → KeptTo sizes c s here seen
     → (f : ℕ × Part) (next : FieldCursor) → fieldStep here s ≡ ok (item f next) → stepAt c s (here .at) ≡ ok (item f (next .at))
 stepped st f next e = rw (← st .numeric, ← st .columns) (field-stepped _ _ f next e .0)
 
@@ -122,22 +123,19 @@ kind-low c s f next e =
     let l = leb-true (f .0) 13 (and-true (leb 1 (f .0)) (leb (f .0) 13) k .1) in
     omega arith
 
-either-low : (t : Bool) (a b : ℕ) → a < 14 → b < 14 → cond t a b < 14
-either-low true a b h l = h
-either-low false a b h l = l
-
 pub rival-low : (k : ℕ) → rivalOf k < 14
 unfolding rivalOf
 rival-low k =
-    either-low (eqb k 2) 3 _ (omega arith)
-    (either-low (eqb k 3) 2 _ (omega arith)
-    (either-low (eqb k 10) 11 _ (omega arith)
-    (either-low (eqb k 11) 10 _ (omega arith)
-    (either-low (eqb k 8) 9 _ (omega arith)
-    (either-low (eqb k 9) 8 0 (omega arith) (omega arith))))))
+    suc-le-suc
+    (either-at-most 13 (eqb k 2) 3 _ (omega arith)
+    (either-at-most 13 (eqb k 3) 2 _ (omega arith)
+    (either-at-most 13 (eqb k 10) 11 _ (omega arith)
+    (either-at-most 13 (eqb k 11) 10 _ (omega arith)
+    (either-at-most 13 (eqb k 8) 9 _ (omega arith)
+    (either-at-most 13 (eqb k 9) 8 0 (omega arith) (omega arith)))))))
 
 -- the marks tell whether a field is kept
-pub marks-tell : {sizes : Ranks} {c : FieldCursor} {s : List ℕ} {here : FieldCursor} {seen : List Bool} (st : Stands sizes c s here seen)
+pub marks-tell : {sizes : Ranks} {c : FieldCursor} {s : List ℕ} {here : FieldCursor} {seen : List Bool} (st : KeptTo sizes c s here seen)
     → (f : ℕ × Part) (rival : ℕ) (t : Bool) → f .0 < 14 → rival ≡ rivalOf (f .0)
     → t ≡ (not (getD seen (f .0) false) && (not (getD seen rival false) && contentsFull sizes (c .columns) (f .0) (lentPart s (f .1))))
     → isKept sizes (c .columns) s (st .before) f ≡ t
@@ -159,10 +157,10 @@ done-more g (ok a) = refl
 done-more g (refused w) = refl
 
 -- a field that is kept
-pub stands-next : {sizes : Ranks} {c : FieldCursor} {s : List ℕ} {here : FieldCursor} {seen : List Bool} (st : Stands sizes c s here seen)
+pub kept-to-next : {sizes : Ranks} {c : FieldCursor} {s : List ℕ} {here : FieldCursor} {seen : List Bool} (st : KeptTo sizes c s here seen)
     → (f : ℕ × Part) (next : FieldCursor) → fieldStep here s ≡ ok (item f next) → isKept sizes (c .columns) s (st .before) f ≡ true
-    → Stands sizes c s next (set seen (f .0) true)
-stands-next {sizes} {c} {s} {here} {seen} st f next e k =
+    → KeptTo sizes c s next (set seen (f .0) true)
+kept-to-next {sizes} {c} {s} {here} {seen} st f next e k =
     let w = field-stepped here s f next e in
     let t : keepFrom sizes c s (st .before) (here .at) ≡ after (keepFrom sizes c s (f .0 ∷ st .before) (next .at)) (λ fs. ok (f ∷ fs)) =
     rw (keep-turn sizes c s (st .before) (here .at), stepped st f next e, k) in
@@ -176,20 +174,20 @@ stands-next {sizes} {c} {s} {here} {seen} st f next e k =
     }
 
 -- one that is not
-pub stands-down : {sizes : Ranks} {c : FieldCursor} {s : List ℕ} {here : FieldCursor} {seen : List Bool} (st : Stands sizes c s here seen)
+pub kept-to-refused : {sizes : Ranks} {c : FieldCursor} {s : List ℕ} {here : FieldCursor} {seen : List Bool} (st : KeptTo sizes c s here seen)
     → (f : ℕ × Part) (next : FieldCursor) → fieldStep here s ≡ ok (item f next) → isKept sizes (c .columns) s (st .before) f ≡ false
     → done (keepFields sizes c s) ≡ refuse 7 (here .at)
-stands-down {sizes} {c} {s} {here} st f next e k = sym (st .rest) ∙ rw (keep-turn sizes c s (st .before) (here .at), stepped st f next e, k)
+kept-to-refused {sizes} {c} {s} {here} st f next e k = sym (st .rest) ∙ rw (keep-turn sizes c s (st .before) (here .at), stepped st f next e, k)
 
 -- no field: the end, or a refusal of the walk
-pub stands-end : {sizes : Ranks} {c : FieldCursor} {s : List ℕ} {here : FieldCursor} {seen : List Bool} → Stands sizes c s here seen
+pub kept-to-end : {sizes : Ranks} {c : FieldCursor} {s : List ℕ} {here : FieldCursor} {seen : List Bool} → KeptTo sizes c s here seen
     → fieldStep here s ≡ ok end → done (keepFields sizes c s) ≡ ok tt
-stands-end {sizes} {c} {s} {here} st e =
+kept-to-end {sizes} {c} {s} {here} st e =
     let x : stepAt c s (here .at) ≡ ok end = rw (← st .numeric, ← st .columns) (field-ended here s e) in
     sym (st .rest) ∙ rw (keep-turn sizes c s (st .before) (here .at), x)
 
-pub stands-broken : {sizes : Ranks} {c : FieldCursor} {s : List ℕ} {here : FieldCursor} {seen : List Bool} → Stands sizes c s here seen
+pub kept-to-broken : {sizes : Ranks} {c : FieldCursor} {s : List ℕ} {here : FieldCursor} {seen : List Bool} → KeptTo sizes c s here seen
     → (w : Refusal) → fieldStep here s ≡ refused w → done (keepFields sizes c s) ≡ refused w
-stands-broken {sizes} {c} {s} {here} st w e =
+kept-to-broken {sizes} {c} {s} {here} st w e =
     let x : stepAt c s (here .at) ≡ refused w = rw (← st .numeric, ← st .columns) (field-broken here s w e) in
     sym (st .rest) ∙ rw (keep-turn sizes c s (st .before) (here .at), x)

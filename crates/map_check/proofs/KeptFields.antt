@@ -3,7 +3,7 @@
 use Prim.Native.Nat.{ℕ, zero, suc, _-_, _≤_, _<_}
 use mathlib.Core.Path.{_≡_, refl, sym, subst, _∙_}
 use mathlib.Core.Logic.{dite}
-use mathlib.Core.Bool.{Bool, true, false, _&&_, _||_, not}
+use mathlib.Core.Bool.{Bool, true, false, _&&_, not, or-true, true≢false}
 use mathlib.Core.List.{List, [], _∷_, map}
 use native.Mathlib.Decide.{decLe}
 use native.Mathlib.Omega.{arith}
@@ -118,13 +118,13 @@ fits sizes n s before f e =
 same-value : {p q : Part} → Value p ≡ Value q → p ≡ q
 same-value e = cc
 
-nothing-no-value : {p : Part} → Nothing ≡ Value p → ⊥
-nothing-no-value e = let z : _≡_ {A = ℕ} 0 1 = cc in omega arith
+pub nothing-not-value : {p : Part} → Nothing ≡ Value p → ⊥
+nothing-not-value e = let z : _≡_ {A = ℕ} 0 1 = cc in omega arith
 
 first-full : (sizes : Ranks) (n : ℕ) (s before : List ℕ) (fs : List (ℕ × Part)) → Kept sizes n s before fs → (kind : ℕ) (p : Part)
     → firstOf kind fs ≡ Value p → contentsFull sizes n kind (lentPart s p) ≡ true
 unfolding firstOf
-first-full sizes n s before [] (none b) kind p e = absurd (nothing-no-value e)
+first-full sizes n s before [] (none b) kind p e = absurd (nothing-not-value e)
 first-full sizes n s before (f ∷ fs) (more b g gs known k rest) kind p e =
     by-test (eqb (f .0) kind) _ _ _ e
     (λ t u.
@@ -142,11 +142,7 @@ abbrev pub kindAt : List (ℕ × Part) → ℕ → ℕ
 kindAt fs i = getD (map (λ (f : ℕ × Part). f .0) fs) i 0
 
 true-not-false : {t : Bool} → t ≡ true → t ≡ false → ⊥
-true-not-false e f = let z : _≡_ {A = ℕ} 0 1 = cc in omega arith
-
-or-true : (t : Bool) → (t || true) ≡ true
-or-true true = refl
-or-true false = refl
+true-not-false e f = true≢false (sym e ∙ f)
 
 stood-here : (k : ℕ) (before : List ℕ) → stood k (k ∷ before) ≡ true
 unfolding stood
@@ -216,7 +212,7 @@ kept-apart sizes c s fs e i j h l q =
 -- so where a field is found, its rival is not
 first-at : (kind : ℕ) (p : Part) (fs : List (ℕ × Part)) → firstOf kind fs ≡ Value p → (i : ℕ) × (i < length fs) × (kindAt fs i ≡ kind)
 unfolding firstOf
-first-at kind p [] e = absurd (nothing-no-value e)
+first-at kind p [] e = absurd (nothing-not-value e)
 first-at kind p (f ∷ fs) e =
     by-test (eqb (f .0) kind) _ _ _ e (λ t u. (0, omega arith, eqb-true (f .0) kind t))
     (λ t u.

@@ -1,4 +1,4 @@
--- Keys, with a prefix length or without: none is read past the bytes, and each takes a byte at least and ends within them. Assumes nothing.
+-- Keys, with a prefix length or without: each takes a byte at least and ends within the bytes. Assumes nothing.
 use Prim.Native.Nat.{ℕ}
 use mathlib.Core.Path.{_≡_, ap, _∙_}
 use mathlib.Core.Bool.{Bool, true, false}
@@ -7,13 +7,8 @@ use Rattle.wire.specs.Outcome.{ok, after}
 use Rattle.wire.specs.Packed.{readPacked}
 use Rattle.wire.proofs.Outcomes.{after-is-ok, same-ok}
 use Rattle.wire.proofs.Forms.{read-moves}
-use Rattle.table_map.proofs.Steps.{Early}
-use Rattle.table_map.proofs.Items.{Moves, integer-early}
+use Rattle.table_map.proofs.Items.{Moves}
 use Rattle.map_check.specs.Contents.{keyItem}
-
-pub key-early : (paired : Bool) → Early (keyItem paired)
-unfolding keyItem
-key-early paired = record { early = λ s at h. rw (integer-early .early s at h) }
 
 pub key-moves : (paired : Bool) → Moves (keyItem paired)
 unfolding keyItem

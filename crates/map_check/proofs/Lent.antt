@@ -1,4 +1,4 @@
--- The bytes of a part of those lent. Assumes nothing.
+-- Where the bytes of a part of the lent bytes end. Assumes nothing.
 use Prim.Native.Nat.{ℕ, _+_, _≤_}
 use mathlib.Core.Path.{_≡_, refl}
 use mathlib.Core.Bool.{Bool, true, false, cond}

@@ -1,10 +1,10 @@
 -- The making of a record: a turn gives the next column's entry, and entries are written one behind the other. Assumes nothing.
-use Prim.Native.Nat.{ℕ, suc, _+_, _-_, _*_, _≤_, _<_}
+use Prim.Native.Nat.{ℕ, suc, _+_, _*_, _≤_, _<_}
 use mathlib.Core.Path.{_≡_, refl, sym, ap, _∙_}
 use mathlib.Core.Bool.{Bool, true, false, cond, _||_}
 use mathlib.Core.List.{List, [], _∷_}
 use native.Mathlib.Omega.{arith}
-use lib.ListN.{length, getD, drop, length-drop, drop-of-length-le}
+use lib.ListN.{length, getD, drop, drop-of-length-le}
 use lib.Seq.{drop-cons, drop-drop}
 use Rattle.wire.specs.Number.{leBytes}
 use Rattle.wire.specs.Stored.{stored, store, leftOf}
@@ -27,10 +27,10 @@ use Rattle.map_check.specs.declared.entries.Standing.{Standing}
 use Rattle.map_check.specs.declared.entries.EntryTurn.{EntryTurn}
 use Rattle.map_check.specs.Columns.{metaBytes, declared, declareAll}
 use Rattle.map_check.specs.Ranks.{place, noRanks, ranksAfter}
-use Rattle.map_check.specs.Profile.{charsetBy, charsetOf, entryFor, entriesFrom}
-use Rattle.map_check.specs.Standing.{TakenIf, entryWith, Ready, Starts, toCome, Came}
+use Rattle.map_check.specs.Profile.{charsetBy, charsetOf, entryWith, entryFor, entriesFrom}
+use Rattle.map_check.specs.Standing.{TakenIf, Ready, Starts, toCome, Came}
 use Rattle.map_check.proofs.Declares.{declared-length}
-use Rattle.map_check.proofs.Counts.{below-after}
+use Rattle.map_check.proofs.Counts.{at-most-after}
 
 -- ---- lengths
 pub few-metadata : (f : Family) → metadataBytes f ≤ 2
@@ -61,12 +61,6 @@ pub entries-length : (d : Dialect) (s : List ℕ) (x : Facts) (cs : List Declare
 unfolding entriesFrom
 entries-length d s x [] j k = refl
 entries-length d s x (c ∷ cs) j k = ap suc (entries-length d s x cs (place (suc (j .0))) (ranksAfter d k c))
-
-to-come-length : (d : Dialect) (s : List ℕ) (x : Facts) (types meta : List ℕ) (k : Standing) → length (toCome d s x types meta k) ≡ length types - k .place .0
-to-come-length d s x types meta k =
-    entries-length d s x (declareAll (drop (k .place .0) types) (drop (k .metadata) meta)) (k .place) (k .ranks)
-    ∙ declared-length (drop (k .place .0) types) (drop (k .metadata) meta)
-    ∙ length-drop (k .place .0) types
 
 entry-length : (e : Entry) → length (entryBytes e) ≡ 6
 unfolding entryBytes leBytes
@@ -131,7 +125,7 @@ unfolding ranksAfter
 ready-behind d s x types meta k c a b t f r =
     let j = k .place .0 in
     record {
-      ranks = rw (f .place, f .ranks) (below-after d c (r .ranks));
+      ranks = rw (f .place, f .ranks) (at-most-after d c (r .ranks));
       metadata = rw (f .place, f .metadata) (omega (arith, r .metadata, few-metadata (familyOf (getD types j 0))));
       characters = rw (f .ranks, f .characters) (f .character .next);
       choices = rw (f .ranks, f .choices) (f .choice .next);

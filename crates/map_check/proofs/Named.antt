@@ -13,7 +13,7 @@ use Rattle.table_map.specs.Events.{readNames, readColumns, readEvent}
 use Rattle.table_map.specs.Lists.{step, walkSteps}
 use Rattle.table_map.specs.Fields.{signBits, countSigned, contentsHold, fieldItem}
 use Rattle.map_check.specs.Ranks.{place, noRanks}
-use Rattle.map_check.specs.Contents.{all, listHolds, exactly, keyItem, contentsFull}
+use Rattle.map_check.specs.Contents.{every, listHolds, exactly, keyItem, contentsFull}
 use Rattle.map_check.specs.Fields.{stood, rivalOf, isKept, keepSteps, keepFields, firstOf}
 use Rattle.map_check.specs.Names.{listOf, stringAt, columnName, nameIn, namesOf}
 
@@ -83,13 +83,13 @@ abbrev first : FieldCursor
 first = record { at = 0; numeric = 0; columns = 0 }
 
 side-by-side : keepFields noRanks first (8 ∷ 0 ∷ 12 ∷ 0 ∷ []) ≡ ok ((8, part 2 0) ∷ (12, part 4 0) ∷ [])
-unfolding keepSteps step fieldItem contentsHold longPart within readPacked formOf isKept stood rivalOf contentsFull exactly listHolds all walkSteps keyItem
+unfolding keepSteps step fieldItem contentsHold longPart within readPacked formOf isKept stood rivalOf contentsFull exactly listHolds every walkSteps keyItem
 side-by-side = refl
 
 twice : keepFields noRanks first (12 ∷ 0 ∷ 8 ∷ 0 ∷ 12 ∷ 0 ∷ []) ≡ refuse 7 4
-unfolding keepSteps step fieldItem contentsHold longPart within readPacked formOf isKept stood rivalOf contentsFull exactly listHolds all walkSteps keyItem
+unfolding keepSteps step fieldItem contentsHold longPart within readPacked formOf isKept stood rivalOf contentsFull exactly listHolds every walkSteps keyItem
 twice = refl
 
 rival : keepFields noRanks first (9 ∷ 0 ∷ 8 ∷ 0 ∷ []) ≡ refuse 7 2
-unfolding keepSteps step fieldItem contentsHold longPart within readPacked formOf isKept stood rivalOf contentsFull exactly listHolds all walkSteps keyItem
+unfolding keepSteps step fieldItem contentsHold longPart within readPacked formOf isKept stood rivalOf contentsFull exactly listHolds every walkSteps keyItem
 rival = refl

@@ -1,19 +1,15 @@
--- What may be said of the entries of a map: each has a charset of two bytes and flags below 16, as a record may have them. Entries are named by their index; z
--- is what there would be past the last. Assumes nothing.
-use Prim.Native.Nat.{ℕ, zero, suc, _+_, _*_, _/_, _%_, _≤_, _<_, _^_}
+-- What may be said of a column's entry: it has a charset of two bytes, and charset and flags stand where a record may have them. Assumes nothing.
+use Prim.Native.Nat.{ℕ, _+_, _*_, _/_, _%_, _≤_, _<_, _^_}
 use mathlib.Core.Path.{_≡_, refl}
 use mathlib.Core.Bool.{Bool, true, false, cond, _&&_, _||_}
-use mathlib.Core.List.{List, [], _∷_}
+use mathlib.Core.List.{List}
 use native.Mathlib.Omega.{arith}
-use lib.ListN.{length, getD}
 use lib.Dec.{leb, ltb, eqb}
 use Rattle.wire.specs.Bits.{bitLsb0, bitMsb0}
-use Rattle.value.specs.declared.column.Dialect.{Dialect}
 use Rattle.value.specs.Columns.{familyOf, isNumeric, isCharacter, isEnumOrSet}
 use Rattle.table_map.specs.Parts.{lentPart}
 use Rattle.table_map.specs.declared.event.Part.{Part}
 use Rattle.table_map.specs.Lists.{integerItem}
-use Rattle.record.specs.declared.entry.Entry.{Entry}
 use Rattle.record.specs.Entries.{flagsHold, charsetHolds}
 use Rattle.map_check.specs.declared.column.Declared.{Declared}
 use Rattle.map_check.specs.declared.contents.Meaning.the-variants.{Charset}
@@ -24,16 +20,15 @@ use Rattle.map_check.specs.declared.field.Found.{Found}
 use Rattle.map_check.specs.declared.field.Found.the-variants.{Value, Nothing}
 use Rattle.map_check.specs.declared.facts.Facts.{Facts}
 use Rattle.map_check.specs.declared.facts.Charsets.{Charsets}
-use Rattle.map_check.specs.Ranks.{place, ranksAfter}
 use Rattle.map_check.specs.Contents.{exactly, integerHolds, defaultHolds}
 use Rattle.map_check.specs.Fields.{valueIn}
-use Rattle.map_check.specs.Profile.{stands, fromList, charsetBy, charsetOf, one, isSignKnown, isUnsigned, isVisible, flagsOf, entryFor, entriesFrom}
+use Rattle.map_check.specs.Profile.{stands, fromList, charsetBy, charsetOf, oneIf, isVisible, flagsOf, entryFor}
 use Rattle.map_check.specs.Standing.{ClassHolds}
-use Rattle.map_check.proofs.Bounds.{charset-list, charset-default}
+use Rattle.map_check.proofs.Bounds.{either-at-most, charset-list, charset-default}
 
 -- ---- charsets
 class-narrow : (s : List ℕ) (r : ℕ) (default list : Found) (size : ℕ)
-    → ((p : Part) → list ≡ Value p → exactly integerItem (integerHolds Charset) size 0 (lentPart s p) 0 ≡ true)
+    → ((p : Part) → list ≡ Value p → exactly integerItem (integerHolds Charset) size (lentPart s p) ≡ true)
     → ((p : Part) → default ≡ Value p → defaultHolds size (lentPart s p) ≡ true)
     → fromList s r default list ≤ 65535
 class-narrow s r default (Value p) size h g = charset-list size (lentPart s p) (h p refl) r
@@ -47,17 +42,13 @@ pub charset-narrow : (s : List ℕ) (class : Charsets) (r : Rank) → ClassHolds
 unfolding charsetBy
 charset-narrow s class r h = omega (arith, class-narrow s (r .0) (class .default) (class .list) (h .size) (h .list) (h .default))
 
-either : (b : Bool) {u w : ℕ} → u ≤ 65535 → w ≤ 65535 → cond b u w ≤ 65535
-either true h l = h
-either false h l = l
-
 pub column-narrow : (s : List ℕ) (x : Facts) (c : Declared) (k : Ranks) → ClassHolds s (x .characters) → ClassHolds s (x .choices) → charsetOf s x c k < 2 ^ 16
 unfolding charsetOf
 column-narrow s x c k h g =
     let a : charsetBy s (x .characters) (k .character) ≤ 65535 = omega (arith, charset-narrow s (x .characters) (k .character) h) in
     let b : charsetBy s (x .choices) (k .choice) ≤ 65535 = omega (arith, charset-narrow s (x .choices) (k .choice) g) in
     let z : 0 ≤ 65535 = omega arith in
-    omega (arith, either (isCharacter (c .real)) a (either (isEnumOrSet (c .real)) b z))
+    omega (arith, either-at-most 65535 (isCharacter (c .real)) _ _ a (either-at-most 65535 (isEnumOrSet (c .real)) _ 0 b z))
 
 -- and 0 on other than character, ENUM and SET columns
 none-elsewhere : (character choice : Bool) (u w : ℕ) → (character || (choice || eqb (cond character u (cond choice w 0)) 0)) ≡ true
@@ -72,24 +63,9 @@ charset-holds s x c j k = none-elsewhere (isCharacter (c .real)) (isEnumOrSet (c
 -- ---- flags
 -- the sum of the four, by whether the column is numeric, the field of signs stands, and the three bits
 abbrev flagsBy : Bool → Bool → Bool → Bool → Bool → ℕ
-flagsBy numeric known unsigned nullable visible = one ((numeric && known) && unsigned) + 2 * one nullable + 4 * one (numeric && known) + 8 * one visible
+flagsBy numeric known unsigned nullable visible = oneIf ((numeric && known) && unsigned) + 2 * oneIf nullable + 4 * oneIf (numeric && known) + 8 * oneIf visible
 
-one-narrow : (b : Bool) → one b ≤ 1
-one-narrow true = omega arith
-one-narrow false = omega arith
-
-pub flags-narrow : (s : List ℕ) (x : Facts) (c : Declared) (j : Place) (k : Ranks) → flagsOf s x c j k < 16
-unfolding flagsOf
-flags-narrow s x c j k =
-    omega (
-      arith,
-      one-narrow (isUnsigned s x c (k .sign)),
-      one-narrow (bitLsb0 (lentPart s (x .bits)) (j .0)),
-      one-narrow (isSignKnown x c),
-      one-narrow (isVisible s x j),
-    )
-
--- flag 1 only with 4, and both on numeric columns alone
+-- it is below 16, with flag 1 only beside 4, and both on numeric columns alone
 by-four : (numeric known unsigned nullable visible : Bool) → (ltb (flagsBy numeric known unsigned nullable visible) 16
     && cond numeric (leb (flagsBy numeric known unsigned nullable visible % 2) (flagsBy numeric known unsigned nullable visible / 4 % 2))
     (eqb (flagsBy numeric known unsigned nullable visible % 2) 0 && eqb (flagsBy numeric known unsigned nullable visible / 4 % 2) 0)) ≡ true
@@ -115,19 +91,3 @@ pub flags-hold : (s : List ℕ) (x : Facts) (c : Declared) (j : Place) (k : Rank
 unfolding flagsHold flagsOf
 flags-hold s x c j k e =
     rw (← e) (by-four (isNumeric (familyOf (c .kind))) (stands (x .signs)) (bitMsb0 (valueIn s (x .signs)) (k .sign .0)) (bitLsb0 (lentPart s (x .bits)) (j .0)) (isVisible s x j))
-
--- ---- every entry is that of its column
-pub each-entry : (d : Dialect) (s : List ℕ) (x : Facts) (P : Entry → Type 0) (c₀ : Declared) (z : Entry) (cs : List Declared) (j : Place) (k : Ranks)
-    → ((i : ℕ) → i < length cs → (j : Place) (k : Ranks) → P (entryFor s x (getD cs i c₀) j k))
-    → (i : ℕ) → i < length cs → P (getD (entriesFrom d s x cs j k) i z)
-unfolding entriesFrom
-each-entry d s x P c₀ z [] j k h i l = absurd (omega arith)
-each-entry d s x P c₀ z (c ∷ cs) j k h zero l = h 0 (omega arith) j k
-each-entry d s x P c₀ z (c ∷ cs) j k h (suc i) l = each-entry d s x P c₀ z cs (place (suc (j .0))) (ranksAfter d k c) (λ n m. h (suc n) (omega arith)) i (omega arith)
-
--- so each fits its bytes
-pub entries-narrow : (d : Dialect) (s : List ℕ) (x : Facts) (cs : List Declared) (j : Place) (k : Ranks) (z : Entry) → ClassHolds s (x .characters) → ClassHolds s (x .choices)
-    → (i : ℕ) → i < length cs → (getD (entriesFrom d s x cs j k) i z .charset < 2 ^ 16) × (getD (entriesFrom d s x cs j k) i z .flags < 16)
-entries-narrow d s x cs j k z h g =
-    each-entry d s x (λ e. (e .charset < 2 ^ 16) × (e .flags < 16)) (record { kind = 0; real = 0; m0 = 0; m1 = 0 }) z cs j k
-    (λ i l j k. (column-narrow s x _ k h g, flags-narrow s x _ j k))

@@ -2,7 +2,7 @@
 -- that repeats one. Assumes nothing.
 use Prim.Native.Nat.{ℕ, zero, suc, _+_, _<_}
 use mathlib.Core.Path.{_≡_, refl, sym, ap, _∙_}
-use mathlib.Core.Bool.{Bool, true, false, _||_}
+use mathlib.Core.Bool.{Bool, true, false, _||_, true≢false, false≢true}
 use mathlib.Core.Logic.{dite, _⊎_, inl, inr, ⊎-elim}
 use mathlib.Core.List.{List, [], _∷_, _++_}
 use native.Mathlib.Decide.{decLe}
@@ -33,30 +33,30 @@ abbrev pub keyAt : List (ℕ × ℕ) → ℕ → ℕ
 keyAt items j = getD items j (0, 0) .1
 
 -- ---- one more before
-or-false : (a b : Bool) → (a || b) ≡ false → (a ≡ false) × (b ≡ false)
-or-false true b e = let z : _≡_ {A = ℕ} 0 1 = cc in absurd (omega arith)
-or-false false b e = (refl, e)
+neither : (a b : Bool) → (a || b) ≡ false → (a ≡ false) × (b ≡ false)
+neither true b e = absurd (true≢false e)
+neither false b e = (refl, e)
 
-or-true : (a b : Bool) → (a || b) ≡ true → (a ≡ true) ⊎ (b ≡ true)
-or-true true b e = inl refl
-or-true false b e = inr e
+one-or-other : (a b : Bool) → (a || b) ≡ true → (a ≡ true) ⊎ (b ≡ true)
+one-or-other true b e = inl refl
+one-or-other false b e = inr e
 
 -- what stood, or not, where one more is put behind
 more-false : (key : ℕ) (before : List ℕ) (k : ℕ) → stood key (before ++ (k ∷ [])) ≡ false → (stood key before ≡ false) × (k ≡ key → ⊥)
 unfolding stood
-more-false key [] k e = (refl, eqb-false k key (or-false (eqb k key) false e .0))
+more-false key [] k e = (refl, eqb-false k key (neither (eqb k key) false e .0))
 more-false key (b ∷ before) k e =
-    let x = or-false (eqb b key) (stood key (before ++ (k ∷ []))) e in
+    let x = neither (eqb b key) (stood key (before ++ (k ∷ []))) e in
     let y = more-false key before k (x .1) in
     (rw (x .0) (y .0), y .1)
 
 more-true : (key : ℕ) (before : List ℕ) (k : ℕ) → stood key (before ++ (k ∷ [])) ≡ true → (stood key before ≡ true) ⊎ (k ≡ key)
 unfolding stood
-more-true key [] k e = ⊎-elim (λ t. inr (eqb-true k key t)) (λ t. inl t) (or-true (eqb k key) false e)
+more-true key [] k e = ⊎-elim (λ t. inr (eqb-true k key t)) (λ t. inl t) (one-or-other (eqb k key) false e)
 more-true key (b ∷ before) k e =
     ⊎-elim (λ t. inl (ap (λ (x : Bool). x || stood key before) t))
     (λ t. ⊎-elim (λ r. inl (or-right (eqb b key) r)) (λ r. inr r) (more-true key before k t))
-    (or-true (eqb b key) (stood key (before ++ (k ∷ []))) e)
+    (one-or-other (eqb b key) (stood key (before ++ (k ∷ []))) e)
   where
     or-right : (a : Bool) {b : Bool} → b ≡ true → (a || b) ≡ true
     or-right true e = refl
@@ -135,8 +135,8 @@ pub record Repeat (items : List (ℕ × ℕ)) (j : ℕ) : Type 0 where
   pub first : Apart items j
 
 -- nothing is told only where all are apart
-pub kept-apart : (start : ℕ) (items : List (ℕ × ℕ)) → keysOnce start [] items ≡ ok tt → Apart items (length items)
-kept-apart start items e = record { apart = clear-all start [] items e .apart }
+pub once-apart : (start : ℕ) (items : List (ℕ × ℕ)) → keysOnce start [] items ≡ ok tt → Apart items (length items)
+once-apart start items e = record { apart = clear-all start [] items e .apart }
 
 -- a refusal tells the earliest item that repeats one
 pub refused-repeat : (start : ℕ) (items : List (ℕ × ℕ)) (w : Refusal) → keysOnce start [] items ≡ refused w
@@ -144,7 +144,7 @@ pub refused-repeat : (start : ℕ) (items : List (ℕ × ℕ)) (w : Refusal) →
 unfolding stood
 refused-repeat start items w e =
     let x = stops start [] items w e in
-    ⊎-elim (λ t. let z : _≡_ {A = ℕ} 0 1 = cc in absurd (omega arith))
+    ⊎-elim (λ t. absurd (false≢true t))
     (λ r. (
       x .j,
       record { earlier = r .0; before = r .1; there = x .there; same = r .2; first = record { apart = x .clear .apart } },
@@ -153,8 +153,8 @@ refused-repeat start items w e =
     (x .repeats)
 
 -- and the other way, both
-pub apart-kept : (start : ℕ) (items : List (ℕ × ℕ)) → Apart items (length items) → keysOnce start [] items ≡ ok tt
-apart-kept start items a = go (keysOnce start [] items) refl
+pub apart-once : (start : ℕ) (items : List (ℕ × ℕ)) → Apart items (length items) → keysOnce start [] items ≡ ok tt
+apart-once start items a = go (keysOnce start [] items) refl
   where
     go : (o : Outcome (Unit {0})) → keysOnce start [] items ≡ o → o ≡ ok tt
     go (ok tt) e = refl
@@ -169,7 +169,7 @@ repeat-refused start items j r = go (keysOnce start [] items) refl
     only j k a b h = b .first .apart (a .earlier) j (a .before) h (a .same)
 
     go : (o : Outcome (Unit {0})) → keysOnce start [] items ≡ o → o ≡ refuse 7 (start + placeAt items j)
-    go (ok tt) e = absurd (kept-apart start items e .apart (r .earlier) j (r .before) (r .there) (r .same))
+    go (ok tt) e = absurd (once-apart start items e .apart (r .earlier) j (r .before) (r .there) (r .same))
     go (refused w) e =
         let x = refused-repeat start items w e in
         let q : x .0 ≡ j =

@@ -1,4 +1,4 @@
--- Document 01's worked event, and small maps that break one rule each, computed on the definitions. Assumes nothing.
+-- Document 01's worked event and its record, computed on the definitions. Assumes nothing.
 use Prim.Native.Nat.{ℕ}
 use mathlib.Core.Path.{_≡_, refl}
 use mathlib.Core.List.{List, [], _∷_}
@@ -16,13 +16,13 @@ use Rattle.record.specs.Entries.{entryBytes}
 use Rattle.record.specs.Records.{headBytes, entriesBytes, recordBytes}
 use Rattle.map_check.specs.Columns.{metaByte, declared, isReal, isAccepted, takeColumn, takeColumns}
 use Rattle.map_check.specs.Ranks.{ranksAfter, ranksFrom}
-use Rattle.map_check.specs.Contents.{all, listHolds, exactly, isCharset, integerHolds, pairsHold, pairsWhole, defaultHolds, keyItem, contentsFull}
+use Rattle.map_check.specs.Contents.{every, listHolds, exactly, isCharset, integerHolds, pairsHold, pairsWhole, defaultHolds, keyItem, contentsFull}
 use Rattle.map_check.specs.Fields.{stood, rivalOf, isKept, keepSteps, firstOf}
 use Rattle.map_check.specs.Keys.{placed, keysOnce, keysHold}
 use Rattle.map_check.specs.Profile.{pairOr, charsetBy, charsetOf, flagsOf, entriesFrom}
 use Rattle.map_check.specs.Check.{fewEnough, checkEvent, checkMap}
 
--- the event: INT unsigned NULL.., VARCHAR(20), TINYINT
+-- three columns: INT, VARCHAR(20) that may be NULL, TINYINT UNSIGNED
 abbrev event : List ℕ
 event =
     0x2a ∷ 0 ∷ 0 ∷ 0 ∷ 0 ∷ 0 ∷ 1 ∷ 0 ∷ 1 ∷ 0x74 ∷ 0 ∷ 1 ∷ 0x72 ∷ 0 ∷ 3 ∷ 3 ∷ 0x0f ∷ 1 ∷ 2 ∷ 0x14 ∷ 0 ∷ 2 ∷ 1 ∷ 1 ∷ 0x40 ∷ []
@@ -30,5 +30,5 @@ event =
 worked :
     after (checkMap Document event 8) (λ es. ok (recordBytes es))
     ≡ ok (0x18 ∷ 0 ∷ 1 ∷ 0 ∷ 3 ∷ 0 ∷ 3 ∷ 0x0c ∷ 0 ∷ 0 ∷ 0 ∷ 0 ∷ 0x0f ∷ 0x0a ∷ 0x14 ∷ 0 ∷ 0 ∷ 0 ∷ 1 ∷ 0x0d ∷ 0 ∷ 0 ∷ 0 ∷ 0 ∷ [])
-unfolding leValue leBytes readPacked formOf longForm digit bitLsb0 bitMsb0 familyOf isKnown metadataBytes realType leftoverBytes decimalBytes shapeIn shapeOf isTaken isNumeric hasSignBit isCharacter hasCharset isEnumOrSet within shortPart longPart readNames readColumns readEvent step walkSteps pairItem strings groupItem signBits countSigned contentsHold fieldItem fieldStep entryBytes headBytes entriesBytes recordBytes metaByte declared isReal isAccepted takeColumn takeColumns ranksAfter ranksFrom all listHolds exactly isCharset integerHolds pairsHold pairsWhole defaultHolds keyItem contentsFull stood rivalOf isKept keepSteps firstOf placed keysOnce keysHold pairOr charsetBy charsetOf flagsOf entriesFrom fewEnough checkEvent checkMap
+unfolding leValue leBytes readPacked formOf longForm digit bitLsb0 bitMsb0 familyOf isKnown metadataBytes realType leftoverBytes decimalBytes shapeIn shapeOf isTaken isNumeric hasSignBit isCharacter hasCharset isEnumOrSet within shortPart longPart readNames readColumns readEvent step walkSteps pairItem strings groupItem signBits countSigned contentsHold fieldItem fieldStep entryBytes headBytes entriesBytes recordBytes metaByte declared isReal isAccepted takeColumn takeColumns ranksAfter ranksFrom every listHolds exactly isCharset integerHolds pairsHold pairsWhole defaultHolds keyItem contentsFull stood rivalOf isKept keepSteps firstOf placed keysOnce keysHold pairOr charsetBy charsetOf flagsOf entriesFrom fewEnough checkEvent checkMap
 worked = refl

@@ -37,7 +37,7 @@ isReal kind real = cond (eqb kind 254) (eqb real 247 || (eqb real 248 || eqb rea
 abbrev pub realColumn : Declared → Bool → Column
 realColumn c unsigned = record { kind = c .real; m0 = c .m0; m1 = c .m1; unsigned = unsigned }
 
--- and the one table accepts the metadata
+-- whether a column is accepted: its real type is one that it may have, and the one table takes its metadata
 unfoldable pub isAccepted : Declared → Bool
 unfolding isReal shapeOf isTaken
 isAccepted c = isReal (c .kind) (c .real) && isTaken (shapeOf (realColumn c false))

@@ -1,7 +1,7 @@
 -- The contents of optional fields, in full: "3, 11: one charset per column of the class. 2, 10: ranks rise and lie below the class's size. Charsets
 -- 1..65,535. 4: n names. 5, 6, 7, 13: one item per SET, ENUM, real type 255, 242 column; geometry types 0..7. Keys below n." Every list ends exactly at the
 -- value's end. Assumes nothing.
-use Prim.Native.Nat.{ℕ, suc, _+_}
+use Prim.Native.Nat.{ℕ, suc}
 use mathlib.Core.Bool.{Bool, true, false, cond, _&&_}
 use mathlib.Core.List.{List, [], _∷_}
 use lib.ListN.{length}
@@ -13,26 +13,29 @@ use Rattle.map_check.specs.declared.rank.Ranks.{Ranks}
 use Rattle.map_check.specs.declared.contents.Meaning.{Meaning}
 use Rattle.map_check.specs.declared.contents.Meaning.the-variants.{Charset, GeometryType, Dimension}
 
+-- whether a walk came to the end of the value
 abbrev pub isWhole : Ended → Bool
 isWhole whole = true
 isWhole (broken r) = false
 
-unfoldable pub all : {A : Type 0} → (A → Bool) → List A → Bool
-all p [] = true
-all p (a ∷ l) = p a && all p l
+-- whether every item passes a test
+unfoldable pub every : {A : Type 0} → (A → Bool) → List A → Bool
+every p [] = true
+every p (a ∷ l) = p a && every p l
 
-abbrev pub any : {A : Type 0} → A → Bool
-any a = true
+-- the test that every item passes, whatever it is
+abbrev pub whatever : {A : Type 0} → A → Bool
+whatever a = true
 
 -- the items from a place on are all there, up to the end of the value, and each holds
 unfoldable pub listHolds : {A : Type 0} → Rule A → (A → Bool) → List ℕ → ℕ → Bool
-unfolding walkSteps all
-listHolds rule p value at = isWhole (walk rule value at .how) && all p (walk rule value at .items)
+unfolding walkSteps every
+listHolds rule p value at = isWhole (walk rule value at .how) && every p (walk rule value at .items)
 
--- and there are as many as make n together with `before`
-unfoldable pub exactly : {A : Type 0} → Rule A → (A → Bool) → ℕ → ℕ → List ℕ → ℕ → Bool
+-- the value is n such items
+unfoldable pub exactly : {A : Type 0} → Rule A → (A → Bool) → ℕ → List ℕ → Bool
 unfolding walkSteps listHolds
-exactly rule p n before value at = listHolds rule p value at && eqb (before + length (walk rule value at .items)) n
+exactly rule p n value = listHolds rule p value 0 && eqb (length (walk rule value 0 .items)) n
 
 -- ---- the integers of a list, by what they mean
 unfoldable pub isCharset : ℕ → Bool
@@ -54,13 +57,14 @@ unfoldable pub pairsWhole : ℕ → ℕ → List ℕ → ℕ → Bool
 unfolding walkSteps pairsHold
 pairsWhole size low value at = isWhole (walk pairItem value at .how) && pairsHold size low (walk pairItem value at .items)
 
-abbrev pub fromDefault : ℕ → List ℕ → Outcome (ℕ × ℕ) → Bool
-fromDefault size value (ok c) = isCharset (c .0) && pairsWhole size 0 value (c .1)
-fromDefault size value (refused r) = false
+-- the default that was read at the start, and the pairs behind it
+abbrev pub readHolds : ℕ → List ℕ → Outcome (ℕ × ℕ) → Bool
+readHolds size value (ok c) = isCharset (c .0) && pairsWhole size 0 value (c .1)
+readHolds size value (refused r) = false
 
 unfoldable pub defaultHolds : ℕ → List ℕ → Bool
 unfolding readPacked isCharset pairsWhole
-defaultHolds size value = fromDefault size value (readPacked value 0)
+defaultHolds size value = readHolds size value (readPacked value 0)
 
 -- ---- keys: the column's index, before its prefix length in field 9
 unfoldable pub keyItem : Bool → Rule ℕ
@@ -73,14 +77,14 @@ unfoldable pub contentsFull : Ranks → ℕ → ℕ → List ℕ → Bool
 unfolding exactly listHolds defaultHolds keyItem integerHolds
 contentsFull sizes n kind value =
     cond (eqb kind 2) (defaultHolds (sizes .character .0) value)
-    (cond (eqb kind 3) (exactly integerItem (integerHolds Charset) (sizes .character .0) 0 value 0)
-    (cond (eqb kind 4) (exactly stringItem any n 0 value 0)
-    (cond (eqb kind 5) (exactly groupItem any (sizes .set .0) 0 value 0)
-    (cond (eqb kind 6) (exactly groupItem any (sizes .enumeration .0) 0 value 0)
-    (cond (eqb kind 7) (exactly integerItem (integerHolds GeometryType) (sizes .geometry .0) 0 value 0)
+    (cond (eqb kind 3) (exactly integerItem (integerHolds Charset) (sizes .character .0) value)
+    (cond (eqb kind 4) (exactly stringItem whatever n value)
+    (cond (eqb kind 5) (exactly groupItem whatever (sizes .set .0) value)
+    (cond (eqb kind 6) (exactly groupItem whatever (sizes .enumeration .0) value)
+    (cond (eqb kind 7) (exactly integerItem (integerHolds GeometryType) (sizes .geometry .0) value)
     (cond (eqb kind 8) (listHolds (keyItem false) (λ k. ltb k n) value 0)
     (cond (eqb kind 9) (listHolds (keyItem true) (λ k. ltb k n) value 0)
     (cond (eqb kind 10) (defaultHolds (sizes .choice .0) value)
-    (cond (eqb kind 11) (exactly integerItem (integerHolds Charset) (sizes .choice .0) 0 value 0)
-    (cond (eqb kind 13) (exactly integerItem (integerHolds Dimension) (sizes .vector .0) 0 value 0)
+    (cond (eqb kind 11) (exactly integerItem (integerHolds Charset) (sizes .choice .0) value)
+    (cond (eqb kind 13) (exactly integerItem (integerHolds Dimension) (sizes .vector .0) value)
     true))))))))))

@@ -18,7 +18,7 @@ use Rattle.map_check.specs.declared.field.Judged.{Judged}
 use Rattle.map_check.specs.declared.field.Judged.the-variants.{Kept, Refused}
 use Rattle.map_check.specs.Contents.{contentsFull}
 
--- the types that stood before
+-- whether a type stood before; `Keys` asks the same of a key
 unfoldable pub stood : ℕ → List ℕ → Bool
 stood kind [] = false
 stood kind (k ∷ ks) = eqb k kind || stood kind ks

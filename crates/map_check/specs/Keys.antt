@@ -30,7 +30,7 @@ abbrev pub onceIn : Bool → List ℕ → Found → Outcome (Unit {0})
 onceIn paired s (Value p) = keysOnce (p .start) [] (keysFrom paired (lentPart s p) 0)
 onceIn paired s Nothing = ok tt
 
--- "not both 8 and 9"
+-- no key stands twice: in field 8, then in field 9, of which at most one stands
 unfoldable pub keysHold : List ℕ → List (ℕ × Part) → Outcome (Unit {0})
 unfolding walkSteps placed keyItem keysOnce firstOf
 keysHold s fs = after (onceIn false s (firstOf 8 fs)) (λ x. onceIn true s (firstOf 9 fs))

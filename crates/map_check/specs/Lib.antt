@@ -1,6 +1,6 @@
--- The definitions of the crate: what people must believe. `Columns`: each column's type and metadata. `Ranks`: places and ranks. `Contents`: the contents of optional
--- fields. `Fields`: the fields one by one. `Keys`: a repeated key. `Profile`: what the record says of each column. `Standing`: where the making of a record stands between two columns. `Check`: the check, in its order. `Names`: the names of
--- columns.
+-- The definitions of the crate: what people must believe. `Columns`: each column's type and metadata. `Ranks`: places and ranks. `Contents`: the contents of
+-- optional fields. `Fields`: the fields one by one. `Keys`: a repeated key. `Profile`: what the record says of each column. `Standing`: where the making of a
+-- record stands between two columns. `Check`: the check, in its order. `Names`: the names of columns.
 pub mod Columns
 pub mod Ranks
 pub mod Contents

@@ -72,8 +72,9 @@ charsetOf s x c k =
     0)
 
 -- ---- flags
-abbrev pub one : Bool → ℕ
-one t = cond t 1 0
+-- a flag as a number
+abbrev pub oneIf : Bool → ℕ
+oneIf t = cond t 1 0
 
 abbrev pub isSignKnown : Facts → Declared → Bool
 isSignKnown x c = isNumeric (familyOf (c .kind)) && stands (x .signs)
@@ -87,12 +88,16 @@ isVisible s x j = cond (stands (x .visibility)) (bitMsb0 (valueIn s (x .visibili
 unfoldable pub flagsOf : List ℕ → Facts → Declared → Place → Ranks → ℕ
 unfolding isNumeric familyOf bitLsb0 bitMsb0
 flagsOf s x c j k =
-    one (isUnsigned s x c (k .sign)) + 2 * one (bitLsb0 (lentPart s (x .bits)) (j .0)) + 4 * one (isSignKnown x c) + 8 * one (isVisible s x j)
+    oneIf (isUnsigned s x c (k .sign)) + 2 * oneIf (bitLsb0 (lentPart s (x .bits)) (j .0)) + 4 * oneIf (isSignKnown x c) + 8 * oneIf (isVisible s x j)
 
--- ---- the entries of columns, from a place and ranks on
+-- ---- the entry of a column: with a charset given, and with its own
+abbrev pub entryWith : List ℕ → Facts → Declared → Place → Ranks → ℕ → Entry
+entryWith s x c j k charset = record { kind = c .real; flags = flagsOf s x c j k; m0 = c .m0; m1 = c .m1; charset = charset }
+
 abbrev pub entryFor : List ℕ → Facts → Declared → Place → Ranks → Entry
-entryFor s x c j k = record { kind = c .real; flags = flagsOf s x c j k; m0 = c .m0; m1 = c .m1; charset = charsetOf s x c k }
+entryFor s x c j k = entryWith s x c j k (charsetOf s x c k)
 
+-- the entries of columns, from a place and ranks on
 unfoldable pub entriesFrom : Dialect → List ℕ → Facts → List Declared → Place → Ranks → List Entry
 unfolding flagsOf charsetOf ranksAfter
 entriesFrom d s x [] j k = []

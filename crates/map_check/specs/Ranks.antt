@@ -50,7 +50,7 @@ abbrev pub sizesOf : Dialect → List Declared → Ranks
 sizesOf d cs = ranksFrom d noRanks cs
 
 -- no rank is above n
-pub record Below (n : ℕ) (k : Ranks) : Type 0 where
+pub record AtMost (n : ℕ) (k : Ranks) : Type 0 where
   pub sign : k .sign .0 ≤ n
   pub character : k .character .0 ≤ n
   pub choice : k .choice .0 ≤ n

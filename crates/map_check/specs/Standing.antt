@@ -14,10 +14,7 @@ use Rattle.table_map.specs.Parts.{lentPart}
 use Rattle.table_map.specs.Lists.{Stepped, end, item, walk, integerItem, pairItem}
 use Rattle.record.specs.declared.entry.Entry.{Entry}
 use Rattle.map_check.specs.declared.contents.Meaning.the-variants.{Charset}
-use Rattle.map_check.specs.declared.column.Declared.{Declared}
-use Rattle.map_check.specs.declared.rank.Place.{Place}
 use Rattle.map_check.specs.declared.rank.Rank.{Rank}
-use Rattle.map_check.specs.declared.rank.Ranks.{Ranks}
 use Rattle.map_check.specs.declared.field.Found.{Found}
 use Rattle.map_check.specs.declared.field.Found.the-variants.{Value, Nothing}
 use Rattle.map_check.specs.declared.facts.Facts.{Facts}
@@ -27,16 +24,16 @@ use Rattle.map_check.specs.declared.charset.CharsetTurn.{CharsetTurn}
 use Rattle.map_check.specs.declared.entries.Standing.{Standing}
 use Rattle.map_check.specs.declared.entries.EntryTurn.{EntryTurn}
 use Rattle.map_check.specs.Columns.{declareAll}
-use Rattle.map_check.specs.Ranks.{place, noRanks, passed, Below}
+use Rattle.map_check.specs.Ranks.{place, noRanks, passed, AtMost}
 use Rattle.map_check.specs.Contents.{exactly, integerHolds, pairsHold, defaultHolds}
 use Rattle.map_check.specs.Fields.{valueIn}
-use Rattle.map_check.specs.Profile.{pairOr, fromPairs, charsetBy, flagsOf, entriesFrom}
+use Rattle.map_check.specs.Profile.{pairOr, fromPairs, charsetBy, entriesFrom}
 
 -- ---- the charsets of a class
 -- its fields are as the check lets them pass
 pub record ClassHolds (s : List ℕ) (class : Charsets) : Type 0 where
   pub size : ℕ
-  pub list : (p : Part) → class .list ≡ Value p → exactly integerItem (integerHolds Charset) size 0 (lentPart s p) 0 ≡ true
+  pub list : (p : Part) → class .list ≡ Value p → exactly integerItem (integerHolds Charset) size (lentPart s p) ≡ true
   pub default : (p : Part) → class .default ≡ Value p → defaultHolds size (lentPart s p) ≡ true
 
 -- a cursor, and a charset with the cursor for the next
@@ -106,13 +103,9 @@ pub record Takes (s types : List ℕ) (x : Facts) : Type 0 where
   pub characters : ClassHolds s (x .characters)
   pub choices : ClassHolds s (x .choices)
 
--- the entry of a column with a charset that was found
-abbrev pub entryWith : List ℕ → Facts → Declared → Place → Ranks → ℕ → Entry
-entryWith s x c j k charset = record { kind = c .real; flags = flagsOf s x c j k; m0 = c .m0; m1 = c .m1; charset = charset }
-
 -- what holds between two columns: ranks and offset are no more than the columns before can have made them, and the cursors stand at the ranks
 pub record Ready (s : List ℕ) (x : Facts) (k : Standing) : Type 0 where
-  pub ranks : Below (k .place .0) (k .ranks)
+  pub ranks : AtMost (k .place .0) (k .ranks)
   pub metadata : k .metadata ≤ 2 * k .place .0
   pub characters : Stands s (x .characters) (k .ranks .character .0) (k .characters)
   pub choices : Stands s (x .choices) (k .ranks .choice .0) (k .choices)

@@ -30,7 +30,7 @@ pub(crate) enum ColumnTaken {
     Refused(Refusal),
 }
 
-// How many columns each class has, if all columns are accepted.
+// How many columns each class has, if all columns are accepted and no metadata is left.
 pub(crate) enum Sizes {
     Counted(Ranks),
     Refused(Refusal),
@@ -62,7 +62,7 @@ pub(crate) fn declare(kind: u8, metadata: &[u8], at: usize) -> Declared
     Declared { kind, real, m0, m1 }
 }
 
-// Whether 254 is told to be one of the types that it may be.
+// Whether a column of type 254 has one of the real types that it may have; of other types nothing is asked here.
 fn is_real(kind: u8, real: u8) -> bool
     ensures { λ r. ⌜ r ≡ isReal kind real ⌝ }
 {
@@ -109,7 +109,7 @@ pub(crate) fn take_column(kind: u8, metadata: &[u8], at: usize, column: Place) -
     ColumnTaken::Refused(wire::refuse(BAD_METADATA, column.0))
 }
 
-// All columns in turn, until one is refused; then there may be no metadata left.
+// All columns in turn, until one is refused. Behind the last there may be no metadata left.
 pub(crate) fn take_columns(dialect: Dialect, types: &[u8], metadata: &[u8]) -> Sizes
     requires { ⌜ length (now types) ≤ 255 ⌝ }
     ensures { λ r. ⌜ sizesTold r ≡ after (takeColumns (now (types .entry)) (now (metadata .entry)) 0) (λ cs. ok (sizesOf dialect cs)) ⌝ }

@@ -1,5 +1,5 @@
 // The contents of optional fields, judged in full.
-use crate::keys::keys_hold;
+use crate::keys::keys_below;
 use crate::rank::Ranks;
 use table_map::DefaultCharset;
 use table_map::GroupStep;
@@ -12,7 +12,7 @@ use table_map::StringStep;
 use table_map::Strings;
 ghost use mathlib.Core.Path.{_≡_};
 ghost use Rattle.table_map.specs.Lists.{integerItem, stringItem, groupItem};
-ghost use Rattle.map_check.specs.Contents.{any, exactly, isCharset, integerHolds, pairsWhole, defaultHolds, contentsFull};
+ghost use Rattle.map_check.specs.Contents.{whatever, exactly, isCharset, integerHolds, pairsWhole, defaultHolds, contentsFull};
 
 // What the integers of a list mean.
 pub(crate) enum Meaning {
@@ -42,7 +42,7 @@ fn integer_holds(meaning: Meaning, v: u64) -> bool
 
 // Whether the value is n integers that hold, and no more.
 fn integers_hold(value: &[u8], meaning: Meaning, n: usize) -> bool
-    ensures { λ r. ⌜ r ≡ exactly integerItem (integerHolds meaning) n 0 (now (value .entry)) 0 ⌝ }
+    ensures { λ r. ⌜ r ≡ exactly integerItem (integerHolds meaning) n (now (value .entry)) ⌝ }
 {
     let mut at: usize = 0;
     let mut count: usize = 0;
@@ -64,7 +64,7 @@ fn integers_hold(value: &[u8], meaning: Meaning, n: usize) -> bool
 
 // Whether it is n strings.
 fn strings_hold(value: &[u8], n: usize) -> bool
-    ensures { λ r. ⌜ r ≡ exactly stringItem any n 0 (now (value .entry)) 0 ⌝ }
+    ensures { λ r. ⌜ r ≡ exactly stringItem whatever n (now (value .entry)) ⌝ }
 {
     let mut at: usize = 0;
     let mut count: usize = 0;
@@ -83,7 +83,7 @@ fn strings_hold(value: &[u8], n: usize) -> bool
 
 // Whether it is n groups of strings.
 fn groups_hold(value: &[u8], n: usize) -> bool
-    ensures { λ r. ⌜ r ≡ exactly groupItem any n 0 (now (value .entry)) 0 ⌝ }
+    ensures { λ r. ⌜ r ≡ exactly groupItem whatever n (now (value .entry)) ⌝ }
 {
     let mut at: usize = 0;
     let mut count: usize = 0;
@@ -168,8 +168,8 @@ pub(crate) fn contents_full(sizes: Ranks, n: usize, kind: u8, value: &[u8]) -> b
         5 => groups_hold(value, set.0),
         6 => groups_hold(value, enumeration.0),
         7 => integers_hold(value, Meaning::GeometryType, geometry.0),
-        8 => keys_hold(value, false, n),
-        9 => keys_hold(value, true, n),
+        8 => keys_below(value, false, n),
+        9 => keys_below(value, true, n),
         10 => default_holds(value, choice.0),
         11 => integers_hold(value, Meaning::Charset, choice.0),
         13 => integers_hold(value, Meaning::Dimension, vector.0),

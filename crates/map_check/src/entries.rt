@@ -27,8 +27,8 @@ ghost use Rattle.table_map.specs.Parts.{lentPart};
 ghost use Rattle.record.specs.Records.{entriesBytes, recordBytes};
 ghost use Rattle.map_check.specs.Columns.{declareAll};
 ghost use Rattle.map_check.specs.Ranks.{place, noRanks};
-ghost use Rattle.map_check.specs.Profile.{stands, one, isSignKnown, isUnsigned, isVisible, flagsOf, entriesFrom};
-ghost use Rattle.map_check.specs.Standing.{ClassHolds, Takes, entryWith, Ready, Starts, Came};
+ghost use Rattle.map_check.specs.Profile.{stands, oneIf, isSignKnown, isUnsigned, isVisible, flagsOf, entryWith, entriesFrom};
+ghost use Rattle.map_check.specs.Standing.{ClassHolds, Takes, Ready, Starts, Came};
 
 // Where the making of a record stands between two columns.
 pub(crate) struct Standing {
@@ -56,6 +56,7 @@ fn stands(found: Found) -> bool
     }
 }
 
+// Signedness is told of document 01's numeric columns alone, though a dialect may count a bit for others.
 fn is_sign_known(facts: Facts, column: Declared) -> bool
     ensures { λ r. ⌜ r ≡ isSignKnown facts column ⌝ }
 {
@@ -94,8 +95,9 @@ fn is_visible(event: &[u8], facts: Facts, column: Place) -> bool
     table_map::flag(value_in(event, visibility), column.0)
 }
 
-fn one(t: bool) -> u8
-    ensures { λ r. ⌜ (r ≡ one t) × (r ≤ 1) ⌝ }
+// A flag as a number.
+fn one_if(t: bool) -> u8
+    ensures { λ r. ⌜ (r ≡ oneIf t) × (r ≤ 1) ⌝ }
 {
     if t {
         return 1;
@@ -107,15 +109,15 @@ fn flags_of(event: &[u8], facts: Facts, column: Declared, place: Place, ranks: R
     ensures { λ r. ⌜ r ≡ flagsOf (now (event .entry)) facts column place ranks ⌝ }
 {
     let rank = ranks.sign;
-    let unsigned = one(is_unsigned(event, facts, column, rank));
-    let nullable = one(is_nullable(event, facts, place));
-    let known = one(is_sign_known(facts, column));
-    let visible = one(is_visible(event, facts, place));
+    let unsigned = one_if(is_unsigned(event, facts, column, rank));
+    let nullable = one_if(is_nullable(event, facts, place));
+    let known = one_if(is_sign_known(facts, column));
+    let visible = one_if(is_visible(event, facts, place));
     unsigned + 2 * nullable + 4 * known + 8 * visible
 }
 
 // The entry of a column, given its charset.
-fn entry_for(
+fn entry_with(
     event: &[u8],
     facts: Facts,
     column: Declared,
@@ -134,8 +136,9 @@ fn entry_for(
     }
 }
 
-// Of the charsets by the two classes, that of the class a column is of.
-fn charset_of(real: u8, character: u16, choice: u16) -> u16
+// Of the two charsets looked up for a column, the one that the record gives. A dialect may count charsets of columns that are not character columns in document
+// 01: such a charset is passed over, and `choice` is 0 there.
+fn pick_charset(real: u8, character: u16, choice: u16) -> u16
     ensures { λ r. ⌜ r ≡ cond (isCharacter real) character choice ⌝ }
 {
     if value::is_character(real) {
@@ -144,6 +147,7 @@ fn charset_of(real: u8, character: u16, choice: u16) -> u16
     choice
 }
 
+// Where the making stands before the first column.
 fn first_standing(event: &[u8], facts: Facts) -> Standing
     requires { ⌜ ClassHolds (now event) (facts .characters) × ClassHolds (now event) (facts .choices) ⌝ }
     ensures { λ r. ⌜ Starts (now (event .entry)) facts r ⌝ }
@@ -157,7 +161,7 @@ fn first_standing(event: &[u8], facts: Facts) -> Standing
     }
 }
 
-// The next column's entry.
+// The next column's entry, and where the making stands behind it.
 fn next_entry(
     dialect: Dialect,
     event: &[u8],
@@ -187,8 +191,8 @@ fn next_entry(
     let chosen = value::is_enum_or_set(real);
     let choices = facts.choices;
     let choice = charset_if(event, chosen, choices, standing.choices, ranks.choice);
-    let charset = charset_of(real, character.charset, choice.charset);
-    let entry = entry_for(event, facts, column, place, ranks, charset);
+    let charset = pick_charset(real, character.charset, choice.charset);
+    let entry = entry_with(event, facts, column, place, ranks, charset);
     let characters = character.next;
     let choices = choice.next;
     let next = Standing {
@@ -201,7 +205,7 @@ fn next_entry(
     EntryTurn { entry, next }
 }
 
-// Writes the entries of all columns, behind the six bytes before them.
+// Writes the entries of all columns, behind the six bytes before them. There is room for all, so no write is refused.
 fn write_entries(
     dialect: Dialect,
     event: &[u8],

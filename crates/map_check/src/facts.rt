@@ -11,10 +11,13 @@ pub(crate) struct Charsets {
 }
 
 pub(crate) struct Facts {
+    // the nullable bits
     pub bits: Part,
+    // fields 1 and 12
     pub signs: Found,
     pub visibility: Found,
+    // fields 2 and 3
     pub characters: Charsets,
-    // of ENUM and SET columns
+    // fields 10 and 11, of ENUM and SET columns
     pub choices: Charsets,
 }

@@ -40,7 +40,7 @@ pub(crate) fn key_at(value: &[u8], paired: bool, at: usize) -> Packed
 }
 
 // Whether the value is keys, and all of them below n.
-pub(crate) fn keys_hold(value: &[u8], paired: bool, n: usize) -> bool
+pub(crate) fn keys_below(value: &[u8], paired: bool, n: usize) -> bool
     ensures { λ r. ⌜ r ≡ listHolds (keyItem paired) (λ k. ltb k n) (now (value .entry)) 0 ⌝ }
 {
     let above = n as u64;

@@ -1,4 +1,5 @@
-// The check of a map, which writes the profile record, and the names of columns. Added by document 01; the Rust has no such thing.
+// The check of a map, which writes the profile record, and the names of columns. Added by document 01. From the Rust (binlog/events/table_map_event.rs) come a
+// column's metadata and real type, and the list of names.
 mod charset;
 mod column;
 mod contents;

@@ -17,7 +17,6 @@ use value::Dialect;
 use wire::Written;
 use wire::refusal::TOO_MANY_COLUMNS;
 ghost use mathlib.Core.Path.{_≡_};
-ghost use mathlib.Core.Bool.{true};
 ghost use Rattle.wire.specs.Stored.{answerOf, leftOf, writtenOf};
 ghost use Rattle.map_check.specs.Fields.{fieldsFrom};
 ghost use Rattle.map_check.specs.Profile.{factsOf};
@@ -26,7 +25,7 @@ ghost use Rattle.map_check.specs.Check.{checkEvent, written, check};
 // How many columns a map may have.
 const MOST_COLUMNS: usize = 255;
 
-// What the record needs of a map's fields: each is looked up in the walk, which has 13 fields at most once they are kept.
+// What the record needs of a map's fields. Each is looked up by a walk of its own: fields that are kept are few, since no type stands twice.
 fn facts_of(event: &[u8], fields: Fields, bits: Part) -> Facts
     ensures { λ r. ⌜ r ≡ factsOf bits (fieldsFrom fields (now (event .entry))) ⌝ }
 {
@@ -79,8 +78,8 @@ fn check_event(dialect: Dialect, event: &[u8], e: Event, buf: &mut [u8]) -> Writ
     write_record(dialect, event, types, metadata, facts, buf)
 }
 
-// Checks a map and writes its record at the buffer's start; the answer is the record's length. The event's bytes stand behind its header, and post_header is what the format description says of
-// table maps.
+// Checks a map and writes its record at the buffer's start; the answer is the record's length. `event` is what follows the event's header of 19 bytes, and
+// `post_header` is the post-header length that the format description gives for table maps.
 pub fn check(event: &[u8], post_header: u8, dialect: Dialect, buf: &mut [u8]) -> Written
     ensures { λ r. ⌜ writtenOf r ≡ answerOf (check dialect (now (event .entry)) «post_header» (now (buf .entry))) ⌝ }
     ensures { λ _. ⌜ now (buf .exit) ≡ leftOf (now (buf .entry)) (check dialect (now (event .entry)) «post_header» (now (buf .entry))) ⌝ }

@@ -40,7 +40,7 @@ pub fn name_part<'a>(names: &'a [u8], operator: &'a [u8], column: Place) -> &'a 
     }
 }
 
-// Where the names of a map stand in the event: start and length 0 where it has none or is refused before them.
+// Where the names of a map stand in the event: start and length 0 where it has none, or a refusal comes before them.
 pub fn names_part(event: &[u8], post_header: u8, dialect: Dialect) -> Part
     ensures { λ r. ⌜ r ≡ namesPart dialect (now (event .entry)) (readEvent (now (event .entry)) «post_header») ⌝ }
 {
@@ -54,7 +54,14 @@ pub fn names_part(event: &[u8], post_header: u8, dialect: Dialect) -> Part
     part_in(find_field(event, fields, NAMES))
 }
 
-// The part of a value that was found.
+// Their bytes, none where there are no names.
+pub fn names_field(event: &[u8], post_header: u8, dialect: Dialect) -> &[u8]
+    ensures { λ r. ⌜ now r ≡ namesOf dialect (now (event .entry)) (readEvent (now (event .entry)) «post_header») ⌝ }
+{
+    table_map::part_of(event, names_part(event, post_header, dialect))
+}
+
+// The part of a value that was found, start and length 0 where there is none.
 fn part_in(found: Found) -> Part
     ensures { λ r. ⌜ r ≡ partIn found ⌝ }
 {
@@ -62,13 +69,6 @@ fn part_in(found: Found) -> Part
         Found::Value(part) => part,
         Found::Nothing => Part { start: 0, len: 0 },
     }
-}
-
-// Their bytes, none where there are no names.
-pub fn names_field(event: &[u8], post_header: u8, dialect: Dialect) -> &[u8]
-    ensures { λ r. ⌜ now r ≡ namesOf dialect (now (event .entry)) (readEvent (now (event .entry)) «post_header») ⌝ }
-{
-    table_map::part_of(event, names_part(event, post_header, dialect))
 }
 
 // The list that is looked at.

@@ -3,7 +3,7 @@ use crate::column::Declared;
 use value::Dialect;
 ghost use mathlib.Core.Path.{_≡_};
 ghost use Prim.Native.Nat.{_≤_};
-ghost use Rattle.map_check.specs.Ranks.{passed, noRanks, ranksAfter, Below};
+ghost use Rattle.map_check.specs.Ranks.{passed, noRanks, ranksAfter, AtMost};
 
 // A column's place in the table, from 0 on.
 pub struct Place(pub usize);
@@ -50,9 +50,9 @@ fn passed(before: Rank, member: bool) -> Rank
     before
 }
 
-// The next rank of every class, after a column.
+// The next rank of every class, after a column. Signedness goes by the type byte, every other class by the real type.
 pub(crate) fn ranks_after(dialect: Dialect, ranks: Ranks, column: Declared) -> Ranks
-    requires { ⌜ Below 65535 ranks ⌝ }
+    requires { ⌜ AtMost 65535 ranks ⌝ }
     ensures { λ r. ⌜ r ≡ ranksAfter dialect ranks column ⌝ }
 {
     let real = column.real;

@@ -6,9 +6,9 @@ use native.Mathlib.Omega.{arith}
 use borrow.Author.Needs.{needs}
 use lib.ListN.{length, getD, drop}
 use Rattle.map_check.specs.Columns.{takenOf}
-use Rattle.map_check.specs.Ranks.{noRanks, Below}
-use Rattle.map_check.proofs.Counts.{below-none, below-wider, below-after}
-use Rattle.map_check.proofs.Declares.{taken-within, toCome, turn, none-left, some-left}
+use Rattle.map_check.specs.Ranks.{noRanks, AtMost}
+use Rattle.map_check.proofs.Counts.{at-most-none, at-most-wider, at-most-after}
+use Rattle.map_check.proofs.Declares.{taken-within, sizesToCome, column-turn, none-left, some-left}
 use Rattle.map_check.proofs.column.take_columns.Statement.{statement}
 use Rattle.map_check.proofs.column.take_columns.Tie as tie
 use Rattle.map_check.proofs.column.take_columns.Reads as reads
@@ -21,8 +21,8 @@ use Rattle.wire.proofs.refuse.Reads as refuse-reads
 
 abbrev Inv-loop : tie.InvT-loop
 Inv-loop dialect types metadata ranks₀ at₀ j₀ ranks at j =
-    (at ≤ length metadata) × (j ≤ length types) × Below j ranks
-    × (toCome dialect ranks (drop j types) (drop at metadata) j ≡ toCome dialect noRanks types metadata 0)
+    (at ≤ length metadata) × (j ≤ length types) × AtMost j ranks
+    × (sizesToCome dialect ranks (drop j types) (drop at metadata) j ≡ sizesToCome dialect noRanks types metadata 0)
 
 abbrev μ-loop : tie.MeasureT-loop
 μ-loop dialect types metadata ranks₀ at₀ j₀ ranks at j = length types - j
@@ -31,7 +31,7 @@ no-ranks-requires : tie.Need-no-ranks-requires Inv-loop μ-loop
 no-ranks-requires c κs = search needs
 
 loop-holds : tie.Need-loop-holds Inv-loop μ-loop
-loop-holds c = rw (c .no-ranks .ensures) (omega arith, omega arith, below-none, refl)
+loop-holds c = rw (c .no-ranks .ensures) (omega arith, omega arith, at-most-none, refl)
 
 shared-slice-read-kind : tie.Need-shared-slice-read-kind Inv-loop μ-loop
 shared-slice-read-kind c = search needs
@@ -43,7 +43,7 @@ enum-known-column : tie.Need-enum-known-column Inv-loop μ-loop
 enum-known-column c = search needs
 
 ranks-after-requires : tie.Need-ranks-after-requires Inv-loop μ-loop
-ranks-after-requires c κs = below-wider (omega (arith, c .before .before .before .before .before .loop-test .taken, c .before .before .before .before .before .before .before .before .before .before .pre)) (c .before .before .before .before .before .before .loop .inv .2)
+ranks-after-requires c κs = at-most-wider (omega (arith, c .before .before .before .before .before .loop-test .taken, c .before .before .before .before .before .before .before .before .before .before .pre)) (c .before .before .before .before .before .before .loop .inv .2)
 
 enum-known-r : tie.Need-enum-known-r Inv-loop μ-loop
 enum-known-r c = search needs
@@ -53,7 +53,7 @@ returns c =
     let a = c .before .before .before .before .before .before .before .before .before .before .args in
     let l = c .before .before .before .before .before .before .loop in
     let e = sym (c .before .before .before .take-column .ensures) ∙ ap takenOf (c .before .r .given .1) in
-    sym (turn (a .dialect) (l .ranks) (a .types .now) (a .metadata .now) (l .at) (l .j) (c .before .before .before .before .before .loop-test .taken) ∙ rw e refl) ∙ l .inv .3
+    sym (column-turn (a .dialect) (l .ranks) (a .types .now) (a .metadata .now) (l .at) (l .j) (c .before .before .before .before .before .loop-test .taken) ∙ rw e refl) ∙ l .inv .3
 
 metadata-bytes-requires : tie.Need-metadata-bytes-requires Inv-loop μ-loop
 metadata-bytes-requires c κs = search needs
@@ -79,8 +79,8 @@ loop-again c =
     rw (c .metadata-bytes .ensures, c .before .ranks-after .ensures) (
       taken-within (getD (a .types .now) (l .j) 0) (a .metadata .now) (l .at) (l .j) _ (l .inv .0) e,
       omega (arith, c .before .before .before .before .before .before .before .loop-test .taken),
-      below-after (a .dialect) _ (l .inv .2),
-      sym (turn (a .dialect) (l .ranks) (a .types .now) (a .metadata .now) (l .at) (l .j) (c .before .before .before .before .before .before .before .loop-test .taken) ∙ rw e refl) ∙ l .inv .3,
+      at-most-after (a .dialect) _ (l .inv .2),
+      sym (column-turn (a .dialect) (l .ranks) (a .types .now) (a .metadata .now) (l .at) (l .j) (c .before .before .before .before .before .before .before .loop-test .taken) ∙ rw e refl) ∙ l .inv .3,
     )
 
 refuse-requires : tie.Need-refuse-requires Inv-loop μ-loop

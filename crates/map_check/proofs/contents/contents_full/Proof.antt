@@ -10,7 +10,7 @@ use Rattle.map_check.proofs.contents.default_holds.Reads as default-hol
 use Rattle.map_check.proofs.contents.groups_hold.Reads as groups-hold-reads
 use Rattle.map_check.proofs.contents.integers_hold.Reads as integers-hold-reads
 use Rattle.map_check.proofs.contents.strings_hold.Reads as strings-hold-reads
-use Rattle.map_check.proofs.keys.keys_hold.Reads as keys-hold-reads
+use Rattle.map_check.proofs.keys.keys_below.Reads as keys-below-reads
 
 default-holds-requires : tie.Need-default-holds-requires
 default-holds-requires c κs = search needs
@@ -30,11 +30,11 @@ groups-hold-requires-2 c κs = search needs
 integers-hold-requires-2 : tie.Need-integers-hold-requires-2
 integers-hold-requires-2 c κs = search needs
 
-keys-hold-requires : tie.Need-keys-hold-requires
-keys-hold-requires c κs = search needs
+keys-below-requires : tie.Need-keys-below-requires
+keys-below-requires c κs = search needs
 
-keys-hold-requires-2 : tie.Need-keys-hold-requires-2
-keys-hold-requires-2 c κs = search needs
+keys-below-requires-2 : tie.Need-keys-below-requires-2
+keys-below-requires-2 c κs = search needs
 
 default-holds-requires-2 : tie.Need-default-holds-requires-2
 default-holds-requires-2 c κs = search needs
@@ -71,11 +71,11 @@ returns-6 c = rw (c .before .match .keys6, c .integers-hold2 .ensures)
 
 returns-7 : tie.Need-returns-7
 unfolding contentsFull
-returns-7 c = rw (c .before .match .keys7, c .keys-hold .ensures)
+returns-7 c = rw (c .before .match .keys7, c .keys-below .ensures)
 
 returns-8 : tie.Need-returns-8
 unfolding contentsFull
-returns-8 c = rw (c .before .match .keys8, c .keys-hold2 .ensures)
+returns-8 c = rw (c .before .match .keys8, c .keys-below2 .ensures)
 
 returns-9 : tie.Need-returns-9
 unfolding contentsFull
@@ -103,8 +103,8 @@ contents-full-spec =
     groups-hold-requires
     groups-hold-requires-2
     integers-hold-requires-2
-    keys-hold-requires
-    keys-hold-requires-2
+    keys-below-requires
+    keys-below-requires-2
     default-holds-requires-2
     integers-hold-requires-3
     integers-hold-requires-4

@@ -7,8 +7,8 @@ use lib.ListN.{length}
 use Rattle.table_map.proofs.Items.{group-moves}
 use Rattle.table_map.proofs.Walks.{item-moves}
 use Rattle.table_map.specs.Lists.{groupItem, groupOf}
-use Rattle.map_check.specs.Contents.{any}
-use Rattle.map_check.proofs.Tallies.{Met, none-met, one-more, no-more, none-read}
+use Rattle.map_check.specs.Contents.{whatever}
+use Rattle.map_check.proofs.Tallies.{Met, none-met, more-met, no-more, none-read}
 use Rattle.map_check.proofs.contents.groups_hold.Statement.{statement}
 use Rattle.map_check.proofs.contents.groups_hold.Tie as tie
 use Rattle.map_check.proofs.contents.groups_hold.Reads as reads
@@ -16,7 +16,7 @@ use Rattle.map_check.proofs.contents.groups_hold.Lts as lts
 use Rattle.table_map.proofs.list.Groups.next.Reads as next-reads
 
 abbrev Inv-loop : tie.InvT-loop
-Inv-loop value n at₀ count₀ at count = Met groupItem any n value at count
+Inv-loop value n at₀ count₀ at count = Met groupItem whatever n value at count
 
 abbrev μ-loop : tie.MeasureT-loop
 μ-loop value n at₀ count₀ at count = length value - at
@@ -41,7 +41,7 @@ loop-less c =
     omega (arith, w .0, w .1)
 
 loop-again : tie.Need-loop-again Inv-loop μ-loop
-loop-again c = one-more group-moves (c .before .before .before .before .loop .inv) (sym (c .before .before .before .next .ensures) ∙ ap groupOf (c .before .next2 .given .1)) refl
+loop-again c = more-met group-moves (c .before .before .before .before .loop .inv) (sym (c .before .before .before .next .ensures) ∙ ap groupOf (c .before .next2 .given .1)) refl
 
 enum-told : tie.Need-enum-told Inv-loop μ-loop
 enum-told c = search needs

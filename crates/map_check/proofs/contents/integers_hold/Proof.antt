@@ -9,7 +9,7 @@ use Rattle.table_map.proofs.Items.{integer-moves}
 use Rattle.table_map.proofs.Walks.{item-moves}
 use Rattle.table_map.specs.Lists.{integerItem, integerOf}
 use Rattle.map_check.specs.Contents.{integerHolds}
-use Rattle.map_check.proofs.Tallies.{Met, none-met, one-more, no-more, one-fails, none-read}
+use Rattle.map_check.proofs.Tallies.{Met, none-met, more-met, no-more, one-fails, none-read}
 use Rattle.map_check.proofs.contents.integers_hold.Statement.{statement}
 use Rattle.map_check.proofs.contents.integers_hold.Tie as tie
 use Rattle.map_check.proofs.contents.integers_hold.Reads as reads
@@ -52,7 +52,7 @@ loop-less c =
 
 loop-again : tie.Need-loop-again Inv-loop μ-loop
 loop-again c =
-    one-more integer-moves (c .before .before .before .before .before .before .loop .inv) (sym (c .before .before .before .before .before .next .ensures) ∙ ap integerOf (c .before .before .before .v .given .1))
+    more-met integer-moves (c .before .before .before .before .before .before .loop .inv) (sym (c .before .before .before .before .before .next .ensures) ∙ ap integerOf (c .before .before .before .v .given .1))
     (sym (c .before .integer-holds .ensures) ∙ not-false _ (c .if1 .left))
 
 enum-told : tie.Need-enum-told Inv-loop μ-loop

@@ -1,7 +1,7 @@
 -- `map_check::entries::first_standing` meets its contract. Assumes nothing.
 use mathlib.Core.Path.{refl}
 use native.Mathlib.Omega.{arith}
-use Rattle.map_check.proofs.Counts.{below-none}
+use Rattle.map_check.proofs.Counts.{at-most-none}
 use borrow.Author.Needs.{needs}
 use Rattle.map_check.proofs.entries.first_standing.Statement.{statement}
 use Rattle.map_check.proofs.entries.first_standing.Tie as tie
@@ -20,7 +20,7 @@ first-charset-requires-2 : tie.Need-first-charset-requires-2
 first-charset-requires-2 c κs = search needs
 
 returns : tie.Need-returns
-returns c = rw (c .before .before .no-ranks .ensures) (record { place = refl; metadata = refl; ranks = refl; ready = record { ranks = below-none; metadata = omega arith; characters = c .before .first-charset .ensures; choices = c .first-charset2 .ensures } })
+returns c = rw (c .before .before .no-ranks .ensures) (record { place = refl; metadata = refl; ranks = refl; ready = record { ranks = at-most-none; metadata = omega arith; characters = c .before .first-charset .ensures; choices = c .first-charset2 .ensures } })
 
 pub first-standing-spec : {M : Type 1} → statement M
 first-standing-spec =

@@ -1,6 +1,6 @@
 -- `map_check::entries::flags_of` meets its contract. Assumes nothing.
 use mathlib.Core.Path.{ap, _∙_}
-use Rattle.map_check.specs.Profile.{one, flagsOf}
+use Rattle.map_check.specs.Profile.{oneIf, flagsOf}
 use borrow.Author.Needs.{needs}
 use Rattle.map_check.proofs.entries.flags_of.Statement.{statement}
 use Rattle.map_check.proofs.entries.flags_of.Tie as tie
@@ -10,31 +10,31 @@ use Rattle.map_check.proofs.entries.is_nullable.Reads as is-nullable-re
 use Rattle.map_check.proofs.entries.is_sign_known.Reads as is-sign-known-reads
 use Rattle.map_check.proofs.entries.is_unsigned.Reads as is-unsigned-reads
 use Rattle.map_check.proofs.entries.is_visible.Reads as is-visible-reads
-use Rattle.map_check.proofs.entries.one.Reads as one-reads
+use Rattle.map_check.proofs.entries.one_if.Reads as one-if-reads
 
 is-unsigned-requires : tie.Need-is-unsigned-requires
 is-unsigned-requires c κs = search needs
 
-one-requires : tie.Need-one-requires
-one-requires c κs = search needs
+one-if-requires : tie.Need-one-if-requires
+one-if-requires c κs = search needs
 
 is-nullable-requires : tie.Need-is-nullable-requires
 is-nullable-requires c κs = search needs
 
-one-requires-2 : tie.Need-one-requires-2
-one-requires-2 c κs = search needs
+one-if-requires-2 : tie.Need-one-if-requires-2
+one-if-requires-2 c κs = search needs
 
 is-sign-known-requires : tie.Need-is-sign-known-requires
 is-sign-known-requires c κs = search needs
 
-one-requires-3 : tie.Need-one-requires-3
-one-requires-3 c κs = search needs
+one-if-requires-3 : tie.Need-one-if-requires-3
+one-if-requires-3 c κs = search needs
 
 is-visible-requires : tie.Need-is-visible-requires
 is-visible-requires c κs = search needs
 
-one-requires-4 : tie.Need-one-requires-4
-one-requires-4 c κs = search needs
+one-if-requires-4 : tie.Need-one-if-requires-4
+one-if-requires-4 c κs = search needs
 
 mul-result : tie.Need-mul-result
 mul-result c = search needs
@@ -57,10 +57,10 @@ add-result-3 c = search needs
 returns : tie.Need-returns
 unfolding flagsOf
 returns c = rw (
-  c .before .before .before .before .before .before .one .ensures .0 ∙ ap one (c .before .before .before .before .before .before .before .is-unsigned .ensures),
-  c .before .before .before .before .one2 .ensures .0 ∙ ap one (c .before .before .before .before .before .is-nullable .ensures),
-  c .before .before .one3 .ensures .0 ∙ ap one (c .before .before .before .is-sign-known .ensures),
-  c .one4 .ensures .0 ∙ ap one (c .before .is-visible .ensures),
+  c .before .before .before .before .before .before .one-if .ensures .0 ∙ ap oneIf (c .before .before .before .before .before .before .before .is-unsigned .ensures),
+  c .before .before .before .before .one-if2 .ensures .0 ∙ ap oneIf (c .before .before .before .before .before .is-nullable .ensures),
+  c .before .before .one-if3 .ensures .0 ∙ ap oneIf (c .before .before .before .is-sign-known .ensures),
+  c .one-if4 .ensures .0 ∙ ap oneIf (c .before .is-visible .ensures),
 )
 
 pub flags-of-spec : {M : Type 1} → statement M
@@ -68,13 +68,13 @@ flags-of-spec =
     tie.close
     (tie.spec
     is-unsigned-requires
-    one-requires
+    one-if-requires
     is-nullable-requires
-    one-requires-2
+    one-if-requires-2
     is-sign-known-requires
-    one-requires-3
+    one-if-requires-3
     is-visible-requires
-    one-requires-4
+    one-if-requires-4
     mul-result
     add-result
     mul-result-2

@@ -3,7 +3,7 @@ use mathlib.Core.Path.{refl, _∙_}
 use native.Mathlib.Omega.{arith}
 use lib.ListN.{getD}
 use Rattle.value.specs.Columns.{familyOf}
-use Rattle.map_check.proofs.Counts.{below-wider}
+use Rattle.map_check.proofs.Counts.{at-most-wider}
 use Rattle.map_check.proofs.Making.{few-metadata, came}
 use borrow.Author.Needs.{needs}
 use Rattle.map_check.proofs.entries.next_entry.Statement.{statement}
@@ -12,8 +12,8 @@ use Rattle.map_check.proofs.entries.next_entry.Reads as reads
 use Rattle.map_check.proofs.entries.next_entry.Lts as lts
 use Rattle.map_check.proofs.charset.charset_if.Reads as charset-if-reads
 use Rattle.map_check.proofs.column.declare.Reads as declare-reads
-use Rattle.map_check.proofs.entries.charset_of.Reads as charset-of-reads
-use Rattle.map_check.proofs.entries.entry_for.Reads as entry-for-reads
+use Rattle.map_check.proofs.entries.pick_charset.Reads as pick-charset-reads
+use Rattle.map_check.proofs.entries.entry_with.Reads as entry-with-reads
 use Rattle.map_check.proofs.rank.ranks_after.Reads as ranks-after-reads
 use Rattle.value.proofs.has_charset.Reads as has-charset-reads
 use Rattle.value.proofs.is_enum_or_set.Reads as is-enum-or-set-reads
@@ -37,11 +37,11 @@ is-enum-or-set-requires c κs = search needs
 charset-if-requires-2 : tie.Need-charset-if-requires-2
 charset-if-requires-2 c κs = search needs
 
-charset-of-requires : tie.Need-charset-of-requires
-charset-of-requires c κs = search needs
+pick-charset-requires : tie.Need-pick-charset-requires
+pick-charset-requires c κs = search needs
 
-entry-for-requires : tie.Need-entry-for-requires
-entry-for-requires c κs = search needs
+entry-with-requires : tie.Need-entry-with-requires
+entry-with-requires c κs = search needs
 
 add-t26 : tie.Need-add-t26
 add-t26 c = omega (arith, c .before .before .before .before .before .before .before .before .before .before .before .before .before .before .before .before .before .pre .0, c .before .before .before .before .before .before .before .before .before .before .before .before .before .before .before .before .before .pre .1)
@@ -55,7 +55,7 @@ add-t29 c =
     omega (arith, a .pre .0, a .pre .1, a .pre .2 .metadata, c .before .metadata-bytes .ensures, few-metadata (familyOf (getD (a .args .types .now) (a .args .standing .place .0) 0)))
 
 ranks-after-requires : tie.Need-ranks-after-requires
-ranks-after-requires c κs = below-wider (omega (arith, c .before .before .before .before .before .before .before .before .before .before .before .before .before .before .before .before .before .before .before .pre .0, c .before .before .before .before .before .before .before .before .before .before .before .before .before .before .before .before .before .before .before .pre .1)) (c .before .before .before .before .before .before .before .before .before .before .before .before .before .before .before .before .before .before .before .pre .2 .ranks)
+ranks-after-requires c κs = at-most-wider (omega (arith, c .before .before .before .before .before .before .before .before .before .before .before .before .before .before .before .before .before .before .before .pre .0, c .before .before .before .before .before .before .before .before .before .before .before .before .before .before .before .before .before .before .before .pre .1)) (c .before .before .before .before .before .before .before .before .before .before .before .before .before .before .before .before .before .before .before .pre .2 .ranks)
 
 returns : tie.Need-returns
 returns c =
@@ -66,7 +66,7 @@ returns c =
       column = c .before .before .before .before .before .before .before .before .before .before .before .before .before .declare .ensures;
       character = rw (← (c .before .before .before .before .before .before .before .before .before .before .before .before .has-charset .ensures)) (c .before .before .before .before .before .before .before .before .before .before .charset-if .ensures);
       choice = rw (← (c .before .before .before .before .before .before .before .before .before .is-enum-or-set .ensures)) (c .before .before .before .before .before .before .before .charset-if2 .ensures);
-      entry = c .before .before .before .before .before .entry-for .ensures ∙ rw (c .before .before .before .before .before .before .charset-of .ensures);
+      entry = c .before .before .before .before .before .entry-with .ensures ∙ rw (c .before .before .before .before .before .before .pick-charset .ensures);
       place = refl;
       metadata = rw (c .before .before .metadata-bytes .ensures);
       ranks = c .ranks-after .ensures;
@@ -84,8 +84,8 @@ next-entry-spec =
     charset-if-requires
     is-enum-or-set-requires
     charset-if-requires-2
-    charset-of-requires
-    entry-for-requires
+    pick-charset-requires
+    entry-with-requires
     add-t26
     metadata-bytes-requires
     add-t29

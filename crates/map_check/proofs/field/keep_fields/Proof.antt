@@ -7,7 +7,7 @@ use lib.ListN.{length}
 use borrow.Author.Needs.{needs}
 use borrow.Author.Tests.{not-true, not-false}
 use Rattle.table_map.specs.Fields.{fieldOf}
-use Rattle.map_check.proofs.FieldTurns.{Stands, cursor-moves, kind-low, rival-low, marks-tell, stands-first, stands-next, stands-down, stands-end, stands-broken}
+use Rattle.map_check.proofs.FieldTurns.{KeptTo, cursor-moves, kind-low, rival-low, marks-tell, kept-to-first, kept-to-next, kept-to-refused, kept-to-end, kept-to-broken}
 use Rattle.map_check.proofs.field.keep_fields.Statement.{statement}
 use Rattle.map_check.proofs.field.keep_fields.Tie as tie
 use Rattle.map_check.proofs.field.keep_fields.Reads as reads
@@ -18,13 +18,13 @@ use Rattle.table_map.proofs.field.Fields.next.Reads as next-reads
 use Rattle.wire.proofs.refuse.Reads as refuse-reads
 
 abbrev Inv-loop : tie.InvT-loop
-Inv-loop event sizes columns cursor₀ seen₀ cursor seen = Stands sizes cursor₀ event cursor seen
+Inv-loop event sizes columns cursor₀ seen₀ cursor seen = KeptTo sizes cursor₀ event cursor seen
 
 abbrev μ-loop : tie.MeasureT-loop
 μ-loop event sizes columns cursor₀ seen₀ cursor seen = length event - cursor .at
 
 loop-holds : tie.Need-loop-holds Inv-loop μ-loop
-loop-holds c = stands-first _ _ _
+loop-holds c = kept-to-first _ _ _
 
 next-requires : tie.Need-next-requires Inv-loop μ-loop
 next-requires c κs = search needs
@@ -57,7 +57,7 @@ returns : tie.Need-returns Inv-loop μ-loop
 returns c = let e = sym (c .before .before .before .before .before .before .before .next .ensures) ∙ ap fieldOf (c .before .before .before .before .before .kind .given .1) in
     let st = c .before .before .before .before .before .before .before .before .loop .inv in
     let k = marks-tell st _ _ _ (kind-low _ _ _ _ e) (c .before .before .before .rival-of .ensures) (c .before .before .is-kept .ensures) ∙ not-true _ (c .before .if1 .taken) in
-    rw (c .refuse .ensures) (sym (stands-down st _ _ e k))
+    rw (c .refuse .ensures) (sym (kept-to-refused st _ _ e k))
 
 array-write-seen : tie.Need-array-write-seen Inv-loop μ-loop
 array-write-seen c = kind-low _ _ _ _ (sym (c .before .before .before .before .before .before .next .ensures) ∙ ap fieldOf (c .before .before .before .before .kind .given .1))
@@ -70,19 +70,19 @@ loop-again : tie.Need-loop-again Inv-loop μ-loop
 loop-again c = let e = sym (c .before .before .before .before .before .before .next .ensures) ∙ ap fieldOf (c .before .before .before .before .kind .given .1) in
     let st = c .before .before .before .before .before .before .before .loop .inv in
     let k = marks-tell st _ _ _ (kind-low _ _ _ _ e) (c .before .before .rival-of .ensures) (c .before .is-kept .ensures) ∙ not-false _ (c .if1 .left) in
-    stands-next st _ _ e k
+    kept-to-next st _ _ e k
 
 enum-told : tie.Need-enum-told Inv-loop μ-loop
 enum-told c = search needs
 
 returns-2 : tie.Need-returns-2 Inv-loop μ-loop
-returns-2 c = sym (stands-end (c .before .before .before .loop .inv) (sym (c .before .before .next .ensures) ∙ ap fieldOf (c .enum-told .given .1)))
+returns-2 c = sym (kept-to-end (c .before .before .before .loop .inv) (sym (c .before .before .next .ensures) ∙ ap fieldOf (c .enum-told .given .1)))
 
 enum-known-r : tie.Need-enum-known-r Inv-loop μ-loop
 enum-known-r c = search needs
 
 returns-3 : tie.Need-returns-3 Inv-loop μ-loop
-returns-3 c = sym (stands-broken (c .before .before .before .before .loop .inv) _ (sym (c .before .before .before .next .ensures) ∙ ap fieldOf (c .before .r .given .1)))
+returns-3 c = sym (kept-to-broken (c .before .before .before .before .loop .inv) _ (sym (c .before .before .before .next .ensures) ∙ ap fieldOf (c .before .r .given .1)))
 
 pub keep-fields-spec : {M : Type 1} → statement M
 keep-fields-spec =

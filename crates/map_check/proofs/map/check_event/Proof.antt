@@ -4,7 +4,7 @@ use Rattle.wire.specs.declared.store.Written.the-variants.{Refused}
 use Rattle.wire.specs.Stored.{writtenOf}
 use Rattle.map_check.specs.Columns.{sizesTold}
 use Rattle.map_check.specs.Fields.{judgedOf}
-use Rattle.map_check.proofs.Passes.{columned, fielded, too-many, columns-refuse, fields-refuse, keys-refuse, passes, takes}
+use Rattle.map_check.proofs.Links.{columned, fielded, too-many, columns-refuse, fields-refuse, keys-refuse, keys-pass, takes}
 use borrow.Author.Needs.{needs}
 use Rattle.map_check.proofs.map.check_event.Statement.{statement}
 use Rattle.map_check.proofs.map.check_event.Tie as tie
@@ -113,7 +113,7 @@ returns-5 c =
     (sym (c .before .before .before .before .before .before .before .before .before .before .before .before .before .before .before .before .before .take-columns .ensures) ∙ ap sizesTold (c .before .before .before .before .before .before .before .before .before .before .before .before .before .before .before .sizes .given .1)) in
     let fields = fielded columns (c .before .before .before .before .before .before .before .before .before .before .before .before .before .new .ensures) (sym (c .before .before .before .before .before .before .before .before .before .before .before .before .keep-fields .ensures) ∙ ap judgedOf (c .before .before .before .before .before .before .before .before .before .before .enum-told .given .1)) in
     let said = sym (c .before .before .before .before .before .before .before .keys-checked .ensures) ∙ ap judgedOf (c .before .before .before .before .before .enum-told2 .given .1) in
-    rw (passes fields (rw (← (c .before .before .before .before .before .before .before .before .before .find-field .ensures), ← (c .before .before .before .before .before .before .before .before .find-field2 .ensures)) said), ← (c .before .before .before .before .facts-of .ensures)) (c .before .before .write-record .ensures)
+    rw (keys-pass fields (rw (← (c .before .before .before .before .before .before .before .before .before .find-field .ensures), ← (c .before .before .before .before .before .before .before .before .find-field2 .ensures)) said), ← (c .before .before .before .before .facts-of .ensures)) (c .before .before .write-record .ensures)
 
 pub check-event-spec : {M : Type 1} → statement M
 check-event-spec =

@@ -119,10 +119,10 @@ keys-refuse {d} {s} {e} w q r =
     let x = taken-of (q .columns) in
     behind d s e (few-lent (q .columns)) ∙ rw (x .taken, x .sizes, fields-kept q, r)
 
-pub passes : {d : Dialect} {s : List ℕ} {e : Event} {types meta : List ℕ} {k : Ranks} {c : FieldCursor} → Fielded d s e types meta k c → asked s c ≡ ok tt
+pub keys-pass : {d : Dialect} {s : List ℕ} {e : Event} {types meta : List ℕ} {k : Ranks} {c : FieldCursor} → Fielded d s e types meta k c → asked s c ≡ ok tt
     → checkEvent d s e ≡ ok (entriesFrom d s (factsOf (e .bits) (fieldsFrom c s)) (declareAll types meta) (place 0) noRanks)
 unfolding keysHold
-passes {d} {s} {e} q r =
+keys-pass {d} {s} {e} q r =
     let x = taken-of (q .columns) in
     behind d s e (few-lent (q .columns)) ∙ rw (x .taken, x .sizes, fields-kept q, r, x .all)
 

@@ -1,4 +1,4 @@
--- `map_check::keys::keys_hold` meets its contract. Assumes nothing.
+-- `map_check::keys::keys_below` meets its contract. Assumes nothing.
 use Prim.Native.Nat.{_-_, _≤_}
 use mathlib.Core.Path.{_≡_, refl, sym, ap, _∙_}
 use native.Mathlib.Omega.{arith}
@@ -11,10 +11,10 @@ use Rattle.table_map.proofs.Steps.{step-end}
 use Rattle.map_check.specs.Contents.{listHolds, keyItem}
 use Rattle.map_check.proofs.KeyItems.{key-moves}
 use Rattle.map_check.proofs.Tallies.{item-stepped, refusal-stepped, list-end, list-item, list-broken}
-use Rattle.map_check.proofs.keys.keys_hold.Statement.{statement}
-use Rattle.map_check.proofs.keys.keys_hold.Tie as tie
-use Rattle.map_check.proofs.keys.keys_hold.Reads as reads
-use Rattle.map_check.proofs.keys.keys_hold.Lts as lts
+use Rattle.map_check.proofs.keys.keys_below.Statement.{statement}
+use Rattle.map_check.proofs.keys.keys_below.Tie as tie
+use Rattle.map_check.proofs.keys.keys_below.Reads as reads
+use Rattle.map_check.proofs.keys.keys_below.Lts as lts
 use Rattle.map_check.proofs.keys.key_at.Reads as key-at-reads
 
 abbrev Inv-loop : tie.InvT-loop
@@ -71,8 +71,8 @@ returns-3 c =
     let h : c .before .loop .at ≡ length (a .value .now) = omega arith in
     sym (list-end (keyItem (a .paired)) _ (key-moves (a .paired)) _ _ (step-end (keyItem (a .paired)) _ _ h)) ∙ c .before .loop .inv .1
 
-pub keys-hold-spec : {M : Type 1} → statement M
-keys-hold-spec =
+pub keys-below-spec : {M : Type 1} → statement M
+keys-below-spec =
     tie.close
     (tie.spec
     Inv-loop
