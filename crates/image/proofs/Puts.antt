@@ -47,6 +47,10 @@ put-refused buf e = rw e (refl, refl)
 pub put-next : {w : Outcome (Cursor × List ℕ)} {c : Cursor} {x : List ℕ} (buf : List ℕ) → w ≡ ok (c, x) → Puts buf w (Next c) x
 put-next buf e = rw e (refl, refl)
 
+-- no bytes, stored within the buffer or at its end
+pub store-none : (d : List ℕ) (at : ℕ) → at ≤ length d → store d at [] ≡ ok (at, d)
+store-none d at h = store-fits d [] at (omega arith) ∙ rw (add-zero at, stored-none d at)
+
 -- ---- the start
 module _ (r p nulls buf : List ℕ) {h : Head} (e : headNulls r p nulls ≡ ok h) where
   tested : Tested r p h
@@ -120,9 +124,7 @@ module _
     put-null-full i b l = put-null i b ∙ ap (behind (f + 1)) (store-full buf [] (s .offset) (omega arith))
 
     pub put-null-goes : isNull (datumOf lent v) ≡ true → bitLsb0 nulls (s .rank) ≡ true → s .offset ≤ length buf → put ≡ ok (cursor (f + 1) (s .offset), buf)
-    put-null-goes i b l =
-        let w : store buf (s .offset) [] ≡ ok (s .offset, buf) = store-fits buf [] (s .offset) (omega arith) ∙ rw (add-zero (s .offset), stored-none buf (s .offset)) in
-        put-null i b ∙ ap (behind (f + 1)) w
+    put-null-goes i b l = put-null i b ∙ ap (behind (f + 1)) (store-none buf (s .offset) l)
 
     -- the value as the record's column stores it
     module _ (i : isNull (datumOf lent v) ≡ false) (b : bitLsb0 nulls (s .rank) ≡ false) {k : Column} (g : k ≡ columnOf (entryIn r f)) where

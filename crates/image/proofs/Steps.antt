@@ -24,15 +24,15 @@ use Rattle.image.specs.declared.step.Standing.{Standing}
 use Rattle.image.specs.Present.{countBits, firstFrom, shapeAt}
 use Rattle.image.specs.Split.{cursor, slotsAt, headOf, Told, null, value, end, stepOver, stepFrom}
 use Rattle.image.specs.Inner.{Placed}
-use Rattle.image.proofs.Firsts.{First, first-is, presentAt, count-set, count-at-most, slots-end, slots-first}
+use Rattle.image.proofs.Firsts.{IsFirst, first-is, presentAt, count-set, count-at-most, slots-end, slots-first}
 
 -- the slots from a cursor on, f being the first present column from it on
 module _ {r p : List ℕ} {n : ℕ} {s : Standing} (h : Placed r p n s) {f : ℕ} (e : f ≡ firstFrom (n - s .column) p (s .column)) where
   here : firstFrom (countOf r - s .column) p (s .column) ≡ f
   here = ap (λ (m : ℕ). firstFrom (m - s .column) p (s .column)) (sym (h .count)) ∙ sym e
 
-  facts : First (n - s .column) p (s .column) f
-  facts = subst (First (n - s .column) p (s .column)) (sym e) (first-is (n - s .column) p (s .column))
+  facts : IsFirst (n - s .column) p (s .column) f
+  facts = subst (IsFirst (n - s .column) p (s .column)) (sym e) (first-is (n - s .column) p (s .column))
 
   pub below : (f ≡ n → ⊥) → f < n
   below u = omega (arith, facts .high, h .column)

@@ -24,13 +24,13 @@ use Rattle.image.specs.Split.{cursor, slots, slotsAt, headOf, firstCurso
 use Rattle.image.specs.Walk.{walkSteps, walk}
 use Rattle.image.specs.Rows.{isNull}
 use Rattle.image.specs.Puts.{filled, headNulls, startImage, slotBytes, putOver, putFrom}
-use Rattle.image.specs.Given.{Given, putRow, writeRow}
+use Rattle.image.specs.WriteRow.{LentValue, putRow, writeRow}
 
 -- INT, VARCHAR(20), TINYINT UNSIGNED
-abbrev pub rec : List ℕ
+abbrev rec : List ℕ
 rec = 0x18 ∷ 0 ∷ 1 ∷ 0 ∷ 3 ∷ 0 ∷ 3 ∷ 0x0c ∷ 0 ∷ 0 ∷ 0 ∷ 0 ∷ 0x0f ∷ 0x0a ∷ 0x14 ∷ 0 ∷ 0 ∷ 0 ∷ 1 ∷ 0x0d ∷ 0 ∷ 0 ∷ 0 ∷ 0 ∷ []
 
-abbrev pub row : List ℕ
+abbrev row : List ℕ
 row = 0xf8 ∷ 0xfe ∷ 0xff ∷ 0xff ∷ 0xff ∷ 2 ∷ 0x61 ∷ 0x62 ∷ 0xc8 ∷ []
 
 -- TINYINT, DATE, TINYINT
@@ -53,11 +53,11 @@ unfolding leValue signedOf dayFault digit bitLsb0 familyOf isNumeric isCharacter
 worked = (refl, refl, refl, refl, refl, refl, refl)
 
 -- the same image written, its null bits lent with no spare bit set; and with a byte less of room
-abbrev given : List Given
-given = record { lent = []; value = Int (negsuc 1) } ∷ record { lent = 0x7a ∷ 0x61 ∷ 0x62 ∷ []; value = Bytes 1 2 } ∷ record { lent = []; value = Uint 200 } ∷ []
+abbrev values : List LentValue
+values = record { lent = []; value = Int (negsuc 1) } ∷ record { lent = 0x7a ∷ 0x61 ∷ 0x62 ∷ []; value = Bytes 1 2 } ∷ record { lent = []; value = Uint 200 } ∷ []
 
-pub worked-back : (writeRow rec (7 ∷ []) (0 ∷ []) given (replicate 10 0) ≡ ok (cursor 3 9, row ++ (0 ∷ [])))
-    × (writeRow rec (7 ∷ []) (0 ∷ []) given (replicate 8 0) ≡ refuse 8 0)
+pub worked-back : (writeRow rec (7 ∷ []) (0 ∷ []) values (replicate 10 0) ≡ ok (cursor 3 9, row ++ (0 ∷ [])))
+    × (writeRow rec (7 ∷ []) (0 ∷ []) values (replicate 8 0) ≡ refuse 8 0)
     -- NULL for the first column, whose null bit is not set
     × (writeRow rec (7 ∷ []) (0 ∷ []) (record { lent = []; value = Null } ∷ []) (replicate 10 0) ≡ refuse 13 0)
 unfolding leValue leBytes twosOf inHalves digit bitLsb0 stored store familyOf isNumeric isCharacter isEnumOrSet shapeIn shapeOf isTaken tag intIn numberIn bytesIn domain bytesOf taken datumOf startOf lenOf isLent isIn storedBytes flagsHold charsetHolds entryHolds entryOf entryIn entriesHold headHolds recordValid readRecord countBits shapeAt presentFrom slots slotsAt headOf isNull filled headNulls startImage slotBytes putOver putFrom putRow writeRow

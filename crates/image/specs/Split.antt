@@ -39,12 +39,12 @@ unfolding presentFrom countBits slots
 slotsAt r p nulls j = slots (presentFrom (countOf r - j) r p j) (countBits p j) nulls
 
 -- ---- the tests before a call on an image goes on: 11, then 12 for the presence bits. What they tell is how many columns there are, and how many bytes of null bits
-abbrev pub head : ℕ → ℕ → Head
-head columns nulls = record { columns = columns; nulls = nulls }
+abbrev pub headWith : ℕ → ℕ → Head
+headWith columns nulls = record { columns = columns; nulls = nulls }
 
 unfoldable pub headOf : List ℕ → List ℕ → Outcome Head
 unfolding readRecord countBits
-headOf r p = after (readRecord r) (λ n. cond (eqb (length p) (bytesFor n)) (ok (head n (bytesFor (countBits p n)))) (refuse 12 0))
+headOf r p = after (readRecord r) (λ n. cond (eqb (length p) (bytesFor n)) (ok (headWith n (bytesFor (countBits p n)))) (refuse 12 0))
 
 -- the first cursor: column 0, behind the null bits
 unfoldable pub firstCursor : List ℕ → List ℕ → Outcome Cursor
