@@ -135,7 +135,7 @@ abbrev pub madeOf : Made → Outcome Value
 madeOf (Value₁ v) = ok v
 madeOf (Refused r) = refused r
 
--- ---- a value that the machine can hold: each part within its bits
+-- ---- a value that the machine can hold: each part within its bits. A signed integer is judged as it is, as two's complement would cut it; of every other value `intIn` is 0
 unfoldable pub isHeld : Value → Bool
 unfolding inHalves intIn datumOf topsOf kindOf partsOf fit
 isHeld v = inHalves (2 ^ 64) (intIn (datumOf [] v)) && fit (topsOf (kindOf v)) (partsOf v)
