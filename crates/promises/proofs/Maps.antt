@@ -145,10 +145,10 @@ stepped rule s o past here =
     chain (rule s o) _ (here (omega arith)) (λ x e. done _)))
 
 -- a field: its length is behind its type byte
-pub field : {ls : List Line} (numeric columns : ℕ) (s : List ℕ) (o : ℕ) → OneOf ls (why 1 (o + 1)) → OneOf ls (why 2 (o + 1)) → OneOf ls (why 6 o) → OneOf ls (why 7 o)
+field-item : {ls : List Line} (numeric columns : ℕ) (s : List ℕ) (o : ℕ) → OneOf ls (why 1 (o + 1)) → OneOf ls (why 2 (o + 1)) → OneOf ls (why 6 o) → OneOf ls (why 7 o)
     → Listed ls (fieldItem numeric columns s o)
 unfolding fieldItem
-field numeric columns s o one two six seven =
+field-item numeric columns s o one two six seven =
     chain (longPart s (o + 1)) _ (long-part s (o + 1) one two) (λ v e.
     test (isField (getD s o 0))
     (λ u. test (contentsHold numeric columns (getD s o 0) (partOf s (v .0))) (λ u. done _) (λ u. stop seven))
@@ -159,7 +159,7 @@ pub field-stepped : {ls : List Line} (c : Fields) (s : List ℕ) → OneOf ls (w
 unfolding fieldStep
 field-stepped c s past one two six seven =
     chain (step (fieldItem (c .numeric) (c .columns)) s (c .at)) _
-    (stepped (fieldItem (c .numeric) (c .columns)) s (c .at) (λ h. past) (λ h. field (c .numeric) (c .columns) s (c .at) one two six seven))
+    (stepped (fieldItem (c .numeric) (c .columns)) s (c .at) (λ h. past) (λ h. field-item (c .numeric) (c .columns) s (c .at) one two six seven))
     (λ x e. done _)
 
 -- ---- the check
@@ -192,7 +192,7 @@ module _ {ls : List Line} (s : List ℕ) (one : (p : ℕ) → p ≤ length s →
       met : Listed ls (step rule s o)
       met =
           stepped rule s o (λ l. absurd (omega arith))
-          (λ l. field (c .numeric) (c .columns) s o (one (o + 1) (omega arith)) (two (o + 1) (omega arith)) (six o l) (seven o l))
+          (λ l. field-item (c .numeric) (c .columns) s o (one (o + 1) (omega arith)) (two (o + 1) (omega arith)) (six o l) (seven o l))
 
       go : ((kind next : ℕ) → next ≤ length s → Listed ls (keepSteps m sizes c s (kind ∷ before) next))
           → (x : Outcome (Stepped (ℕ × Part) ℕ)) → step rule s o ≡ x

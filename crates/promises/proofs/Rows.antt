@@ -49,27 +49,28 @@ record Fine (r : List ℕ) (c : Present) : Type 0 where
   column : c .column < countOf r
   there : isTaken (c .shape) ≡ true
 
-abbrev First : (Present → Type 0) → List Slot → Type 0
-First P [] = Unit {0}
-First P (i ∷ is) = P (i .present)
+-- what holds of the column of the first slot, if there is one
+abbrev OfFirst : (Present → Type 0) → List Slot → Type 0
+OfFirst P [] = Unit {0}
+OfFirst P (i ∷ is) = P (i .present)
 
-first-fine : (m : ℕ) (r p : List ℕ) (j k : ℕ) (nulls : List ℕ) → recordValid r ≡ true → j + m ≤ countOf r → First (Fine r) (slots (presentFrom m r p j) k nulls)
+first-fine : (m : ℕ) (r p : List ℕ) (j k : ℕ) (nulls : List ℕ) → recordValid r ≡ true → j + m ≤ countOf r → OfFirst (Fine r) (slots (presentFrom m r p j) k nulls)
 unfolding presentFrom slots shapeAt
 first-fine zero r p j k nulls v h = tt
 first-fine (suc m) r p j k nulls v h = go (first-fine m r p (suc j) k nulls v (omega arith)) (bitLsb0 p j)
   where
-    go : First (Fine r) (slots (presentFrom m r p (suc j)) k nulls) → (b : Bool)
-        → First (Fine r) (slots (cond b (record { column = j; shape = shapeAt r j } ∷ presentFrom m r p (suc j)) (presentFrom m r p (suc j))) k nulls)
+    go : OfFirst (Fine r) (slots (presentFrom m r p (suc j)) k nulls) → (b : Bool)
+        → OfFirst (Fine r) (slots (cond b (record { column = j; shape = shapeAt r j } ∷ presentFrom m r p (suc j)) (presentFrom m r p (suc j))) k nulls)
     go x true = record { column = omega arith; there = valid-column r j v (omega arith) }
     go x false = x
 
-slots-fine : (r p nulls : List ℕ) (j : ℕ) → recordValid r ≡ true → j ≤ countOf r → First (Fine r) (slotsAt r p nulls j)
+slots-fine : (r p nulls : List ℕ) (j : ℕ) → recordValid r ≡ true → j ≤ countOf r → OfFirst (Fine r) (slotsAt r p nulls j)
 unfolding slotsAt
 slots-fine r p nulls j v h = first-fine (countOf r - j) r p j (countBits p j) nulls v (omega arith)
 
 -- ---- a step
 step-over : {ls : List Line} (r : List ℕ) → ((j : ℕ) → j < countOf r → OneOf ls (why 9 j)) → ((j : ℕ) → j < countOf r → OneOf ls (why 10 j))
-    → (is : List Slot) (im : List ℕ) (o : ℕ) → First (Fine r) is → Listed ls (stepOver is im o)
+    → (is : List Slot) (im : List ℕ) (o : ℕ) → OfFirst (Fine r) is → Listed ls (stepOver is im o)
 unfolding stepOver
 step-over r nine ten [] im o f = done _
 step-over r nine ten (i ∷ is) im o f =
@@ -101,7 +102,7 @@ image-started r p nulls buf eleven twelve eight =
     chain (store buf 0 (filled (countBits p (h .columns)) nulls)) _ (room buf 0 (filled (countBits p (h .columns)) nulls) eight) (λ x f. done _))
 
 put-over : {ls : List Line} (r : List ℕ) (c : Cursor) → OneOf ls (why 14 (c .column)) → ((j : ℕ) → j < countOf r → OneOf ls (why 13 j)) → OneOf ls (why 8 0)
-    → (is : List Slot) (lent : List ℕ) (v : Value) (buf : List ℕ) → First (Fine r) is → Listed ls (putOver is c lent v buf)
+    → (is : List Slot) (lent : List ℕ) (v : Value) (buf : List ℕ) → OfFirst (Fine r) is → Listed ls (putOver is c lent v buf)
 unfolding putOver slotBytes
 put-over r c fourteen thirteen eight [] lent v buf f = stop fourteen
 put-over r c fourteen thirteen eight (i ∷ is) lent v buf f =
