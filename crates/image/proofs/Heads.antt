@@ -17,8 +17,9 @@ use Rattle.image.specs.Split.{headWith, headOf}
 use Rattle.image.specs.Puts.{headNulls}
 
 -- ---- what they tell
--- the columns that the record counts, and the bytes of one null bit for each present one
+-- the record is valid; the columns that it counts, and the bytes of one null bit for each present one
 pub record Tested (r p : List ℕ) (h : Head) : Type 0 where
+  pub valid : recordValid r ≡ true
   pub columns : h .columns ≡ countOf r
   pub nulls : h .nulls ≡ bytesFor (countBits p (h .columns))
 
@@ -28,7 +29,8 @@ head-tested r p {h} e =
     let w = after-is-ok (readRecord r) _ h e in
     let n = w .0 in
     let t = test-is-ok (eqb (length p) (bytesFor n)) (headWith n (bytesFor (countBits p n))) (why 12 0) h (w .2) in
-    subst (Tested r p) (t .1) (record { columns = read-valid r n (w .1) .1; nulls = refl })
+    let v = read-valid r n (w .1) in
+    subst (Tested r p) (t .1) (record { valid = v .0; columns = v .1; nulls = refl })
 
 -- with null bits: the same tests, and they are just so many bytes
 pub nulls-tested : (r p nulls : List ℕ) {h : Head} → headNulls r p nulls ≡ ok h → (headOf r p ≡ ok h) × (length nulls ≡ h .nulls)

@@ -41,7 +41,7 @@ present-length r p =
     omega arith
 
 -- ---- what holds of each of the columns from j on whose bit is set
-each-from : (P : Present → Type 0) (m : ℕ) (r p : List ℕ) (j : ℕ) → ((i : ℕ) → i < j + m → bitLsb0 p i ≡ true → P (presentAt r i)) → Each P (presentFrom m r p j)
+pub each-from : (P : Present → Type 0) (m : ℕ) (r p : List ℕ) (j : ℕ) → ((i : ℕ) → i < j + m → bitLsb0 p i ≡ true → P (presentAt r i)) → Each P (presentFrom m r p j)
 unfolding Each presentFrom
 each-from P zero r p j h = tt
 each-from P (suc m) r p j h = go (each-from P m r p (suc j) (λ i a. h i (omega arith))) (bitLsb0 p j) refl
