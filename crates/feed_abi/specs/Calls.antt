@@ -59,6 +59,11 @@ toldNumbers (end used) = stepNumbers 0 0 (cursor 0 used) []
 unfoldable pub dialectOf : ℕ → Outcome Dialect
 dialectOf d = cond (eqb d 0) (ok Document) (cond (eqb d 1) (ok Mysql) (cond (eqb d 2) (ok Mariadb) (refuse 13 0)))
 
+-- what the answer says
+abbrev pub askedOf : Asked → Outcome Dialect
+askedOf (For d) = ok d
+askedOf (Refused r) = refused r
+
 -- the record's length, with the record at the buffer's start
 unfoldable pub feedCheck : List ℕ → ℕ → ℕ → List ℕ → Outcome (List ℕ × List ℕ)
 unfolding dialectOf
@@ -107,8 +112,3 @@ unfoldable pub feedPut : List ℕ → List ℕ → List ℕ → ℕ → ℕ → 
 unfolding valueOf putFrom
 feedPut r p nulls column offset kind ps lent im =
     after (valueOf kind ps) (λ v. saidWith cursorNumbers (putFrom r p nulls (cursor column offset) lent v im))
-
--- what the answer says
-abbrev pub askedOf : Asked → Outcome Dialect
-askedOf (For d) = ok d
-askedOf (Refused r) = refused r
