@@ -63,16 +63,16 @@ module _ (r p nulls buf : List ℕ) {h : Head} (e : headNulls r p nulls ≡ ok h
   pub nulls-fit : h .nulls ≤ length buf → length nulls ≤ length buf
   nulls-fit l = omega (arith, nulls-tested r p nulls e .1)
 
-  size : length (filled (countBits p (h .columns)) nulls) ≡ h .nulls
-  size = fill-length (countBits p (h .columns)) nulls (nulls-size (countBits p (h .columns)) refl) ∙ nulls-tested r p nulls e .1
+  filled-size : length (filled (countBits p (h .columns)) nulls) ≡ h .nulls
+  filled-size = fill-length (countBits p (h .columns)) nulls (nulls-size (countBits p (h .columns)) refl) ∙ nulls-tested r p nulls e .1
 
   pub start-full : length buf < h .nulls → startImage r p nulls buf ≡ refuse 8 0
   unfolding startImage
-  start-full l = rw (e, store-full buf (filled (countBits p (h .columns)) nulls) 0 (omega (arith, size)))
+  start-full l = rw (e, store-full buf (filled (countBits p (h .columns)) nulls) 0 (omega (arith, filled-size)))
 
   start-goes : h .nulls ≤ length buf → startImage r p nulls buf ≡ ok (cursor 0 (h .nulls), stored buf 0 (filled (countBits p (h .columns)) nulls))
   unfolding startImage
-  start-goes l = rw (e, store-fits buf (filled (countBits p (h .columns)) nulls) 0 (omega (arith, size)))
+  start-goes l = rw (e, store-fits buf (filled (countBits p (h .columns)) nulls) 0 (omega (arith, filled-size)))
 
   -- n being the count that the code made, and x the buffer
   pub start-done : (n : ℕ) (x : List ℕ) → n ≡ countBits p (h .columns) → x ≡ stored buf 0 (filled n nulls) → h .nulls ≤ length buf
