@@ -15,7 +15,7 @@ ghost use mathlib.Core.List.{_∷_, []};
 ghost use Prim.Native.Nat.{_≤_};
 ghost use lib.ListN.{getD};
 ghost use Rattle.value.specs.declared.datum.Value.the-variants.{When};
-ghost use Rattle.feed_abi.specs.Parts.{kindOf, partsOf, padded, top, topsOf, fit, isTaken, stampOf, dateOf, momentOf, timeOf, made, valueOf, madeOf, isHeld};
+ghost use Rattle.feed_abi.specs.Parts.{kindOf, partsOf, padded, topOfBits, topsOf, fit, isTaken, stampOf, dateOf, momentOf, timeOf, made, valueOf, madeOf, isHeld};
 
 // The kinds of values; 0 is the end of an image.
 const NULL: u64 = 1;
@@ -184,21 +184,21 @@ fn part(parts: &[u64], i: usize) -> u64
 
 // The same of a part that is known to fit so many bits.
 fn part_8(parts: &[u64], i: usize) -> u8
-    requires { ⌜ getD (now parts) i 0 ≤ top 8 ⌝ }
+    requires { ⌜ getD (now parts) i 0 ≤ topOfBits 8 ⌝ }
     ensures { λ r. ⌜ r ≡ getD (now (parts .entry)) i 0 ⌝ }
 {
     part(parts, i) as u8
 }
 
 fn part_16(parts: &[u64], i: usize) -> u16
-    requires { ⌜ getD (now parts) i 0 ≤ top 16 ⌝ }
+    requires { ⌜ getD (now parts) i 0 ≤ topOfBits 16 ⌝ }
     ensures { λ r. ⌜ r ≡ getD (now (parts .entry)) i 0 ⌝ }
 {
     part(parts, i) as u16
 }
 
 fn part_32(parts: &[u64], i: usize) -> u32
-    requires { ⌜ getD (now parts) i 0 ≤ top 32 ⌝ }
+    requires { ⌜ getD (now parts) i 0 ≤ topOfBits 32 ⌝ }
     ensures { λ r. ⌜ r ≡ getD (now (parts .entry)) i 0 ⌝ }
 {
     part(parts, i) as u32
