@@ -48,16 +48,16 @@ pub data Reading : Type 0 where
   image : List ℕ → List ℕ → List ℕ → List (ℕ × Datum) → ℕ → Reading
 
 -- a temporal, read to the end of its bytes, or a refusal
-abbrev pub whole : List ℕ → Outcome Temporal → Outcome (Temporal × ℕ)
-whole bytes (ok t) = ok (t, length bytes)
-whole bytes (refused w) = refused w
+abbrev pub toEnd : List ℕ → Outcome Temporal → Outcome (Temporal × ℕ)
+toEnd bytes (ok t) = ok (t, length bytes)
+toEnd bytes (refused w) = refused w
 
 -- what the paper means by it
 abbrev pub Holds : Reading → Type 0
 -- the number is written as these bytes, and they are read as it, to their end
 Holds (packed number bytes) = (packedBytes number ≡ bytes) × (readPacked bytes 0 ≡ ok (number, length bytes))
 -- these bytes of a column of this kind are read as the temporal, to their end, or refused
-Holds (temporal kind bytes answer) = readTemporal kind 0 bytes 0 ≡ whole bytes answer
+Holds (temporal kind bytes answer) = readTemporal kind 0 bytes 0 ≡ toEnd bytes answer
 -- a CHAR column with this metadata has this declared length, and its values so many length bytes
 Holds (char m0 m1 declared lengthBytes) = (charLength m0 m1 ≡ declared) × (shapeOf (record { kind = 254; m0 = m0; m1 = m1; unsigned = false }) ≡ Counted lengthBytes)
 -- the check of this event (post-header length 8), to document 01's letter, gives this record
