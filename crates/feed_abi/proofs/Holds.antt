@@ -17,14 +17,14 @@ use Rattle.temporal.specs.declared.parts.Temporal.the-variants.{Since, On, At, 
 use Rattle.value.specs.declared.datum.Value.the-variants.{Null, Int, Uint, Float, Double, Year, When, Bytes}
 use Rattle.value.specs.Data.{intIn}
 use Rattle.value.specs.Reading.{datumOf}
-use Rattle.feed_abi.specs.Parts.{kindOf, partsOf, top, topsOf, fit, isHeld}
+use Rattle.feed_abi.specs.Parts.{kindOf, partsOf, topOfBits, topsOf, fit, isHeld}
 
 in-halves : (z : ℤ) → SFits w64 z → inHalves (2 ^ 64) z ≡ true
 unfolding inHalves
 in-halves (pos n) f = lt-ltb n (2 ^ 63) (f .sfits)
 in-halves (negsuc n) f = lt-ltb n (2 ^ 63) (f .sfits)
 
-sign-bit : (b : Bool) → cond b 1 0 ≤ top 1
+sign-bit : (b : Bool) → cond b 1 0 ≤ topOfBits 1
 sign-bit true = omega arith
 sign-bit false = omega arith
 
@@ -37,42 +37,42 @@ unfolding isHeld intIn datumOf topsOf kindOf partsOf fit
 held-int z f =
     let h = in-halves z f in
     let w = signs-back (2 ^ 64) z h in
-    rw (h, le-leb (twosOf (2 ^ 64) z) (top 64) (omega (arith, w .0)))
+    rw (h, le-leb (twosOf (2 ^ 64) z) (topOfBits 64) (omega (arith, w .0)))
 
-pub held-uint : (n : ℕ) → n ≤ top 64 → isHeld (Uint n) ≡ true
+pub held-uint : (n : ℕ) → n ≤ topOfBits 64 → isHeld (Uint n) ≡ true
 unfolding isHeld inHalves intIn datumOf topsOf kindOf partsOf fit
-held-uint n h = rw (le-leb n (top 64) h)
+held-uint n h = rw (le-leb n (topOfBits 64) h)
 
-pub held-float : (n : ℕ) → n ≤ top 32 → isHeld (Float n) ≡ true
+pub held-float : (n : ℕ) → n ≤ topOfBits 32 → isHeld (Float n) ≡ true
 unfolding isHeld inHalves intIn datumOf topsOf kindOf partsOf fit
-held-float n h = rw (le-leb n (top 32) h)
+held-float n h = rw (le-leb n (topOfBits 32) h)
 
-pub held-double : (n : ℕ) → n ≤ top 64 → isHeld (Double n) ≡ true
+pub held-double : (n : ℕ) → n ≤ topOfBits 64 → isHeld (Double n) ≡ true
 unfolding isHeld inHalves intIn datumOf topsOf kindOf partsOf fit
-held-double n h = rw (le-leb n (top 64) h)
+held-double n h = rw (le-leb n (topOfBits 64) h)
 
-pub held-year : (n : ℕ) → n ≤ top 16 → isHeld (Year n) ≡ true
+pub held-year : (n : ℕ) → n ≤ topOfBits 16 → isHeld (Year n) ≡ true
 unfolding isHeld inHalves intIn datumOf topsOf kindOf partsOf fit
-held-year n h = rw (le-leb n (top 16) h)
+held-year n h = rw (le-leb n (topOfBits 16) h)
 
-pub held-bytes : (start len : ℕ) → start ≤ top 64 → len ≤ top 64 → isHeld (Bytes start len) ≡ true
+pub held-bytes : (start len : ℕ) → start ≤ topOfBits 64 → len ≤ topOfBits 64 → isHeld (Bytes start len) ≡ true
 unfolding isHeld inHalves intIn datumOf topsOf kindOf partsOf fit
-held-bytes start len a b = rw (le-leb start (top 64) a, le-leb len (top 64) b)
+held-bytes start len a b = rw (le-leb start (topOfBits 64) a, le-leb len (topOfBits 64) b)
 
-pub held-stamp : (s : Stamp) → s .seconds ≤ top 32 → s .micros ≤ top 32 → isHeld (When (Since s)) ≡ true
+pub held-stamp : (s : Stamp) → s .seconds ≤ topOfBits 32 → s .micros ≤ topOfBits 32 → isHeld (When (Since s)) ≡ true
 unfolding isHeld inHalves intIn datumOf topsOf kindOf partsOf fit
-held-stamp s a b = rw (le-leb (s .seconds) (top 32) a, le-leb (s .micros) (top 32) b)
+held-stamp s a b = rw (le-leb (s .seconds) (topOfBits 32) a, le-leb (s .micros) (topOfBits 32) b)
 
-pub held-date : (d : Date) → d .year ≤ top 16 → d .month ≤ top 8 → d .day ≤ top 8 → isHeld (When (On d)) ≡ true
+pub held-date : (d : Date) → d .year ≤ topOfBits 16 → d .month ≤ topOfBits 8 → d .day ≤ topOfBits 8 → isHeld (When (On d)) ≡ true
 unfolding isHeld inHalves intIn datumOf topsOf kindOf partsOf fit
-held-date d a b c = rw (le-leb (d .year) (top 16) a, le-leb (d .month) (top 8) b, le-leb (d .day) (top 8) c)
+held-date d a b c = rw (le-leb (d .year) (topOfBits 16) a, le-leb (d .month) (topOfBits 8) b, le-leb (d .day) (topOfBits 8) c)
 
-pub held-moment : (m : Moment) → m .year ≤ top 16 → m .month ≤ top 8 → m .day ≤ top 8 → m .hour ≤ top 8 → m .minute ≤ top 8 → m .second ≤ top 8 → m .micros ≤ top 32 → isHeld (When (At m)) ≡ true
+pub held-moment : (m : Moment) → m .year ≤ topOfBits 16 → m .month ≤ topOfBits 8 → m .day ≤ topOfBits 8 → m .hour ≤ topOfBits 8 → m .minute ≤ topOfBits 8 → m .second ≤ topOfBits 8 → m .micros ≤ topOfBits 32 → isHeld (When (At m)) ≡ true
 unfolding isHeld inHalves intIn datumOf topsOf kindOf partsOf fit
 held-moment m a b c d e f g =
-    rw (le-leb (m .year) (top 16) a, le-leb (m .month) (top 8) b, le-leb (m .day) (top 8) c, le-leb (m .hour) (top 8) d, le-leb (m .minute) (top 8) e, le-leb (m .second) (top 8) f, le-leb (m .micros) (top 32) g)
+    rw (le-leb (m .year) (topOfBits 16) a, le-leb (m .month) (topOfBits 8) b, le-leb (m .day) (topOfBits 8) c, le-leb (m .hour) (topOfBits 8) d, le-leb (m .minute) (topOfBits 8) e, le-leb (m .second) (topOfBits 8) f, le-leb (m .micros) (topOfBits 32) g)
 
-pub held-time : (t : Time) → t .hours ≤ top 16 → t .minutes ≤ top 8 → t .seconds ≤ top 8 → t .micros ≤ top 32 → isHeld (When (Lasts t)) ≡ true
+pub held-time : (t : Time) → t .hours ≤ topOfBits 16 → t .minutes ≤ topOfBits 8 → t .seconds ≤ topOfBits 8 → t .micros ≤ topOfBits 32 → isHeld (When (Lasts t)) ≡ true
 unfolding isHeld inHalves intIn datumOf topsOf kindOf partsOf fit
 held-time t a b c d =
-    rw (le-leb (cond (t .negative) 1 0) (top 1) (sign-bit (t .negative)), le-leb (t .hours) (top 16) a, le-leb (t .minutes) (top 8) b, le-leb (t .seconds) (top 8) c, le-leb (t .micros) (top 32) d)
+    rw (le-leb (cond (t .negative) 1 0) (topOfBits 1) (sign-bit (t .negative)), le-leb (t .hours) (topOfBits 16) a, le-leb (t .minutes) (topOfBits 8) b, le-leb (t .seconds) (topOfBits 8) c, le-leb (t .micros) (topOfBits 32) d)

@@ -1,7 +1,7 @@
 -- The parts that a kind takes. Assumes nothing.
 use Prim.Native.Nat.{ℕ, zero, suc, _+_, _≤_, _<_}
 use mathlib.Core.Path.{_≡_, refl, sym, ap, _∙_}
-use mathlib.Core.Bool.{Bool, true, false, cond, _&&_}
+use mathlib.Core.Bool.{Bool, true, false, cond, _&&_, true≢false}
 use mathlib.Core.Logic.{dite}
 use mathlib.Core.List.{List, [], _∷_, _++_}
 use native.Mathlib.Nat.{not-suc-le-zero}
@@ -29,7 +29,7 @@ fit-at (t ∷ ts) (p ∷ ps) (suc i) h l = fit-at ts ps i (both (leb p t) (fit t
 pub fit-more : (ts ps rest : List ℕ) → fit ts ps ≡ true → fit ts (ps ++ rest) ≡ true
 unfolding fit
 fit-more [] ps rest h = refl
-fit-more (t ∷ ts) [] rest h = let z : _≡_ {A = ℕ} 0 1 = cc in absurd (omega arith)
+fit-more (t ∷ ts) [] rest h = absurd (true≢false (sym h))
 fit-more (t ∷ ts) (p ∷ ps) rest h = let w = both (leb p t) (fit ts ps) h in
     rw (w .0, fit-more ts ps rest (w .1))
 

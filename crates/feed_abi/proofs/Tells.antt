@@ -8,6 +8,7 @@ use lib.ListN.{length}
 use Rattle.wire.specs.declared.refusal.Refusal.{Refusal}
 use Rattle.wire.specs.Outcome.{Outcome, ok, refused, refuse}
 use Rattle.wire.specs.Stored.{stored, answerOf, leftOf}
+use Rattle.wire.proofs.Outcomes.{ok-not-refused, same-ok, same-refused}
 use Rattle.wire.proofs.Stores.{stored-stored}
 use Rattle.record.specs.Records.{entryIn, readRecord}
 use Rattle.feed_abi.specs.Answers.{numberOf, toldOf, statusOf, numbersLeft, bytesLeft}
@@ -55,16 +56,16 @@ pub wrote-ok : {A : Type 0} (k : ℕ) (out buf : List ℕ) (f : A → List ℕ) 
     → o ≡ saidWith f w → answerOf w ≡ ok a → s ≡ 0 → x ≡ stored out 0 (f a) → b ≡ leftOf buf w → Leaves k out buf o s x b
 unfolding statusOf numbersLeft bytesLeft
 wrote-ok k out buf f (ok y) o a s x b h d e p q u =
-    let z : y .0 ≡ a = cc in
+    let z : y .0 ≡ a = same-ok e in
     rw (le-leb k (length out) h, d, z) (p, (q, u))
-wrote-ok k out buf f (refused r) o a s x b h d e p q u = let z : _≡_ {A = ℕ} 0 1 = cc in absurd (omega arith)
+wrote-ok k out buf f (refused r) o a s x b h d e p q u = absurd (ok-not-refused (sym e))
 
 pub wrote-refused : {A : Type 0} (k : ℕ) (out buf : List ℕ) (f : A → List ℕ) (w : Outcome (A × List ℕ)) (o : Outcome (List ℕ × List ℕ)) (r : Refusal) (s : ℕ) (x b : List ℕ)
     → k ≤ length out → o ≡ saidWith f w → answerOf w ≡ refused r → s ≡ r .number → x ≡ stored out 0 (r .place ∷ []) → b ≡ leftOf buf w → Leaves k out buf o s x b
 unfolding statusOf numbersLeft bytesLeft
-wrote-refused k out buf f (ok y) o r s x b h d e p q u = let z : _≡_ {A = ℕ} 0 1 = cc in absurd (omega arith)
+wrote-refused k out buf f (ok y) o r s x b h d e p q u = absurd (ok-not-refused e)
 wrote-refused k out buf f (refused v) o r s x b h d e p q u =
-    let z : v ≡ r = cc in
+    let z : v ≡ r = same-refused e in
     rw (le-leb k (length out) h, d, z) (p, (q, u))
 
 -- either way

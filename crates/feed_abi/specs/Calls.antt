@@ -30,8 +30,9 @@ said f o = after o (λ a. ok (f a))
 abbrev pub saidWith : {A : Type 0} → (A → List ℕ) → Outcome (A × List ℕ) → Outcome (List ℕ × List ℕ)
 saidWith f o = after o (λ x. ok (f (x .0), x .1))
 
-abbrev pub one : ℕ → List ℕ
-one n = n ∷ []
+-- the length of a record
+abbrev pub lengthNumbers : ℕ → List ℕ
+lengthNumbers n = n ∷ []
 
 abbrev pub partNumbers : Part → List ℕ
 partNumbers p = p .start ∷ (p .len ∷ [])
@@ -58,10 +59,15 @@ toldNumbers (end used) = stepNumbers 0 0 (cursor 0 used) []
 unfoldable pub dialectOf : ℕ → Outcome Dialect
 dialectOf d = cond (eqb d 0) (ok Document) (cond (eqb d 1) (ok Mysql) (cond (eqb d 2) (ok Mariadb) (refuse 13 0)))
 
+-- what the answer says
+abbrev pub askedOf : Asked → Outcome Dialect
+askedOf (For d) = ok d
+askedOf (Refused r) = refused r
+
 -- the record's length, with the record at the buffer's start
 unfoldable pub feedCheck : List ℕ → ℕ → ℕ → List ℕ → Outcome (List ℕ × List ℕ)
 unfolding dialectOf
-feedCheck event postHeader d buf = after (dialectOf d) (λ d. saidWith one (check d event postHeader buf))
+feedCheck event postHeader d buf = after (dialectOf d) (λ d. saidWith lengthNumbers (check d event postHeader buf))
 
 -- 11 for a record that is not valid, 14 for a column that it has not
 unfoldable pub feedColumn : List ℕ → ℕ → Outcome (List ℕ)
@@ -106,8 +112,3 @@ unfoldable pub feedPut : List ℕ → List ℕ → List ℕ → ℕ → ℕ → 
 unfolding valueOf putFrom
 feedPut r p nulls column offset kind ps lent im =
     after (valueOf kind ps) (λ v. saidWith cursorNumbers (putFrom r p nulls (cursor column offset) lent v im))
-
--- what the answer says
-abbrev pub askedOf : Asked → Outcome Dialect
-askedOf (For d) = ok d
-askedOf (Refused r) = refused r

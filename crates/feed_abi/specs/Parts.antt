@@ -55,22 +55,22 @@ padded (suc k) (p ∷ ps) = p ∷ padded k ps
 
 -- ---- the parts that a kind takes
 -- the greatest number of so many bits
-abbrev pub top : ℕ → ℕ
-top bits = 2 ^ bits - 1
+abbrev pub topOfBits : ℕ → ℕ
+topOfBits bits = 2 ^ bits - 1
 
 -- the greatest that each part of a kind may be
 unfoldable pub topsOf : ℕ → List ℕ
 topsOf kind =
-    cond (eqb kind 2) (top 64 ∷ [])
-    (cond (eqb kind 3) (top 64 ∷ [])
-    (cond (eqb kind 4) (top 32 ∷ [])
-    (cond (eqb kind 5) (top 64 ∷ [])
-    (cond (eqb kind 6) (top 32 ∷ (top 32 ∷ []))
-    (cond (eqb kind 7) (top 16 ∷ [])
-    (cond (eqb kind 8) (top 16 ∷ (top 8 ∷ (top 8 ∷ [])))
-    (cond (eqb kind 9) (top 16 ∷ (top 8 ∷ (top 8 ∷ (top 8 ∷ (top 8 ∷ (top 8 ∷ (top 32 ∷ [])))))))
-    (cond (eqb kind 10) (top 1 ∷ (top 16 ∷ (top 8 ∷ (top 8 ∷ (top 32 ∷ [])))))
-    (cond (eqb kind 11) (top 64 ∷ (top 64 ∷ []))
+    cond (eqb kind 2) (topOfBits 64 ∷ [])
+    (cond (eqb kind 3) (topOfBits 64 ∷ [])
+    (cond (eqb kind 4) (topOfBits 32 ∷ [])
+    (cond (eqb kind 5) (topOfBits 64 ∷ [])
+    (cond (eqb kind 6) (topOfBits 32 ∷ (topOfBits 32 ∷ []))
+    (cond (eqb kind 7) (topOfBits 16 ∷ [])
+    (cond (eqb kind 8) (topOfBits 16 ∷ (topOfBits 8 ∷ (topOfBits 8 ∷ [])))
+    (cond (eqb kind 9) (topOfBits 16 ∷ (topOfBits 8 ∷ (topOfBits 8 ∷ (topOfBits 8 ∷ (topOfBits 8 ∷ (topOfBits 8 ∷ (topOfBits 32 ∷ [])))))))
+    (cond (eqb kind 10) (topOfBits 1 ∷ (topOfBits 16 ∷ (topOfBits 8 ∷ (topOfBits 8 ∷ (topOfBits 32 ∷ [])))))
+    (cond (eqb kind 11) (topOfBits 64 ∷ (topOfBits 64 ∷ []))
     [])))))))))
 
 -- a part for each, and none greater; what stands behind them is not looked at
@@ -135,7 +135,7 @@ abbrev pub madeOf : Made → Outcome Value
 madeOf (Value₁ v) = ok v
 madeOf (Refused r) = refused r
 
--- ---- a value that the machine can hold: each part within its bits
+-- ---- a value that the machine can hold: each part within its bits. A signed integer is judged as it is, as two's complement would cut it; of every other value `intIn` is 0
 unfoldable pub isHeld : Value → Bool
 unfolding inHalves intIn datumOf topsOf kindOf partsOf fit
 isHeld v = inHalves (2 ^ 64) (intIn (datumOf [] v)) && fit (topsOf (kindOf v)) (partsOf v)

@@ -9,7 +9,7 @@ ghost use Rattle.wire.specs.Stored.{stored};
 // The status of a call whose buffer of numbers is too short: nothing was changed.
 pub(crate) const NO_NUMBERS: u64 = 8;
 
-// Puts the numbers from at on.
+// Puts the numbers into out, from at on.
 pub(crate) fn put_numbers(out: &mut [u64], at: usize, numbers: &[u64])
     requires { ⌜ at + length (now numbers) ≤ length (now out) ⌝ }
     ensures { λ _. ⌜ now (out .exit) ≡ stored (now (out .entry)) at (now (numbers .entry)) ⌝ }

@@ -15,7 +15,7 @@ ghost use mathlib.Core.List.{_∷_, []};
 ghost use Prim.Native.Nat.{_≤_};
 ghost use lib.ListN.{getD};
 ghost use Rattle.value.specs.declared.datum.Value.the-variants.{When};
-ghost use Rattle.feed_abi.specs.Parts.{kindOf, partsOf, padded, top, topsOf, fit, isTaken, stampOf, dateOf, momentOf, timeOf, made, valueOf, madeOf, isHeld};
+ghost use Rattle.feed_abi.specs.Parts.{kindOf, partsOf, padded, topOfBits, topsOf, fit, isTaken, stampOf, dateOf, momentOf, timeOf, made, valueOf, madeOf, isHeld};
 
 // The kinds of values; 0 is the end of an image.
 const NULL: u64 = 1;
@@ -111,7 +111,8 @@ fn temporal_parts(t: Temporal) -> [u64; 7]
     }
 }
 
-fn one(n: u64) -> [u64; 7]
+// The parts of a value that has one.
+fn one_part(n: u64) -> [u64; 7]
     ensures { λ r. ⌜ r ≡ padded 7 (n ∷ []) ⌝ }
 {
     [n, 0, 0, 0, 0, 0, 0]
@@ -124,11 +125,11 @@ pub(crate) fn parts_of(value: Value) -> [u64; 7]
 {
     match value {
         Value::Null => [0, 0, 0, 0, 0, 0, 0],
-        Value::Int(z) => one(twos(z)),
-        Value::Uint(n) => one(n),
-        Value::Float(bits) => one(bits as u64),
-        Value::Double(bits) => one(bits),
-        Value::Year(y) => one(y as u64),
+        Value::Int(z) => one_part(twos(z)),
+        Value::Uint(n) => one_part(n),
+        Value::Float(bits) => one_part(bits as u64),
+        Value::Double(bits) => one_part(bits),
+        Value::Year(y) => one_part(y as u64),
         Value::When(t) => temporal_parts(t),
         Value::Bytes { start, len } => [start as u64, len as u64, 0, 0, 0, 0, 0],
     }
@@ -151,7 +152,7 @@ fn fits(parts: &[u64], tops: &[u64]) -> bool
     true
 }
 
-// Whether the kind is one, with all its parts, and none wider than the kind has it.
+// Whether there is such a kind, and all its parts are there, none wider than the kind has it.
 fn is_taken(kind: u64, parts: &[u64]) -> bool
     ensures { λ r. ⌜ r ≡ isTaken kind (now (parts .entry)) ⌝ }
 {
@@ -181,23 +182,23 @@ fn part(parts: &[u64], i: usize) -> u64
     parts[i]
 }
 
-// The same of a part that is known to be so narrow.
+// The same of a part that is known to fit so many bits.
 fn part_8(parts: &[u64], i: usize) -> u8
-    requires { ⌜ getD (now parts) i 0 ≤ top 8 ⌝ }
+    requires { ⌜ getD (now parts) i 0 ≤ topOfBits 8 ⌝ }
     ensures { λ r. ⌜ r ≡ getD (now (parts .entry)) i 0 ⌝ }
 {
     part(parts, i) as u8
 }
 
 fn part_16(parts: &[u64], i: usize) -> u16
-    requires { ⌜ getD (now parts) i 0 ≤ top 16 ⌝ }
+    requires { ⌜ getD (now parts) i 0 ≤ topOfBits 16 ⌝ }
     ensures { λ r. ⌜ r ≡ getD (now (parts .entry)) i 0 ⌝ }
 {
     part(parts, i) as u16
 }
 
 fn part_32(parts: &[u64], i: usize) -> u32
-    requires { ⌜ getD (now parts) i 0 ≤ top 32 ⌝ }
+    requires { ⌜ getD (now parts) i 0 ≤ topOfBits 32 ⌝ }
     ensures { λ r. ⌜ r ≡ getD (now (parts .entry)) i 0 ⌝ }
 {
     part(parts, i) as u32

@@ -1,5 +1,5 @@
 -- Null bits with the spare bits of the last byte set: the bits themselves are kept. Assumes nothing.
-use Prim.Native.Nat.{ℕ, zero, suc, _+_, _-_, _*_, _/_, _%_, _^_, _≤_, _<_}
+use Prim.Native.Nat.{ℕ, suc, _+_, _-_, _*_, _/_, _%_, _^_, _≤_, _<_}
 use mathlib.Core.Path.{_≡_, refl, sym, ap, _∙_}
 use mathlib.Core.Bool.{Bool, true, false}
 use mathlib.Core.List.{List, [], _∷_, _++_, append-assoc}
@@ -13,9 +13,7 @@ use lib.Seq.{length-take-le, getD-take, getD-at, take-append-le, drop-at, set-sp
 use lib.Dec.{eqb}
 use lib.Pow.{pow-pos, pow-mono, field, mod-mod-pow, shr-shr, low, high, ones-lt, ones-split, high-ones}
 use Rattle.wire.specs.Bits.{bytesFor, digit, bitLsb0}
-use Rattle.wire.specs.Number.{Bytes}
 use Rattle.wire.specs.Stored.{stored, store, leftOf}
-use Rattle.wire.proofs.Inverse.{bytes-append, bytes-take}
 use Rattle.wire.proofs.Stores.{store-fits}
 use Rattle.image.specs.Puts.{spareSet, filled}
 
@@ -26,8 +24,8 @@ above u h =
     let e : 8 - u + u ≡ 8 = omega arith in
     ap (λ (k : ℕ). 2 ^ k - 2 ^ u) (sym e) ∙ high-ones (8 - u) u
 
-split : (u b : ℕ) → u < 8 → spareSet u b ≡ (2 ^ (8 - u) - 1) * 2 ^ u + b % 2 ^ u
-split u b h = omega (arith, above u h)
+spare-split : (u b : ℕ) → u < 8 → spareSet u b ≡ (2 ^ (8 - u) - 1) * 2 ^ u + b % 2 ^ u
+spare-split u b h = omega (arith, above u h)
 
 -- the digits below u go by what is left of u digits
 digit-low : (x u j : ℕ) → j < u → digit x j ≡ digit (x % 2 ^ u) j
@@ -41,7 +39,7 @@ digit-low x u j h =
 spare-low : (u b j : ℕ) → u < 8 → j < u → digit (spareSet u b) j ≡ digit b j
 spare-low u b j h l =
     digit-low (spareSet u b) u j l
-    ∙ ap (λ (x : ℕ). digit x j) (ap (λ (x : ℕ). x % 2 ^ u) (split u b h) ∙ low (2 ^ (8 - u) - 1) u (mod-lt b (pow-pos u)))
+    ∙ ap (λ (x : ℕ). digit x j) (ap (λ (x : ℕ). x % 2 ^ u) (spare-split u b h) ∙ low (2 ^ (8 - u) - 1) u (mod-lt b (pow-pos u)))
     ∙ sym (digit-low b u j l)
 
 -- all digits of a number of ones are set
@@ -57,7 +55,7 @@ spare-high u b j h l =
     let m = 7 - j in
     let a : u + i ≡ j = omega arith in
     let c : 8 - u ≡ suc m + i = omega arith in
-    let e : spareSet u b / 2 ^ u ≡ 2 ^ (8 - u) - 1 = ap (λ (x : ℕ). x / 2 ^ u) (split u b (omega arith)) ∙ high (2 ^ (8 - u) - 1) u (mod-lt b (pow-pos u)) in
+    let e : spareSet u b / 2 ^ u ≡ 2 ^ (8 - u) - 1 = ap (λ (x : ℕ). x / 2 ^ u) (spare-split u b (omega arith)) ∙ high (2 ^ (8 - u) - 1) u (mod-lt b (pow-pos u)) in
     let f : spareSet u b / 2 ^ j ≡ (2 ^ (suc m + i) - 1) / 2 ^ i =
     ap (λ (k : ℕ). spareSet u b / 2 ^ k) (sym a) ∙ sym (shr-shr (spareSet u b) u i)
     ∙ ap (λ (x : ℕ). x / 2 ^ i) (e ∙ ap (λ (k : ℕ). 2 ^ k - 1) c) in
@@ -69,23 +67,20 @@ unit-is u h =
     let l : u ≤ 7 = omega arith in
     (pow-pos u, pow-mono l)
 
-pub spare-byte : (u b : ℕ) → u < 8 → spareSet u b < 256
-spare-byte u b h = omega (arith, unit-is u h, mod-lt b (pow-pos u))
-
 -- ---- the bits
 module _ (n : ℕ) (nulls : List ℕ) (h : length nulls ≡ bytesFor n) where
   abbrev front : List ℕ
   front = take (n / 8) nulls
 
-  abbrev last : ℕ
-  last = spareSet (n % 8) (getD nulls (n / 8) 0)
+  abbrev lastByte : ℕ
+  lastByte = spareSet (n % 8) (getD nulls (n / 8) 0)
 
-  -- there are spare bits, or none
-  pub fill-none : n % 8 ≡ 0 → filled n nulls ≡ nulls
+  -- no spare bits, or some in the last byte
+  pub fill-whole : n % 8 ≡ 0 → filled n nulls ≡ nulls
   unfolding filled
-  fill-none e = rw (eq-eqb (n % 8) 0 e)
+  fill-whole e = rw (eq-eqb (n % 8) 0 e)
 
-  pub fill-last : eqb (n % 8) 0 ≡ false → filled n nulls ≡ front ++ (last ∷ [])
+  pub fill-last : eqb (n % 8) 0 ≡ false → filled n nulls ≡ front ++ (lastByte ∷ [])
   unfolding filled
   fill-last e = rw e
 
@@ -96,36 +91,24 @@ module _ (n : ℕ) (nulls : List ℕ) (h : length nulls ≡ bytesFor n) where
   fill-length = go (eqb (n % 8) 0) refl
     where
       go : (b : Bool) → eqb (n % 8) 0 ≡ b → length (filled n nulls) ≡ length nulls
-      go true e = ap length (fill-none (eqb-true (n % 8) 0 e))
+      go true e = ap length (fill-whole (eqb-true (n % 8) 0 e))
       go false e =
           let w : n % 8 ≡ 0 → ⊥ = eqb-false (n % 8) 0 e in
-          ap length (fill-last e) ∙ length-append front (last ∷ []) ∙ omega (arith, front-length)
-
-  -- bytes stay bytes
-  pub fill-bytes : Bytes nulls → Bytes (filled n nulls)
-  fill-bytes b = go (eqb (n % 8) 0) refl
-    where
-      one : Bytes (last ∷ [])
-      one zero = spare-byte (n % 8) (getD nulls (n / 8) 0) (omega arith)
-      one (suc i) = omega arith
-
-      go : (t : Bool) → eqb (n % 8) 0 ≡ t → Bytes (filled n nulls)
-      go true e = rw (fill-none (eqb-true (n % 8) 0 e)) b
-      go false e = rw (fill-last e) (bytes-append front (last ∷ []) (bytes-take (n / 8) nulls b) one)
+          ap length (fill-last e) ∙ length-append front (lastByte ∷ []) ∙ omega (arith, front-length)
 
   -- the byte that the spare bits are in
-  last-is : (i : ℕ) → i ≡ n / 8 → getD (front ++ (last ∷ [])) i 0 ≡ last
-  last-is i e = getD-at front last [] 0 i (front-length ∙ sym e)
+  last-is : (i : ℕ) → i ≡ n / 8 → getD (front ++ (lastByte ∷ [])) i 0 ≡ lastByte
+  last-is i e = getD-at front lastByte [] 0 i (front-length ∙ sym e)
 
-  front-is : (i : ℕ) → i < n / 8 → getD (front ++ (last ∷ [])) i 0 ≡ getD nulls i 0
-  front-is i l = List·getD-append front (last ∷ []) 0 i (omega (arith, front-length)) ∙ getD-take (n / 8) nulls i 0 l
+  front-is : (i : ℕ) → i < n / 8 → getD (front ++ (lastByte ∷ [])) i 0 ≡ getD nulls i 0
+  front-is i l = List·getD-append front (lastByte ∷ []) 0 i (omega (arith, front-length)) ∙ getD-take (n / 8) nulls i 0 l
 
   -- each of the n bits is what it was
   pub fill-kept : (k : ℕ) → k < n → bitLsb0 (filled n nulls) k ≡ bitLsb0 nulls k
   unfolding bitLsb0
   fill-kept k l = go (eqb (n % 8) 0) refl
     where
-      in-last : n / 8 ≤ k / 8 → digit (getD (front ++ (last ∷ [])) (k / 8) 0) (k % 8) ≡ digit (getD nulls (k / 8) 0) (k % 8)
+      in-last : n / 8 ≤ k / 8 → digit (getD (front ++ (lastByte ∷ [])) (k / 8) 0) (k % 8) ≡ digit (getD nulls (k / 8) 0) (k % 8)
       in-last m =
           let i : k / 8 ≡ n / 8 = omega arith in
           let j : k % 8 < n % 8 = omega arith in
@@ -133,7 +116,7 @@ module _ (n : ℕ) (nulls : List ℕ) (h : length nulls ≡ bytesFor n) where
           ∙ ap (λ (x : ℕ). digit (getD nulls x 0) (k % 8)) (sym i)
 
       go : (t : Bool) → eqb (n % 8) 0 ≡ t → digit (getD (filled n nulls) (k / 8) 0) (k % 8) ≡ digit (getD nulls (k / 8) 0) (k % 8)
-      go true e = rw (fill-none (eqb-true (n % 8) 0 e))
+      go true e = rw (fill-whole (eqb-true (n % 8) 0 e))
       go false e = rw (fill-last e) (dite (decLe (n / 8) (k / 8)) in-last (λ m. ap (λ (x : ℕ). digit x (k % 8)) (front-is (k / 8) (omega arith))))
 
   -- and each behind them, to the end of the last byte, is set
@@ -169,13 +152,13 @@ last-set d l k x h m =
 
 -- ---- null bits at a buffer's head, as the code puts them there: as they are, and then the last byte anew if it has spare bits
 module _ (d nulls : List ℕ) (n : ℕ) (h : length nulls ≡ bytesFor n) (m : length nulls ≤ length d) where
-  kept : leftOf d (store d 0 nulls) ≡ stored d 0 nulls
-  kept = rw (store-fits d nulls 0 (omega arith))
+  left-stored : leftOf d (store d 0 nulls) ≡ stored d 0 nulls
+  left-stored = rw (store-fits d nulls 0 (omega arith))
 
   pub put-whole : n % 8 ≡ 0 → leftOf d (store d 0 nulls) ≡ stored d 0 (filled n nulls)
-  put-whole e = kept ∙ ap (stored d 0) (sym (fill-none n nulls h e))
+  put-whole e = left-stored ∙ ap (stored d 0) (sym (fill-whole n nulls h e))
 
   pub put-spare : (n % 8 ≡ 0 → ⊥) → set (leftOf d (store d 0 nulls)) (n / 8) (spareSet (n % 8) (getD nulls (n / 8) 0)) ≡ stored d 0 (filled n nulls)
   put-spare e =
-      rw (kept, fill-last n nulls h (ne-eqb (n % 8) 0 e))
+      rw (left-stored, fill-last n nulls h (ne-eqb (n % 8) 0 e))
       (last-set d nulls (n / 8) (spareSet (n % 8) (getD nulls (n / 8) 0)) (omega arith) m)

@@ -1,6 +1,6 @@
 -- Which present column comes first from a column on, and which come after it; how many bits are set. Assumes nothing.
 use Prim.Native.Nat.{ℕ, zero, suc, _+_, _-_, _≤_, _<_}
-use mathlib.Core.Path.{_≡_, refl, sym, ap, subst, _∙_}
+use mathlib.Core.Path.{_≡_, refl, sym, ap, _∙_}
 use mathlib.Core.Bool.{Bool, true, false, cond}
 use mathlib.Core.List.{List, [], _∷_}
 use native.Mathlib.Nat.{add-zero}
@@ -22,30 +22,30 @@ pub count-not : (p : List ℕ) (j : ℕ) → bitLsb0 p j ≡ false → countBits
 unfolding countBits
 count-not p j e = rw e (add-zero (countBits p j))
 
-pub first-end : (s : List ℕ) (j : ℕ) → firstFrom 0 s j ≡ j
+first-end : (s : List ℕ) (j : ℕ) → firstFrom 0 s j ≡ j
 unfolding firstFrom
 first-end s j = refl
 
-pub first-here : (m : ℕ) (s : List ℕ) (j : ℕ) → bitLsb0 s j ≡ true → firstFrom (suc m) s j ≡ j
+first-here : (m : ℕ) (s : List ℕ) (j : ℕ) → bitLsb0 s j ≡ true → firstFrom (suc m) s j ≡ j
 unfolding firstFrom
 first-here m s j e = rw e
 
-pub first-on : (m : ℕ) (s : List ℕ) (j : ℕ) → bitLsb0 s j ≡ false → firstFrom (suc m) s j ≡ firstFrom m s (suc j)
+first-on : (m : ℕ) (s : List ℕ) (j : ℕ) → bitLsb0 s j ≡ false → firstFrom (suc m) s j ≡ firstFrom m s (suc j)
 unfolding firstFrom
 first-on m s j e = rw e
 
 -- what is true of the first one
-pub record First (m : ℕ) (p : List ℕ) (j f : ℕ) : Type 0 where
+pub record IsFirst (m : ℕ) (p : List ℕ) (j f : ℕ) : Type 0 where
   pub low : j ≤ f
   pub high : f ≤ j + m
   pub rank : countBits p f ≡ countBits p j
   pub found : f < j + m → bitLsb0 p f ≡ true
 
-pub first-is : (m : ℕ) (p : List ℕ) (j : ℕ) → First m p j (firstFrom m p j)
+pub first-is : (m : ℕ) (p : List ℕ) (j : ℕ) → IsFirst m p j (firstFrom m p j)
 first-is zero p j = rw (first-end p j) (record { low = omega arith; high = omega arith; rank = refl; found = λ h. absurd (omega arith) })
 first-is (suc m) p j = go (first-is m p (suc j)) (bitLsb0 p j) refl
   where
-    go : First m p (suc j) (firstFrom m p (suc j)) → (b : Bool) → bitLsb0 p j ≡ b → First (suc m) p j (firstFrom (suc m) p j)
+    go : IsFirst m p (suc j) (firstFrom m p (suc j)) → (b : Bool) → bitLsb0 p j ≡ b → IsFirst (suc m) p j (firstFrom (suc m) p j)
     go i true e = rw (first-here m p j e) (record { low = omega arith; high = omega arith; rank = refl; found = λ h. e })
     go i false e =
         rw (first-on m p j e) (record { low = omega (arith, i .low); high = omega (arith, i .high); rank = i .rank ∙ count-not p j e; found = λ h. i .found (omega arith) })
@@ -101,7 +101,7 @@ pub count-more : (s : List ℕ) (n : ℕ) → countBits s (n + 1) ≡ countBits 
 unfolding countBits
 count-more s n = rw add-one
 
-pub weight-small : (b : Bool) → cond b 1 0 ≤ 1
+weight-small : (b : Bool) → cond b 1 0 ≤ 1
 weight-small true = omega arith
 weight-small false = omega arith
 
@@ -109,19 +109,6 @@ pub count-at-most : (s : List ℕ) (n : ℕ) → countBits s n ≤ n
 unfolding countBits
 count-at-most s zero = omega arith
 count-at-most s (suc n) = omega (arith, count-at-most s n, weight-small (bitLsb0 s n))
-
-pub count-le : (s : List ℕ) (i n : ℕ) → countBits s i ≤ countBits s (i + n)
-count-le s i zero = let e : i + 0 ≡ i = omega arith in rw e (omega arith)
-count-le s i (suc n) =
-    let e : i + suc n ≡ i + n + 1 = omega arith in
-    rw e (omega (arith, count-le s i n, count-more s (i + n)))
-
--- a set bit below n is counted
-pub count-below : (s : List ℕ) (i n : ℕ) → i < n → bitLsb0 s i ≡ true → countBits s i < countBits s n
-count-below s i n h e =
-    let k : suc i + (n - suc i) ≡ n = omega arith in
-    let l : countBits s (suc i) ≤ countBits s n = subst (λ (m : ℕ). countBits s (suc i) ≤ countBits s m) k (count-le s (suc i) (n - suc i)) in
-    omega (arith, count-set s i e)
 
 -- ---- with their null bits
 abbrev pub slotAt : List ℕ → List ℕ → List ℕ → ℕ → Slot

@@ -26,13 +26,14 @@ use Rattle.image.specs.Present.{Present, countBits, presentFrom, present
 use Rattle.image.specs.Split.{Slot, slots, slotsAt, cursor, firstCursor, stepFrom}
 use Rattle.image.specs.Walk.{Walked, walkSteps, walkFrom, walk}
 use Rattle.image.specs.Rows.{Row, inDomains, rowBytes, answersOf, Marks, Says, read, short, broken, Among, Refusals, in-nulls, at-column}
+use Rattle.image.proofs.Heads.{Over, nullBytes, head-is}
 use Rattle.image.proofs.Slots.{inCell}
-use Rattle.image.proofs.Splits.{readSlots, Split, all, stops, Each, each-at, split, split-back}
+use Rattle.image.proofs.Splits.{readSlots, Split, through, stops, Each, each-at, read-split, split-back}
 use Rattle.image.proofs.Presents.{present-length, good-from, good-present, among-present, present-same, slots-same, slots-front, slots-all}
-use Rattle.image.proofs.Walks.{Over, nullBytes, head-is, steps-read}
+use Rattle.image.proofs.Walks.{steps-read}
 
 -- ---- the walk, without steps
-pub walk-read : (r p nulls s : List ℕ) → Over r p → length nulls ≡ bytesFor (length (present r p))
+walk-read : (r p nulls s : List ℕ) → Over r p → length nulls ≡ bytesFor (length (present r p))
     → walk r p (nulls ++ s) ≡ readSlots (slots (present r p) 0 nulls) s (length nulls)
 unfolding walk firstCursor
 walk-read r p nulls s u l =
@@ -55,7 +56,7 @@ walk-short r p im u l =
 
 -- ---- every image
 says : (cs : List Present) (nulls s im : List ℕ) (w : Walked) → length nulls ≡ bytesFor (length cs) → im ≡ nulls ++ s → Split cs 0 nulls s (length nulls) w → Says cs im w
-says cs nulls s im _ l e (all ds rest d m q) = read nulls rest ds l d m (e ∙ ap (λ (x : List ℕ). nulls ++ x) q)
+says cs nulls s im _ l e (through ds rest d m q) = read nulls rest ds l d m (e ∙ ap (λ (x : List ℕ). nulls ++ x) q)
 says cs nulls s im _ l e (stops before c behind ds rest n x d m v q f) =
     broken nulls rest before c behind ds n x l d m (rw zero-add at v) (e ∙ ap (λ (y : List ℕ). nulls ++ y) q) f
 
@@ -69,7 +70,7 @@ every-image r p im v b y =
     let l = length-take-le o im h in
     let e = sym (take-append-drop o im) in
     says cs (take o im) (drop o im) im (walk r p im) l e
-    (rw (ap (walk r p) e ∙ walk-read r p (take o im) (drop o im) u l) (split cs 0 (take o im) (drop o im) (length (take o im)) (good-present r p v) (bytes-drop o im y))))
+    (rw (ap (walk r p) e ∙ walk-read r p (take o im) (drop o im) u l) (read-split cs 0 (take o im) (drop o im) (length (take o im)) (good-present r p v) (bytes-drop o im y))))
     (λ h.
     let s : length im < o = omega arith in
     rw (walk-short r p im u s) (short s))
@@ -81,7 +82,7 @@ unfolding slotsAt
 every-cursor r p im c u w h b y =
     let n = countOf r in
     rw (steps-read (suc n) r p im c u w h b (omega arith))
-    (split (presentFrom (n - c .column) r p (c .column)) (countBits p (c .column)) im (drop (c .offset) im) (c .offset) (good-from (n - c .column) r p (c .column) (u .valid) (omega arith))
+    (read-split (presentFrom (n - c .column) r p (c .column)) (countBits p (c .column)) im (drop (c .offset) im) (c .offset) (good-from (n - c .column) r p (c .column) (u .valid) (omega arith))
     (bytes-drop (c .offset) im y))
 
 -- ---- and no other answers
@@ -90,7 +91,7 @@ only-says r p im _ v b (read nulls rest ds l d m e) =
     let u : Over r p = record { valid = v; bits = b } in
     ap (walk r p) e
     ∙ walk-read r p nulls (rowBytes (present r p) ds ++ rest) u l
-    ∙ split-back (present r p) 0 nulls _ (length nulls) _ (good-present r p v) (all ds rest d m refl)
+    ∙ split-back (present r p) 0 nulls _ (length nulls) _ (good-present r p v) (through ds rest d m refl)
 only-says r p im _ v b (short l) = walk-short r p im (record { valid = v; bits = b }) l
 only-says r p im _ v b (broken nulls rest before c behind ds n x l d m k e f) =
     let u : Over r p = record { valid = v; bits = b } in

@@ -1,5 +1,4 @@
--- Every row on paper can be given to the writer: values with their bytes, and null bits written one by one. So every row in the domains has an image that is written
--- and read back. Assumes nothing.
+-- Every row on paper can be given to the writer: values with their bytes, and null bits written one by one. Assumes nothing.
 use Prim.Native.Nat.{ℕ, suc, _+_, _-_, _*_, _/_, _≤_, _<_}
 use mathlib.Core.Path.{_≡_, refl, sym, ap, subst, _∙_}
 use mathlib.Core.Bool.{Bool, true}
@@ -18,11 +17,11 @@ use Rattle.value.specs.Storing.{startOf, lenOf, isLent}
 use Rattle.record.specs.Records.{countOf, recordValid}
 use Rattle.image.specs.Present.{present}
 use Rattle.image.specs.Rows.{Row, isNull, inDomains, Marks}
-use Rattle.image.specs.Given.{Given, rowOf, areLent, writeRow, imageSize, Wrote}
-use Rattle.image.proofs.Gives.{marks-same, written}
+use Rattle.image.specs.WriteRow.{LentValue, rowOf, areLent, Fit}
+use Rattle.image.proofs.WriteRows.{marks-same}
 
 -- ---- a value, with just its bytes beside it
-unfoldable pub give : Datum → Given
+unfoldable give : Datum → LentValue
 unfolding bytesIn placed
 give d = record { lent = bytesIn d; value = placed (length (bytesIn d)) d }
 
@@ -50,7 +49,7 @@ give-lent (year n) = refl
 give-lent (when t) = refl
 give-lent (bytes b) = le-leb (length b - length b + length b) (length b) (omega arith)
 
-unfoldable pub giveRow : Row → List Given
+unfoldable giveRow : Row → List LentValue
 unfolding give
 giveRow [] = []
 giveRow (d ∷ ds) = give d ∷ giveRow ds
@@ -69,7 +68,7 @@ give-all (d ∷ ds) = rw (give-lent d) (give-all ds)
 abbrev bitWritten : List ℕ → ℕ → Bool → List ℕ
 bitWritten s i on = stored s (i / 8) (withDigit (getD s (i / 8) 0) (lsb0 i) on ∷ [])
 
-unfoldable pub marked : List ℕ → ℕ → Row → List ℕ
+unfoldable marked : List ℕ → ℕ → Row → List ℕ
 unfolding stored withDigit isNull
 marked s k [] = s
 marked s k (d ∷ ds) = bitWritten (marked s (suc k) ds) k (isNull d)
@@ -86,7 +85,7 @@ marked-is s k (d ∷ ds) h =
       (lsb0-written t k (isNull d) b, marks-same ds (suc k) t (bitWritten t k (isNull d)) (λ j g f. lsb0-kept t k j (isNull d) b (λ e. omega arith)) (i .1)),
     )
 
-unfoldable pub nullsOf : Row → List ℕ
+unfoldable nullsOf : Row → List ℕ
 unfolding marked
 nullsOf ds = marked (replicate (bytesFor (length ds)) 0) 0 ds
 
@@ -97,21 +96,19 @@ nulls-of ds =
     let w = marked-is (replicate (bytesFor (length ds)) 0) 0 ds (omega arith) in
     (w .0 ∙ z, w .1)
 
--- ---- so every row in the domains is written, given room, and read back
-pub every-row-written : (r p buf : List ℕ) (ds : Row) → recordValid r ≡ true → length p ≡ bytesFor (countOf r) → inDomains (present r p) ds ≡ true
-    → imageSize r p (nullsOf ds) ds ≤ length buf
-    → Wrote r p (nullsOf ds) ds buf (writeRow r p (nullsOf ds) (giveRow ds) buf)
-every-row-written r p buf ds v b d h =
+-- ---- so no row in the domains is left out
+pub every-row-given : (r p : List ℕ) (ds : Row) → recordValid r ≡ true → length p ≡ bytesFor (countOf r) → inDomains (present r p) ds ≡ true
+    → (nulls : List ℕ) × (gs : List LentValue) × Fit r p nulls gs × (rowOf gs ≡ ds)
+every-row-given r p ds v b d =
     let n = nulls-of ds in
     let e = give-row ds in
-    subst (λ (x : Row). imageSize r p (nullsOf ds) x ≤ length buf → Wrote r p (nullsOf ds) x buf (writeRow r p (nullsOf ds) (giveRow ds) buf)) e
-    (written r p (nullsOf ds) (giveRow ds) buf
-    (record {
+    let f : Fit r p (nullsOf ds) (giveRow ds) =
+    record {
       valid = v;
       bits = b;
       row = subst (λ (x : Row). inDomains (present r p) x ≡ true) (sym e) d;
       lent = give-all ds;
       marks = subst (Marks (nullsOf ds) 0) (sym e) (n .1);
       size = subst (λ (x : Row). length (nullsOf ds) ≡ bytesFor (length x)) (sym e) (n .0);
-    }))
-    h
+    } in
+    (nullsOf ds, giveRow ds, f, e)

@@ -1,5 +1,5 @@
 -- The present columns of a record: how many they are, what holds of each, and which bits say all this. Assumes nothing.
-use Prim.Native.Nat.{ℕ, zero, suc, _+_, _-_, _*_, _/_, _≤_, _<_}
+use Prim.Native.Nat.{ℕ, zero, suc, _+_, _*_, _/_, _≤_, _<_}
 use mathlib.Core.Path.{_≡_, refl}
 use mathlib.Core.Bool.{Bool, true, false, cond}
 use mathlib.Core.List.{List, [], _∷_, _++_}
@@ -41,7 +41,7 @@ present-length r p =
     omega arith
 
 -- ---- what holds of each of the columns from j on whose bit is set
-each-from : (P : Present → Type 0) (m : ℕ) (r p : List ℕ) (j : ℕ) → ((i : ℕ) → i < j + m → bitLsb0 p i ≡ true → P (presentAt r i)) → Each P (presentFrom m r p j)
+pub each-from : (P : Present → Type 0) (m : ℕ) (r p : List ℕ) (j : ℕ) → ((i : ℕ) → i < j + m → bitLsb0 p i ≡ true → P (presentAt r i)) → Each P (presentFrom m r p j)
 unfolding Each presentFrom
 each-from P zero r p j h = tt
 each-from P (suc m) r p j h = go (each-from P m r p (suc j) (λ i a. h i (omega arith))) (bitLsb0 p j) refl

@@ -47,6 +47,10 @@ put-refused buf e = rw e (refl, refl)
 pub put-next : {w : Outcome (Cursor × List ℕ)} {c : Cursor} {x : List ℕ} (buf : List ℕ) → w ≡ ok (c, x) → Puts buf w (Next c) x
 put-next buf e = rw e (refl, refl)
 
+-- no bytes, stored within the buffer or at its end
+pub store-none : (d : List ℕ) (at : ℕ) → at ≤ length d → store d at [] ≡ ok (at, d)
+store-none d at h = store-fits d [] at (omega arith) ∙ rw (add-zero at, stored-none d at)
+
 -- ---- the start
 module _ (r p nulls buf : List ℕ) {h : Head} (e : headNulls r p nulls ≡ ok h) where
   tested : Tested r p h
@@ -59,16 +63,16 @@ module _ (r p nulls buf : List ℕ) {h : Head} (e : headNulls r p nulls ≡ ok h
   pub nulls-fit : h .nulls ≤ length buf → length nulls ≤ length buf
   nulls-fit l = omega (arith, nulls-tested r p nulls e .1)
 
-  size : length (filled (countBits p (h .columns)) nulls) ≡ h .nulls
-  size = fill-length (countBits p (h .columns)) nulls (nulls-size (countBits p (h .columns)) refl) ∙ nulls-tested r p nulls e .1
+  filled-size : length (filled (countBits p (h .columns)) nulls) ≡ h .nulls
+  filled-size = fill-length (countBits p (h .columns)) nulls (nulls-size (countBits p (h .columns)) refl) ∙ nulls-tested r p nulls e .1
 
   pub start-full : length buf < h .nulls → startImage r p nulls buf ≡ refuse 8 0
   unfolding startImage
-  start-full l = rw (e, store-full buf (filled (countBits p (h .columns)) nulls) 0 (omega (arith, size)))
+  start-full l = rw (e, store-full buf (filled (countBits p (h .columns)) nulls) 0 (omega (arith, filled-size)))
 
   start-goes : h .nulls ≤ length buf → startImage r p nulls buf ≡ ok (cursor 0 (h .nulls), stored buf 0 (filled (countBits p (h .columns)) nulls))
   unfolding startImage
-  start-goes l = rw (e, store-fits buf (filled (countBits p (h .columns)) nulls) 0 (omega (arith, size)))
+  start-goes l = rw (e, store-fits buf (filled (countBits p (h .columns)) nulls) 0 (omega (arith, filled-size)))
 
   -- n being the count that the code made, and x the buffer
   pub start-done : (n : ℕ) (x : List ℕ) → n ≡ countBits p (h .columns) → x ≡ stored buf 0 (filled n nulls) → h .nulls ≤ length buf
@@ -120,9 +124,7 @@ module _
     put-null-full i b l = put-null i b ∙ ap (behind (f + 1)) (store-full buf [] (s .offset) (omega arith))
 
     pub put-null-goes : isNull (datumOf lent v) ≡ true → bitLsb0 nulls (s .rank) ≡ true → s .offset ≤ length buf → put ≡ ok (cursor (f + 1) (s .offset), buf)
-    put-null-goes i b l =
-        let w : store buf (s .offset) [] ≡ ok (s .offset, buf) = store-fits buf [] (s .offset) (omega arith) ∙ rw (add-zero (s .offset), stored-none buf (s .offset)) in
-        put-null i b ∙ ap (behind (f + 1)) w
+    put-null-goes i b l = put-null i b ∙ ap (behind (f + 1)) (store-none buf (s .offset) l)
 
     -- the value as the record's column stores it
     module _ (i : isNull (datumOf lent v) ≡ false) (b : bitLsb0 nulls (s .rank) ≡ false) {k : Column} (g : k ≡ columnOf (entryIn r f)) where

@@ -24,9 +24,9 @@ use Rattle.image.specs.Split.{Slot}
 use Rattle.image.specs.Rows.{isNull}
 
 -- ---- NULL is one datum, and no column's domain has it
-pub null-is : (d : Datum) → isNull d ≡ true → d ≡ null
+only-null : (d : Datum) → isNull d ≡ true → d ≡ null
 unfolding isNull
-null-is d e = sym (is-made d) ∙ ap (λ (k : ℕ). made k d) (eqb-true (tag d) 0 e)
+only-null d e = sym (is-made d) ∙ ap (λ (k : ℕ). made k d) (eqb-true (tag d) 0 e)
 
 no-null : (sh : Shape) → domain sh null ≡ true → ⊥
 unfolding domain tag
@@ -44,12 +44,12 @@ pub not-null : (sh : Shape) (d : Datum) → domain sh d ≡ true → isNull d �
 not-null sh d h = go (isNull d) refl
   where
     go : (b : Bool) → isNull d ≡ b → isNull d ≡ false
-    go true e = absurd (no-null sh (subst (λ (x : Datum). domain sh x ≡ true) (null-is d e) h))
+    go true e = absurd (no-null sh (subst (λ (x : Datum). domain sh x ≡ true) (only-null d e) h))
     go false e = e
 
-pub is-null : isNull null ≡ true
+null-is-null : isNull null ≡ true
 unfolding isNull tag
-is-null = refl
+null-is-null = refl
 
 -- ---- one of a row: whether its column takes it, and its bytes
 abbrev pub inCell : Present → Datum → Bool
@@ -70,7 +70,7 @@ unfolding readSlot
 slot-back i d rest h e = go (isNull d) refl
   where
     go : (b : Bool) → isNull d ≡ b → readSlot i (cell (i .present) d ++ rest) ≡ ok (d, length (cell (i .present) d))
-    go true n = rw (e, n) (ap (λ (x : Datum). ok (x, 0)) (sym (null-is d n)))
+    go true n = rw (e, n) (ap (λ (x : Datum). ok (x, 0)) (sym (only-null d n)))
     go false n = rw (e, n) (back (i .present .shape) d (i .present .column) rest (rw n at h))
 
 -- what a reading that went well says
@@ -88,7 +88,7 @@ slot-sound i s d n z h e = go (i .null) refl
     go true m =
         let o = same-ok (rw m at e) in
         let x : null ≡ d = ap (λ (y : Datum × ℕ). y .0) o in
-        let y : isNull d ≡ true = ap isNull (sym x) ∙ is-null in
+        let y : isNull d ≡ true = ap isNull (sym x) ∙ null-is-null in
         let k : 0 ≡ n = ap (λ (y : Datum × ℕ). y .1) o in
         record { marked = m ∙ sym y; inside = rw y; fits = omega arith; bytes = rw (y, ← k) }
     go false m =

@@ -26,16 +26,16 @@ null-anywhere s t (When w) = refl
 null-anywhere s t (Bytes start len) = refl
 
 -- and no other value is
-pub not-null : (v : Value) → OneOf (1 ∷ 2 ∷ 3 ∷ 4 ∷ 5 ∷ 6 ∷ 7 ∷ []) (tagOf the-type v) → isNull (datumOf [] v) ≡ false
+pub others-not-null : (v : Value) → OneOf (1 ∷ 2 ∷ 3 ∷ 4 ∷ 5 ∷ 6 ∷ 7 ∷ []) (tagOf the-type v) → isNull (datumOf [] v) ≡ false
 unfolding isNull datumOf
-not-null Null o = absurd (miss (1 ∷ 2 ∷ 3 ∷ 4 ∷ 5 ∷ 6 ∷ 7 ∷ []) 0 tt o)
-not-null (Int z) o = refl
-not-null (Uint n) o = refl
-not-null (Float n) o = refl
-not-null (Double n) o = refl
-not-null (Year n) o = refl
-not-null (When w) o = refl
-not-null (Bytes start len) o = refl
+others-not-null Null o = absurd (miss (1 ∷ 2 ∷ 3 ∷ 4 ∷ 5 ∷ 6 ∷ 7 ∷ []) 0 tt o)
+others-not-null (Int z) o = refl
+others-not-null (Uint n) o = refl
+others-not-null (Float n) o = refl
+others-not-null (Double n) o = refl
+others-not-null (Year n) o = refl
+others-not-null (When w) o = refl
+others-not-null (Bytes start len) o = refl
 
 none-either-way : (b : Bool) → _≡_ {A = List ℕ} (cond b [] []) []
 none-either-way true = refl

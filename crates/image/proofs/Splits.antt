@@ -18,13 +18,13 @@ use Rattle.value.specs.Shapes.{Sized}
 use Rattle.value.specs.Reading.{Fails}
 use Rattle.image.specs.Present.{Present}
 use Rattle.image.specs.Split.{Slot, slots}
-use Rattle.image.specs.Walk.{Walked, stopped, and}
+use Rattle.image.specs.Walk.{Walked, stopped, withAnswer}
 use Rattle.image.specs.Rows.{Row, inDomains, rowBytes, answersOf, Marks}
 use Rattle.image.proofs.Slots.{inCell, cell, readSlot, slot-back, Held, slot-sound, slot-fails, slot-fails-back}
 
 -- ---- the reading: s is what is left of the image at offset o
 abbrev pub answered : ℕ → (ℕ → Walked) → Outcome (Datum × ℕ) → Walked
-answered j f (ok x) = and (j, x .0) (f (x .1))
+answered j f (ok x) = withAnswer (j, x .0) (f (x .1))
 answered j f (refused w) = stopped (refused w)
 
 unfoldable pub readSlots : List Slot → List ℕ → ℕ → Walked
@@ -34,7 +34,7 @@ readSlots (i ∷ is) s o = answered (i .present .column) (λ n. readSlots is (dr
 
 -- what the bytes s must be for the answers that they get: the values of the columns one after the other; or up to a column whose bytes are no value
 pub data Split (cs : List Present) (k : ℕ) (nulls s : List ℕ) (o : ℕ) : Walked → Type 0 where
-  all : (ds : Row) (rest : List ℕ) → inDomains cs ds ≡ true → Marks nulls k ds → s ≡ rowBytes cs ds ++ rest
+  through : (ds : Row) (rest : List ℕ) → inDomains cs ds ≡ true → Marks nulls k ds → s ≡ rowBytes cs ds ++ rest
       → Split cs k nulls s o (record { answers = answersOf cs ds; how = ok (o + length (rowBytes cs ds)) })
   stops : (before : List Present) (c : Present) (behind : List Present) (ds : Row) (rest : List ℕ) (n : ℕ) → cs ≡ before ++ (c ∷ behind)
       → inDomains before ds ≡ true → Marks nulls k ds → bitLsb0 nulls (k + length before) ≡ false → s ≡ rowBytes before ds ++ rest → Fails (c .shape) rest n
@@ -62,14 +62,14 @@ joined b s x rest n e q =
     sym (take-append-drop n s) ∙ ap (λ (y : List ℕ). y ++ drop n s) (sym e) ∙ ap (λ (y : List ℕ). b ++ y) q ∙ sym (append-assoc b x rest)
 
 split-more : (c : Present) (cs : List Present) (k : ℕ) (nulls s : List ℕ) (o : ℕ) (d : Datum) (n : ℕ) (w : Walked)
-    → Held (record { present = c; null = bitLsb0 nulls k }) s d n → Split cs (suc k) nulls (drop n s) (o + n) w → Split (c ∷ cs) k nulls s o (and (c .column, d) w)
+    → Held (record { present = c; null = bitLsb0 nulls k }) s d n → Split cs (suc k) nulls (drop n s) (o + n) w → Split (c ∷ cs) k nulls s o (withAnswer (c .column, d) w)
 unfolding inDomains rowBytes answersOf Marks
-split-more c cs k nulls s o d n _ h (all ds rest g m q) =
+split-more c cs k nulls s o d n _ h (through ds rest g m q) =
     let b = cell c d in
     let z : o + n + length (rowBytes cs ds) ≡ o + length (b ++ rowBytes cs ds) =
     rw (length-append b (rowBytes cs ds), h .bytes, length-take-le n s (h .fits)) (add-assoc o n (length (rowBytes cs ds))) in
     subst (λ (x : ℕ). Split (c ∷ cs) k nulls s o (record { answers = (c .column, d) ∷ answersOf cs ds; how = ok x })) (sym z)
-    (all (d ∷ ds) rest (rw (h .inside) g) (h .marked, m) (joined b s (rowBytes cs ds) rest n (h .bytes) q))
+    (through (d ∷ ds) rest (rw (h .inside) g) (h .marked, m) (joined b s (rowBytes cs ds) rest n (h .bytes) q))
 split-more c cs k nulls s o d n _ h (stops before c′ behind ds rest m e g marks v q z) =
     let j : suc k + length before ≡ k + suc (length before) = omega arith in
     stops (c ∷ before) c′ behind (d ∷ ds) rest m (ap (λ (l : List Present). c ∷ l) e) (rw (h .inside) g) (h .marked, marks) (rw j at v)
@@ -80,10 +80,10 @@ split-stops : (c : Present) (cs : List Present) (k : ℕ) (nulls s : List ℕ) (
 unfolding inDomains rowBytes answersOf Marks
 split-stops c cs k nulls s o n e z = stops [] c cs [] s n refl refl tt (rw add-zero e) refl z
 
-pub split : (cs : List Present) (k : ℕ) (nulls s : List ℕ) (o : ℕ) → Each Good cs → Bytes s → Split cs k nulls s o (readSlots (slots cs k nulls) s o)
+pub read-split : (cs : List Present) (k : ℕ) (nulls s : List ℕ) (o : ℕ) → Each Good cs → Bytes s → Split cs k nulls s o (readSlots (slots cs k nulls) s o)
 unfolding readSlots slots Each inDomains rowBytes answersOf Marks
-split [] k nulls s o g h = subst (λ (x : ℕ). Split [] k nulls s o (stopped (ok x))) (add-zero o) (all [] s refl tt refl)
-split (c ∷ cs) k nulls s o g h = go (λ n. split cs (suc k) nulls (drop n s) (o + n) (g .1) (bytes-drop n s h)) (readSlot i s) refl
+read-split [] k nulls s o g h = subst (λ (x : ℕ). Split [] k nulls s o (stopped (ok x))) (add-zero o) (through [] s refl tt refl)
+read-split (c ∷ cs) k nulls s o g h = go (λ n. read-split cs (suc k) nulls (drop n s) (o + n) (g .1) (bytes-drop n s h)) (readSlot i s) refl
   where
     i : Slot
     i = record { present = c; null = bitLsb0 nulls k }
@@ -98,13 +98,13 @@ split (c ∷ cs) k nulls s o g h = go (λ n. split cs (suc k) nulls (drop n s) (
 
 -- ---- and the other way
 -- answers, and behind them those of a walk
-abbrev pub preceded : List (ℕ × Datum) → Walked → Walked
-preceded a w = record { answers = a ++ w .answers; how = w .how }
+abbrev withAnswers : List (ℕ × Datum) → Walked → Walked
+withAnswers a w = record { answers = a ++ w .answers; how = w .how }
 
 -- the bytes of a row are read back, and then the columns behind it
-pub read-row : (cs more : List Present) (ds : Row) (k : ℕ) (nulls rest : List ℕ) (o : ℕ) → inDomains cs ds ≡ true → Marks nulls k ds
+read-row : (cs more : List Present) (ds : Row) (k : ℕ) (nulls rest : List ℕ) (o : ℕ) → inDomains cs ds ≡ true → Marks nulls k ds
     → readSlots (slots (cs ++ more) k nulls) (rowBytes cs ds ++ rest) o
-    ≡ preceded (answersOf cs ds) (readSlots (slots more (k + length cs) nulls) rest (o + length (rowBytes cs ds)))
+    ≡ withAnswers (answersOf cs ds) (readSlots (slots more (k + length cs) nulls) rest (o + length (rowBytes cs ds)))
 unfolding readSlots slots inDomains Marks rowBytes answersOf
 read-row [] more [] k nulls rest o h m = rw (add-zero k, add-zero o)
 read-row [] more (d ∷ ds) k nulls rest o h m = absurd (true≢false (sym h))
@@ -125,7 +125,7 @@ read-row (c ∷ cs) more (d ∷ ds) k nulls rest o h m =
 
 pub split-back : (cs : List Present) (k : ℕ) (nulls s : List ℕ) (o : ℕ) (w : Walked) → Each Good cs → Split cs k nulls s o w → readSlots (slots cs k nulls) s o ≡ w
 unfolding readSlots slots
-split-back cs k nulls s o _ g (all ds rest h m q) =
+split-back cs k nulls s o _ g (through ds rest h m q) =
     ap (λ (l : List Present). readSlots (slots l k nulls) s o) (sym (append-nil cs))
     ∙ ap (λ (l : List ℕ). readSlots (slots (cs ++ []) k nulls) l o) q
     ∙ read-row cs [] ds k nulls rest o h m

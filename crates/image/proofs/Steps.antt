@@ -24,25 +24,25 @@ use Rattle.image.specs.declared.step.Standing.{Standing}
 use Rattle.image.specs.Present.{countBits, firstFrom, shapeAt}
 use Rattle.image.specs.Split.{cursor, slotsAt, headOf, Told, null, value, end, stepOver, stepFrom}
 use Rattle.image.specs.Inner.{Placed}
-use Rattle.image.proofs.Firsts.{First, first-is, presentAt, count-set, count-at-most, slots-end, slots-first}
+use Rattle.image.proofs.Firsts.{IsFirst, first-is, presentAt, count-set, count-at-most, slots-end, slots-first}
 
 -- the slots from a cursor on, f being the first present column from it on
 module _ {r p : List ℕ} {n : ℕ} {s : Standing} (h : Placed r p n s) {f : ℕ} (e : f ≡ firstFrom (n - s .column) p (s .column)) where
   here : firstFrom (countOf r - s .column) p (s .column) ≡ f
   here = ap (λ (m : ℕ). firstFrom (m - s .column) p (s .column)) (sym (h .count)) ∙ sym e
 
-  facts : First (n - s .column) p (s .column) f
-  facts = subst (First (n - s .column) p (s .column)) (sym e) (first-is (n - s .column) p (s .column))
+  facts : IsFirst (n - s .column) p (s .column) f
+  facts = subst (IsFirst (n - s .column) p (s .column)) (sym e) (first-is (n - s .column) p (s .column))
 
-  pub below : (f ≡ n → ⊥) → f < n
-  below u = omega (arith, facts .high, h .column)
+  pub column-below : (f ≡ n → ⊥) → f < n
+  column-below u = omega (arith, facts .high, h .column)
 
   rank-is : countBits p f ≡ s .rank
   rank-is = facts .rank ∙ sym (h .rank)
 
   -- the rank behind it
   pub rank-next : (f ≡ n → ⊥) → s .rank + 1 ≡ countBits p (f + 1)
-  rank-next u = sym (ap (countBits p) (add-one f) ∙ count-set p f (facts .found (omega (arith, below u, h .column))) ∙ ap suc rank-is ∙ sym (add-one (s .rank)))
+  rank-next u = sym (ap (countBits p) (add-one f) ∙ count-set p f (facts .found (omega (arith, column-below u, h .column))) ∙ ap suc rank-is ∙ sym (add-one (s .rank)))
 
   -- which is no large number
   pub rank-small : s .rank ≤ 255
@@ -53,7 +53,7 @@ module _ {r p : List ℕ} {n : ℕ} {s : Standing} (h : Placed r p n s) {f : ℕ
 
   pub slots-some : (im : List ℕ) → (f ≡ n → ⊥) → slotsAt r p im (s .column) ≡ record { present = presentAt r f; null = bitLsb0 im (s .rank) } ∷ slotsAt r p im (f + 1)
   slots-some im u =
-      let w = rw here at (slots-first r p im (s .column) (omega (arith, h .column, h .count)) (omega (arith, here, h .count, below u))) in
+      let w = rw here at (slots-first r p im (s .column) (omega (arith, h .column, h .count)) (omega (arith, here, h .count, column-below u))) in
       rw rank-is at w
 
   module _ (im : List ℕ) (o : ℕ) where

@@ -7,55 +7,36 @@ use mathlib.Core.List.{List, [], _∷_}
 use native.Mathlib.Nat.{add-zero}
 use native.Mathlib.Decide.{decLe}
 use native.Mathlib.Omega.{arith}
-use borrow.Author.Tests.{le-ltb, eq-eqb}
 use lib.ListN.{length, drop, length-drop}
 use lib.Seq.{drop-drop}
 use Rattle.wire.specs.Outcome.{Outcome, ok, refused, after}
-use Rattle.wire.specs.Bits.{bytesFor}
 use Rattle.value.specs.declared.datum.Value.{Value}
 use Rattle.value.specs.Data.{Datum}
 use Rattle.value.specs.Reading.{readDatum, readValue, placed}
 use Rattle.value.proofs.Laws.{took, said-read}
-use Rattle.record.specs.Records.{countOf, recordValid, readRecord}
+use Rattle.record.specs.Records.{countOf}
 use Rattle.image.specs.declared.cursor.Cursor.{Cursor}
-use Rattle.image.specs.Present.{countBits, firstFrom}
-use Rattle.image.specs.Split.{Slot, slotsAt, cursor, head, headOf, value, stepOver, stepFrom}
+use Rattle.image.specs.Present.{firstFrom}
+use Rattle.image.specs.Split.{Slot, slotsAt, cursor, value, stepOver}
 use Rattle.image.specs.Walk.{Walked, onward, walkSteps}
 use Rattle.image.proofs.Firsts.{first-is, slotAt, slots-end, slots-first}
+use Rattle.image.proofs.Heads.{Over, nullBytes, head-is}
+use Rattle.image.proofs.Steps.{step-goes}
 use Rattle.image.proofs.Slots.{readSlot}
 use Rattle.image.proofs.Splits.{answered, readSlots}
 
--- ---- what image calls test first
-pub record Over (r p : List ℕ) : Type 0 where
-  pub valid : recordValid r ≡ true
-  pub bits : length p ≡ bytesFor (countOf r)
-
--- how many bytes of null bits
-abbrev pub nullBytes : List ℕ → List ℕ → ℕ
-nullBytes r p = bytesFor (countBits p (countOf r))
-
-pub head-is : (r p : List ℕ) → Over r p → headOf r p ≡ ok (head (countOf r) (nullBytes r p))
-unfolding headOf readRecord
-head-is r p u = rw (u .valid, eq-eqb (length p) (bytesFor (countOf r)) (u .bits))
-
--- ---- a step on what was tested
-pub step-is : (r p im : List ℕ) (c : Cursor) → Over r p → nullBytes r p ≤ length im → c .column ≤ countOf r → c .offset ≤ length im
-    → stepFrom r p im c ≡ stepOver (slotsAt r p im (c .column)) im (c .offset)
-unfolding stepFrom
-step-is r p im c u w h l =
-    rw (head-is r p u, le-ltb (countOf r) (c .column) h, le-ltb (length im) (nullBytes r p) w, le-ltb (length im) (c .offset) l)
-
+-- ---- a step and then the rest
 -- no column is left
-step-end : (w : Cursor → Walked) (im : List ℕ) (o : ℕ) → onward w im (stepOver [] im o) ≡ readSlots [] (drop o im) o
+onward-end : (w : Cursor → Walked) (im : List ℕ) (o : ℕ) → onward w im (stepOver [] im o) ≡ readSlots [] (drop o im) o
 unfolding stepOver readSlots
-step-end w im o = refl
+onward-end w im o = refl
 
 -- a step, and then whatever walks over the rest
-step-more : (w : Cursor → Walked) (i : Slot) (is : List Slot) (im : List ℕ) (o : ℕ) → o ≤ length im
+onward-more : (w : Cursor → Walked) (i : Slot) (is : List Slot) (im : List ℕ) (o : ℕ) → o ≤ length im
     → ((o′ : ℕ) → o′ ≤ length im → w (cursor (i .present .column + 1) o′) ≡ readSlots is (drop o′ im) o′)
     → onward w im (stepOver (i ∷ is) im o) ≡ readSlots (i ∷ is) (drop o im) o
 unfolding stepOver readSlots readSlot readValue
-step-more w i is im o l h = go (i .null) refl
+onward-more w i is im o l h = go (i .null) refl
   where
     read : (x : Outcome (Datum × ℕ)) → readDatum (i .present .shape) (i .present .column) (drop o im) ≡ x
         → onward w im (after (after {B = Value × ℕ} x (λ x. ok (placed (o + x .1) (x .0), o + x .1))) (λ x. ok (value (i .present .column) (x .0) (cursor (i .present .column + 1) (x .1)))))
@@ -79,10 +60,10 @@ steps-read (suc m) r p im c u w h b l =
     let j = c .column in
     let f = firstFrom (n - j) p j in
     let i = first-is (n - j) p j in
-    rw (step-is r p im c u w h b)
+    rw (step-goes r p im c (head-is r p u) h w b)
     (dite (decLe n f)
-    (λ a. rw (slots-end r p im j h a) (step-end (λ c. walkSteps m r p im c) im (c .offset)))
+    (λ a. rw (slots-end r p im j h a) (onward-end (λ c. walkSteps m r p im c) im (c .offset)))
     (λ a. let g : f < n = omega arith in
     rw (slots-first r p im j h g)
-    (step-more (λ c. walkSteps m r p im c) (slotAt r p im f) (slotsAt r p im (f + 1)) im (c .offset) b
+    (onward-more (λ c. walkSteps m r p im c) (slotAt r p im f) (slotsAt r p im (f + 1)) im (c .offset) b
     (λ o′ b′. steps-read m r p im (cursor (f + 1) o′) u w (omega arith) b′ (omega (arith, i .low))))))

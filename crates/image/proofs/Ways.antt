@@ -18,7 +18,7 @@ use Rattle.image.specs.declared.cursor.Cursor.{Cursor}
 use Rattle.image.specs.declared.cursor.Head.{Head}
 use Rattle.image.specs.Present.{firstFrom}
 use Rattle.image.specs.Split.{Slot, slots, slotsAt, cursor, headOf, Told, null as null₁, value, stepOver, stepFrom}
-use Rattle.image.specs.Walk.{Walked, and, onward, walkSteps, walkFrom}
+use Rattle.image.specs.Walk.{Walked, withAnswer, onward, walkSteps, walkFrom}
 use Rattle.image.proofs.Firsts.{first-is, slotAt, present-end, slots-end, slots-first}
 
 -- two ways on that agree on every cursor that a step can give agree behind the step
@@ -43,12 +43,12 @@ unfolding stepOver
 agree-more im f g i is o h = go (i .null)
   where
     read : (x : Outcome (Value × ℕ)) → Agree im f g (after x (λ x. ok (value (i .present .column) (x .0) (cursor (i .present .column + 1) (x .1)))))
-    read (ok x) = ap (and (i .present .column, datumOf im (x .0))) (h (x .1))
+    read (ok x) = ap (withAnswer (i .present .column, datumOf im (x .0))) (h (x .1))
     read (refused w) = refl
 
     go : (b : Bool) → Agree im f g (cond b (ok (null₁ (i .present .column) (cursor (i .present .column + 1) o)))
         (after (readValue (i .present .shape) (i .present .column) im o) (λ x. ok (value (i .present .column) (x .0) (cursor (i .present .column + 1) (x .1))))))
-    go true = ap (and (i .present .column, null)) (h o)
+    go true = ap (withAnswer (i .present .column, null)) (h o)
     go false = read (readValue (i .present .shape) (i .present .column) im o)
 
 none-past : (r p im : List ℕ) (j : ℕ) → countOf r < j → slotsAt r p im j ≡ []

@@ -24,41 +24,41 @@ use Rattle.image.specs.Split.{cursor, slots, slotsAt, headOf, firstCurso
 use Rattle.image.specs.Walk.{walkSteps, walk}
 use Rattle.image.specs.Rows.{isNull}
 use Rattle.image.specs.Puts.{filled, headNulls, startImage, slotBytes, putOver, putFrom}
-use Rattle.image.specs.Given.{Given, putRow, writeRow}
+use Rattle.image.specs.WriteRow.{LentValue, putRow, writeRow}
 
 -- INT, VARCHAR(20), TINYINT UNSIGNED
-abbrev pub rec : List ℕ
-rec = 0x18 ∷ 0 ∷ 1 ∷ 0 ∷ 3 ∷ 0 ∷ 3 ∷ 0x0c ∷ 0 ∷ 0 ∷ 0 ∷ 0 ∷ 0x0f ∷ 0x0a ∷ 0x14 ∷ 0 ∷ 0 ∷ 0 ∷ 1 ∷ 0x0d ∷ 0 ∷ 0 ∷ 0 ∷ 0 ∷ []
+abbrev profile : List ℕ
+profile = 0x18 ∷ 0 ∷ 1 ∷ 0 ∷ 3 ∷ 0 ∷ 3 ∷ 0x0c ∷ 0 ∷ 0 ∷ 0 ∷ 0 ∷ 0x0f ∷ 0x0a ∷ 0x14 ∷ 0 ∷ 0 ∷ 0 ∷ 1 ∷ 0x0d ∷ 0 ∷ 0 ∷ 0 ∷ 0 ∷ []
 
-abbrev pub row : List ℕ
+abbrev row : List ℕ
 row = 0xf8 ∷ 0xfe ∷ 0xff ∷ 0xff ∷ 0xff ∷ 2 ∷ 0x61 ∷ 0x62 ∷ 0xc8 ∷ []
 
 -- TINYINT, DATE, TINYINT
 abbrev dates : List ℕ
 dates = 0x18 ∷ 0 ∷ 1 ∷ 0 ∷ 3 ∷ 0 ∷ 1 ∷ 0x0c ∷ 0 ∷ 0 ∷ 0 ∷ 0 ∷ 0x0e ∷ 0x0a ∷ 0 ∷ 0 ∷ 0 ∷ 0 ∷ 1 ∷ 0x0c ∷ 0 ∷ 0 ∷ 0 ∷ 0 ∷ []
 
-pub worked : (walk rec (7 ∷ []) row ≡ record { answers = (0, int (negsuc 1)) ∷ (1, bytes (0x61 ∷ 0x62 ∷ [])) ∷ (2, uint 200) ∷ []; how = ok 9 })
+pub worked : (walk profile (7 ∷ []) row ≡ record { answers = (0, int (negsuc 1)) ∷ (1, bytes (0x61 ∷ 0x62 ∷ [])) ∷ (2, uint 200) ∷ []; how = ok 9 })
     -- the second column absent and the third NULL: its null bit is the second
-    × (walk rec (5 ∷ []) (0xfe ∷ 0xfe ∷ 0xff ∷ 0xff ∷ 0xff ∷ []) ≡ record { answers = (0, int (negsuc 1)) ∷ (2, null) ∷ []; how = ok 5 })
+    × (walk profile (5 ∷ []) (0xfe ∷ 0xfe ∷ 0xff ∷ 0xff ∷ 0xff ∷ []) ≡ record { answers = (0, int (negsuc 1)) ∷ (2, null) ∷ []; how = ok 5 })
     -- cut in the string's bytes: what stands before it is answered
-    × (walk rec (7 ∷ []) (take 7 row) ≡ record { answers = (0, int (negsuc 1)) ∷ []; how = refuse 9 1 })
+    × (walk profile (7 ∷ []) (take 7 row) ≡ record { answers = (0, int (negsuc 1)) ∷ []; how = refuse 9 1 })
     -- no null bits
-    × (walk rec (7 ∷ []) [] ≡ record { answers = []; how = refuse 9 0 })
+    × (walk profile (7 ∷ []) [] ≡ record { answers = []; how = refuse 9 0 })
     -- month 13, and then an image that ends before the last column: the earlier decides
     × (walk dates (7 ∷ []) (0xf8 ∷ 5 ∷ 0xa1 ∷ 0xa1 ∷ 0x0f ∷ []) ≡ record { answers = (0, int (pos 5)) ∷ []; how = refuse 10 1 })
     -- a record of another length, and presence bits of another length
-    × (walk (take 23 rec) (7 ∷ []) row ≡ record { answers = []; how = refuse 11 0 })
-    × (walk rec (7 ∷ 0 ∷ []) row ≡ record { answers = []; how = refuse 12 0 })
+    × (walk (take 23 profile) (7 ∷ []) row ≡ record { answers = []; how = refuse 11 0 })
+    × (walk profile (7 ∷ 0 ∷ []) row ≡ record { answers = []; how = refuse 12 0 })
 unfolding leValue signedOf dayFault digit bitLsb0 familyOf isNumeric isCharacter isEnumOrSet shapeIn shapeOf isTaken need decode fault taken cut judged readDatum placed readValue datumOf flagsHold charsetHolds entryHolds entryOf entryIn entriesHold headHolds recordValid readRecord countBits shapeAt presentFrom slots slotsAt headOf firstCursor stepOver stepFrom walkSteps walk
 worked = (refl, refl, refl, refl, refl, refl, refl)
 
 -- the same image written, its null bits lent with no spare bit set; and with a byte less of room
-abbrev given : List Given
-given = record { lent = []; value = Int (negsuc 1) } ∷ record { lent = 0x7a ∷ 0x61 ∷ 0x62 ∷ []; value = Bytes 1 2 } ∷ record { lent = []; value = Uint 200 } ∷ []
+abbrev values : List LentValue
+values = record { lent = []; value = Int (negsuc 1) } ∷ record { lent = 0x7a ∷ 0x61 ∷ 0x62 ∷ []; value = Bytes 1 2 } ∷ record { lent = []; value = Uint 200 } ∷ []
 
-pub worked-back : (writeRow rec (7 ∷ []) (0 ∷ []) given (replicate 10 0) ≡ ok (cursor 3 9, row ++ (0 ∷ [])))
-    × (writeRow rec (7 ∷ []) (0 ∷ []) given (replicate 8 0) ≡ refuse 8 0)
+pub worked-back : (writeRow profile (7 ∷ []) (0 ∷ []) values (replicate 10 0) ≡ ok (cursor 3 9, row ++ (0 ∷ [])))
+    × (writeRow profile (7 ∷ []) (0 ∷ []) values (replicate 8 0) ≡ refuse 8 0)
     -- NULL for the first column, whose null bit is not set
-    × (writeRow rec (7 ∷ []) (0 ∷ []) (record { lent = []; value = Null } ∷ []) (replicate 10 0) ≡ refuse 13 0)
+    × (writeRow profile (7 ∷ []) (0 ∷ []) (record { lent = []; value = Null } ∷ []) (replicate 10 0) ≡ refuse 13 0)
 unfolding leValue leBytes twosOf inHalves digit bitLsb0 stored store familyOf isNumeric isCharacter isEnumOrSet shapeIn shapeOf isTaken tag intIn numberIn bytesIn domain bytesOf taken datumOf startOf lenOf isLent isIn storedBytes flagsHold charsetHolds entryHolds entryOf entryIn entriesHold headHolds recordValid readRecord countBits shapeAt presentFrom slots slotsAt headOf isNull filled headNulls startImage slotBytes putOver putFrom putRow writeRow
 worked-back = (refl, refl, refl)

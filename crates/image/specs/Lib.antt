@@ -1,10 +1,10 @@
 -- The definitions of the crate: what people must believe. `Present`: which columns an image has. `Split`: the split of an image, a step over it. `Inner`: the step that works, with the rank of
--- its null bit. `Walk`: the whole walk. `Rows`: rows on paper, and demand 3. `Puts`: the writer. `Given`: a whole row written. `Part`: the bytes that a value names.
+-- its null bit. `Walk`: the whole walk. `Rows`: rows on paper, and demand 3. `Puts`: the writer. `WriteRow`: a whole row written. `Part`: the bytes that a value names.
 pub mod Present
 pub mod Split
 pub mod Inner
 pub mod Walk
 pub mod Rows
 pub mod Puts
-pub mod Given
+pub mod WriteRow
 pub mod Part

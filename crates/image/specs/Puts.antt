@@ -47,7 +47,7 @@ slotBytes i lent v =
     (cond (i .null) (ok []) (refuse 13 (i .present .column)))
     (cond (i .null) (refuse 13 (i .present .column)) (storedBytes (i .present .shape) (i .present .column) lent v))
 
--- a step: 14 if no column is left
+-- a step, over the slots that are left: 14 if there is none
 unfoldable pub putOver : List Slot → Cursor → List ℕ → Value → List ℕ → Outcome (Cursor × List ℕ)
 unfolding slotBytes store
 putOver [] c lent v buf = refuse 14 (c .column)
@@ -56,6 +56,7 @@ putOver (i ∷ is) c lent v buf =
     after (store buf (c .offset) b) (λ x.
     ok (cursor (i .present .column + 1) (x .0), x .1)))
 
+-- from any cursor: 14 for a column above n too
 unfoldable pub putFrom : List ℕ → List ℕ → List ℕ → Cursor → List ℕ → Value → List ℕ → Outcome (Cursor × List ℕ)
 unfolding headNulls slotsAt putOver
 putFrom r p nulls c lent v buf =

@@ -17,7 +17,7 @@ use Rattle.record.specs.Records.{countOf}
 use Rattle.image.specs.Present.{Present, present}
 use Rattle.image.specs.Walk.{Walked}
 
--- NULL is the datum `null`, which is in no column's domain
+-- a datum for each present column; NULL is the datum `null`, which is in no column's domain
 abbrev pub Row : Type 0
 Row = List Datum
 

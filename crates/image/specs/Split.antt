@@ -23,11 +23,12 @@ use Rattle.image.specs.Present.{Present, countBits, presentFrom}
 abbrev pub cursor : ℕ → ℕ → Cursor
 cursor column offset = record { column = column; offset = offset }
 
--- a present column with its null bit, which goes by its rank among the present ones: k went before
+-- a present column with its null bit
 pub record Slot : Type 0 where
   pub present : Present
   pub null : Bool
 
+-- the null bit goes by the rank among the present columns: k stand before these
 unfoldable pub slots : List Present → ℕ → List ℕ → List Slot
 unfolding bitLsb0
 slots [] k nulls = []
@@ -39,12 +40,12 @@ unfolding presentFrom countBits slots
 slotsAt r p nulls j = slots (presentFrom (countOf r - j) r p j) (countBits p j) nulls
 
 -- ---- the tests before a call on an image goes on: 11, then 12 for the presence bits. What they tell is how many columns there are, and how many bytes of null bits
-abbrev pub head : ℕ → ℕ → Head
-head columns nulls = record { columns = columns; nulls = nulls }
+abbrev pub headWith : ℕ → ℕ → Head
+headWith columns nulls = record { columns = columns; nulls = nulls }
 
 unfoldable pub headOf : List ℕ → List ℕ → Outcome Head
 unfolding readRecord countBits
-headOf r p = after (readRecord r) (λ n. cond (eqb (length p) (bytesFor n)) (ok (head n (bytesFor (countBits p n)))) (refuse 12 0))
+headOf r p = after (readRecord r) (λ n. cond (eqb (length p) (bytesFor n)) (ok (headWith n (bytesFor (countBits p n)))) (refuse 12 0))
 
 -- the first cursor: column 0, behind the null bits
 unfoldable pub firstCursor : List ℕ → List ℕ → Outcome Cursor
@@ -58,6 +59,7 @@ pub data Told : Type 0 where
   value : ℕ → Value → Cursor → Told
   end : ℕ → Told
 
+-- over the slots that are left, from an offset of the image on
 unfoldable pub stepOver : List Slot → List ℕ → ℕ → Outcome Told
 unfolding readValue
 stepOver [] im o = ok (end o)
@@ -66,7 +68,7 @@ stepOver (i ∷ is) im o =
     (after (readValue (i .present .shape) (i .present .column) im o) (λ x.
     ok (value (i .present .column) (x .0) (cursor (i .present .column + 1) (x .1)))))
 
--- 14 for a column above n; 9 at 0 for null bits that are not whole; 9 at the cursor's column for an offset past the image
+-- from any cursor: 14 for a column above n; 9 at 0 for null bits that are not whole; 9 at the cursor's column for an offset past the image
 unfoldable pub stepFrom : List ℕ → List ℕ → List ℕ → Cursor → Outcome Told
 unfolding headOf slotsAt stepOver
 stepFrom r p im c =

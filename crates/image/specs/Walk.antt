@@ -17,12 +17,13 @@ abbrev pub stopped : Outcome ℕ → Walked
 stopped how = record { answers = []; how = how }
 
 -- one answer, and then those of the rest
-abbrev pub and : ℕ × Datum → Walked → Walked
-and a w = record { answers = a ∷ w .answers; how = w .how }
+abbrev pub withAnswer : ℕ × Datum → Walked → Walked
+withAnswer a w = record { answers = a ∷ w .answers; how = w .how }
 
+-- what a step told, and then the walk f from its cursor
 abbrev pub onward : (Cursor → Walked) → List ℕ → Outcome Told → Walked
-onward f im (ok (null₁ j c)) = and (j, null) (f c)
-onward f im (ok (value j v c)) = and (j, datumOf im v) (f c)
+onward f im (ok (null₁ j c)) = withAnswer (j, null) (f c)
+onward f im (ok (value j v c)) = withAnswer (j, datumOf im v) (f c)
 onward f im (ok (end used)) = stopped (ok used)
 onward f im (refused r) = stopped (refused r)
 
@@ -40,6 +41,7 @@ abbrev pub fromFirst : (Cursor → Walked) → Outcome Cursor → Walked
 fromFirst f (ok c) = f c
 fromFirst f (refused r) = stopped (refused r)
 
+-- the whole walk
 unfoldable pub walk : List ℕ → List ℕ → List ℕ → Walked
 unfolding firstCursor walkSteps datumOf
 walk r p im = fromFirst (walkFrom r p im) (firstCursor r p)

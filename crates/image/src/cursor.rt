@@ -28,7 +28,7 @@ pub(crate) enum HeadRead {
     Refused(Refusal),
 }
 
-// Tests 11, then 12 for the presence bits.
+// The tests before any call on an image: refusal 11 for the record, then 12 for the presence bits.
 pub(crate) fn read_head(profile: &[u8], presence: &[u8]) -> HeadRead
     ensures { λ r. ⌜ headTold r ≡ headOf (now (profile .entry)) (now (presence .entry)) ⌝ }
 {

@@ -5,6 +5,7 @@ ghost use Prim.Native.Nat.{_-_, _≤_};
 ghost use Rattle.wire.specs.Bits.{bitLsb0};
 ghost use Rattle.image.specs.Present.{countBits, firstFrom};
 
+// What bit i adds to a count: 1 if it is set, else 0.
 fn weight(s: &[u8], i: usize) -> usize
     ensures { λ r. ⌜ (r ≡ cond (bitLsb0 (now (s .entry)) i) 1 0) × (r ≤ 1) ⌝ }
 {

@@ -30,7 +30,7 @@ pub enum Put {
     Refused(Refusal),
 }
 
-// Tests 11, then 12 for the presence bits, then 12 for the null bits.
+// The same tests, and then refusal 12 for the null bits.
 fn read_head_nulls(profile: &[u8], presence: &[u8], nulls: &[u8]) -> HeadRead
     ensures { λ r. ⌜ headTold r ≡ headNulls (now (profile .entry)) (now (presence .entry)) (now (nulls .entry)) ⌝ }
 {

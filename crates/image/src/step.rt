@@ -30,7 +30,8 @@ pub enum Step {
     Refused(Refusal),
 }
 
-// A cursor that knows the rank of its null bit: how many present columns stand before its own. With it a step over a row need not count them again.
+// A cursor that knows the rank of its null bit: how many present columns stand before its own. A loop over the steps of a row need not count them again; the public step, which believes no
+// cursor, counts them each time.
 pub(crate) struct Standing {
     pub column: usize,
     pub rank: usize,

@@ -20,7 +20,7 @@ use Rattle.image.specs.Split.{Told, null, value, end, cursor, firstCursor, step
 use Rattle.image.specs.Puts.{startImage, putFrom}
 use Rattle.feed_abi.specs.Answers.{numberOf, toldOf, statusOf, numbersLeft, bytesLeft}
 use Rattle.feed_abi.specs.Parts.{kindOf, partsOf, padded, isTaken, valueOf}
-use Rattle.feed_abi.specs.Calls.{said, saidWith, one, partNumbers, cursorNumbers, stepNumbers, toldNumbers, dialectOf, feedCheck, feedColumn, feedNames, feedName, feedFirst, feedStep, feedStart, feedPut}
+use Rattle.feed_abi.specs.Calls.{said, saidWith, lengthNumbers, partNumbers, cursorNumbers, stepNumbers, toldNumbers, dialectOf, feedCheck, feedColumn, feedNames, feedName, feedFirst, feedStep, feedStart, feedPut}
 use Rattle.promises.specs.Refusals.{Line, OneOf, just, later, inTable, Only}
 use Rattle.promises.specs.Buffers.{Touched}
 use Rattle.promises.specs.Abi.{Answered, Counts, AbiCalls}
@@ -151,7 +151,7 @@ abi = record {
       only refl
       (answered _
       (chain (dialectOf dialect) _ (dialect-asked dialect just)
-      (λ d u. wider _ (left-too one (check d event postHeader buf) (refusals .check-map d event postHeader buf n e)))));
+      (λ d u. wider _ (left-too lengthNumbers (check d event postHeader buf) (refusals .check-map d event postHeader buf n e)))));
   feed-column = λ r column. only refl (column-told r column just (second just));
   feed-names = λ event postHeader dialect. only refl (chain (dialectOf dialect) _ (dialect-asked dialect just) (λ d u. done _));
   feed-name = λ names operator column. only refl (in-numbers partNumbers (columnName names operator (place column)) (refusals .column-name names operator (place column)));
@@ -167,7 +167,7 @@ abi = record {
   status-table = λ k out answer ls h. status-in-table (leb k (length out)) (numberOf answer) (number-in-table answer ls h);
   numbers-kept = λ k out answer l h. numbers-left (leb k (length out)) out answer (λ u. let n = leb-true k (length out) u in omega arith) h;
   bytes-kept = λ k out buf rule h. bytes-left (leb k (length out)) buf rule h;
-  check-one = λ event postHeader dialect buf. then-counts 1 (dialectOf dialect) _ (λ d. left-counts 1 one (check d event postHeader buf) (λ n. refl));
+  check-one = λ event postHeader dialect buf. then-counts 1 (dialectOf dialect) _ (λ d. left-counts 1 lengthNumbers (check d event postHeader buf) (λ n. refl));
   column-five = column-counts;
   names-two = λ event postHeader dialect. said-counts 2 _ (dialectOf dialect) (λ d. refl);
   name-two = λ names operator column. said-counts 2 partNumbers (columnName names operator (place column)) (λ n. refl);

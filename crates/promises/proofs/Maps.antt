@@ -105,9 +105,9 @@ module _ {ls : List Line} (s : List ℕ) (one : (p : ℕ) → p ≤ length s →
       chain (readColumns s (x .2)) _ (columns (x .2) (names-end s b x g)) (λ y i. done _))))
 
   -- a pair, and a group
-  pub pair : (o : ℕ) → o ≤ length s → Listed ls (pairItem s o)
+  pub pair-item : (o : ℕ) → o ≤ length s → Listed ls (pairItem s o)
   unfolding pairItem
-  pair o h =
+  pair-item o h =
       chain (readPacked s o) _ (packed s o (one o h) (two o h)) (λ a e.
       let l = read-moves s o (a .0) (a .1) e .1 in
       chain (readPacked s (a .1)) _ (packed s (a .1) (one (a .1) l) (two (a .1) l)) (λ b f. done _))
@@ -117,9 +117,9 @@ module _ {ls : List Line} (s : List ℕ) (one : (p : ℕ) → p ≤ length s →
   all-strings zero o h = done _
   all-strings (suc n) o h = chain (longPart s o) _ (long-part s o (one o h) (two o h)) (λ x e. all-strings n (x .1) (long-moves s o (x .0) (x .1) e .2))
 
-  pub group : (o : ℕ) → o ≤ length s → Listed ls (groupItem s o)
+  pub group-item : (o : ℕ) → o ≤ length s → Listed ls (groupItem s o)
   unfolding groupItem
-  group o h =
+  group-item o h =
       chain (readPacked s o) _ (packed s o (one o h) (two o h)) (λ n e.
       chain (strings (n .0) s (n .1)) _ (all-strings (n .0) (n .1) (read-moves s o (n .0) (n .1) e .1)) (λ b f. done _))
 
@@ -145,10 +145,10 @@ stepped rule s o past here =
     chain (rule s o) _ (here (omega arith)) (λ x e. done _)))
 
 -- a field: its length is behind its type byte
-pub field : {ls : List Line} (numeric columns : ℕ) (s : List ℕ) (o : ℕ) → OneOf ls (why 1 (o + 1)) → OneOf ls (why 2 (o + 1)) → OneOf ls (why 6 o) → OneOf ls (why 7 o)
+field-item : {ls : List Line} (numeric columns : ℕ) (s : List ℕ) (o : ℕ) → OneOf ls (why 1 (o + 1)) → OneOf ls (why 2 (o + 1)) → OneOf ls (why 6 o) → OneOf ls (why 7 o)
     → Listed ls (fieldItem numeric columns s o)
 unfolding fieldItem
-field numeric columns s o one two six seven =
+field-item numeric columns s o one two six seven =
     chain (longPart s (o + 1)) _ (long-part s (o + 1) one two) (λ v e.
     test (isField (getD s o 0))
     (λ u. test (contentsHold numeric columns (getD s o 0) (partOf s (v .0))) (λ u. done _) (λ u. stop seven))
@@ -159,7 +159,7 @@ pub field-stepped : {ls : List Line} (c : Fields) (s : List ℕ) → OneOf ls (w
 unfolding fieldStep
 field-stepped c s past one two six seven =
     chain (step (fieldItem (c .numeric) (c .columns)) s (c .at)) _
-    (stepped (fieldItem (c .numeric) (c .columns)) s (c .at) (λ h. past) (λ h. field (c .numeric) (c .columns) s (c .at) one two six seven))
+    (stepped (fieldItem (c .numeric) (c .columns)) s (c .at) (λ h. past) (λ h. field-item (c .numeric) (c .columns) s (c .at) one two six seven))
     (λ x e. done _)
 
 -- ---- the check
@@ -181,10 +181,10 @@ columns-taken n four five (kind ∷ types) meta p h =
 -- the fields, from an offset on
 module _ {ls : List Line} (s : List ℕ) (one : (p : ℕ) → p ≤ length s → OneOf ls (why 1 p)) (two : (p : ℕ) → p ≤ length s → OneOf ls (why 2 p))
     (six : (p : ℕ) → p < length s → OneOf ls (why 6 p)) (seven : (p : ℕ) → p < length s → OneOf ls (why 7 p)) where
-  kept : (m : ℕ) (sizes : Ranks) (c : Fields) (before : List ℕ) (o : ℕ) → o ≤ length s → Listed ls (keepSteps m sizes c s before o)
+  fields-kept : (m : ℕ) (sizes : Ranks) (c : Fields) (before : List ℕ) (o : ℕ) → o ≤ length s → Listed ls (keepSteps m sizes c s before o)
   unfolding keepSteps
-  kept zero sizes c before o h = done _
-  kept (suc m) sizes c before o h = go (λ kind next l. kept m sizes c (kind ∷ before) next l) (step rule s o) refl
+  fields-kept zero sizes c before o h = done _
+  fields-kept (suc m) sizes c before o h = go (λ kind next l. fields-kept m sizes c (kind ∷ before) next l) (step rule s o) refl
     where
       rule : Rule (ℕ × Part)
       rule = fieldItem (c .numeric) (c .columns)
@@ -192,7 +192,7 @@ module _ {ls : List Line} (s : List ℕ) (one : (p : ℕ) → p ≤ length s →
       met : Listed ls (step rule s o)
       met =
           stepped rule s o (λ l. absurd (omega arith))
-          (λ l. field (c .numeric) (c .columns) s o (one (o + 1) (omega arith)) (two (o + 1) (omega arith)) (six o l) (seven o l))
+          (λ l. field-item (c .numeric) (c .columns) s o (one (o + 1) (omega arith)) (two (o + 1) (omega arith)) (six o l) (seven o l))
 
       go : ((kind next : ℕ) → next ≤ length s → Listed ls (keepSteps m sizes c s (kind ∷ before) next))
           → (x : Outcome (Stepped (ℕ × Part) ℕ)) → step rule s o ≡ x
@@ -226,7 +226,7 @@ module _ {ls : List Line} (s : List ℕ) (one : (p : ℕ) → p ≤ length s →
       chain (fewEnough types) _ (test (leb (length types) 255) (λ u. done _) (λ u. stop three)) (λ few f.
       chain (takeColumns types meta 0) _ (columns-taken n four five types meta 0 (omega arith)) (λ cs g.
       chain (keepFields (sizesOf d cs) (fieldsAt d types (e .optional .start)) s) _
-      (kept (suc (length s - e .optional .start)) (sizesOf d cs) (fieldsAt d types (e .optional .start)) [] (e .optional .start) (omega (arith, b .optional))) (λ fs i.
+      (fields-kept (suc (length s - e .optional .start)) (sizesOf d cs) (fieldsAt d types (e .optional .start)) [] (e .optional .start) (omega (arith, b .optional))) (λ fs i.
       chain (keysHold s fs) _ (once fs) (λ o j. done _))))))
       (λ es e. room buf 0 (recordBytes es) eight)
 

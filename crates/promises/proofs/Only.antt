@@ -1,4 +1,4 @@
--- How a refusal is one of those listed: along a chain, over a test. And the refusals of packed integers, of stores, of temporals and of values. Assumes nothing.
+-- How a refusal is one of those listed: along a chain, over a test. And the refusals of packed integers and of stores. Assumes nothing.
 use Prim.Native.Nat.{ℕ, _+_}
 use mathlib.Core.Path.{_≡_, subst}
 use mathlib.Core.Bool.{Bool, true, false, cond}

@@ -19,7 +19,7 @@ use Rattle.map_check.specs.Names.{listOf, columnName}
 use Rattle.promises.specs.Refusals.{Line, _at_, _below_, _upTo_, OneOf, just, under, most, later, numberOf, inTable, Only, EveryCall}
 use Rattle.promises.proofs.Only.{Listed, packed, room}
 use Rattle.promises.proofs.Values.{temporal-read, temporal-written, four-or-five, column-taken, value-read, value-written, value-sized}
-use Rattle.promises.proofs.Maps.{long-part, event-read, event-written, event-sized, pair, group, stepped, field-stepped, checked, string-found}
+use Rattle.promises.proofs.Maps.{long-part, event-read, event-written, event-sized, pair-item, group-item, stepped, field-stepped, checked, string-found}
 use Rattle.promises.proofs.Rows.{record-read, first-read, image-stepped, image-started, image-put}
 
 -- a refusal that is listed has a listed number, and those are in the table
@@ -41,9 +41,9 @@ in-table (n upTo q ∷ ls) w t (most h) = line-number (n upTo q) ls t
 in-table (l ∷ ls) w t (later o) = in-table ls w (lines-after l ls t) o
 
 -- a writer's answer is that of its rule
-kept : {A : Type 0} (buf : List ℕ) (rule : Outcome (A × List ℕ)) (w : Refusal) → answerOf rule ≡ refused w → (rule ≡ refused w) × (leftOf buf rule ≡ buf)
-kept buf (ok x) w e = absurd (ok-not-refused e)
-kept buf (refused v) w e = let x : v ≡ w = same-refused e in (rw x, refl)
+refused-keeps : {A : Type 0} (buf : List ℕ) (rule : Outcome (A × List ℕ)) (w : Refusal) → answerOf rule ≡ refused w → (rule ≡ refused w) × (leftOf buf rule ≡ buf)
+refused-keeps buf (ok x) w e = absurd (ok-not-refused e)
+refused-keeps buf (refused v) w e = let x : v ≡ w = same-refused e in (rw x, refl)
 
 -- both parts of a statement
 pub only : {A : Type 0} {answer : Outcome A} {ls : List Line} → inTable ls ≡ true → Listed ls answer → Only answer ls
@@ -89,8 +89,8 @@ refusals = record {
   next-field = λ c s. only refl (field-stepped c s just (second just) (third just) (fourth just) (fifth just));
   next-integer = λ s o. only refl (stepped integerItem s o (λ h. just) (λ h. packed s o just (second just)));
   next-string = λ s o. only refl (stepped stringItem s o (λ h. just) (λ h. long-part s o just (second just)));
-  next-pair = λ s o. only refl (stepped pairItem s o (λ h. just) (λ h. pair s (λ p l. second (most l)) (λ p l. third (most l)) o (omega arith)));
-  next-group = λ s o. only refl (stepped groupItem s o (λ h. just) (λ h. group s (λ p l. second (most l)) (λ p l. third (most l)) o (omega arith)));
+  next-pair = λ s o. only refl (stepped pairItem s o (λ h. just) (λ h. pair-item s (λ p l. second (most l)) (λ p l. third (most l)) o (omega arith)));
+  next-group = λ s o. only refl (stepped groupItem s o (λ h. just) (λ h. group-item s (λ p l. second (most l)) (λ p l. third (most l)) o (omega arith)));
   default-charset = λ value. only refl (packed value 0 just (second just));
   read-record = λ r. only refl (record-read r just);
   check-map = λ d event postHeader buf n e.
@@ -105,5 +105,5 @@ refusals = record {
   start-image = λ r p nulls buf. only refl (image-started r p nulls buf just (second just) (third just));
   put-value = λ r p nulls c lent v buf. only refl (image-put r p nulls c lent v buf just (second just) (third just) (λ j h. fourth (under h)) (fifth just));
   numbered = λ answer ls w o e. in-table ls w (o .table) (o .listed w e);
-  buffer-kept = kept;
+  buffer-kept = refused-keeps;
 }

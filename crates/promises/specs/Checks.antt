@@ -34,7 +34,7 @@ pub passes-accepted : (d : Dialect) (s : List ℕ) (postHeader : ℕ) (e : Event
 unfolding checkMap
 passes-accepted d s postHeader e es r p = rw r (passes p)
 
--- the record of an accepted map is valid, with a column for each type byte
+-- the record of an accepted map is valid
 pub accepted-valid : (d : Dialect) (s : List ℕ) (postHeader : ℕ) (es : List Entry) → checkMap d s postHeader ≡ ok es → recordValid (recordBytes es) ≡ true
 accepted-valid d s postHeader es h = valid (accepted-passes d s postHeader es h .2)
 

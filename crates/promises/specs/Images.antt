@@ -1,5 +1,7 @@
--- Demand 3. Under a valid record and presence bits of its length, every image is walked to its end or refused exactly where its split says; and every row in the domains is read back from the
--- image that the writer makes of it. The record that the check writes of an accepted map is valid, in every dialect, so all this holds under it. Assumes nothing.
+-- Demand 3: "What the map check passes, a row can rely on. Under an accepted map's record and presence bits of its length, every image either yields one answer per present column, in order, each
+-- NULL or inside its column's domain, and laid end to end over the bytes reported used, or it is refused exactly where 01's split runs out of bytes or meets a temporal part out of range, the earlier
+-- deciding. No other refusal occurs. Every row inside the domains is read back from the image our writer makes of it, given room." What a row can rely on under a record is `Relied`. It holds under
+-- every valid record (`relied`), and so under the one that the check left of a map (`relied-on`). Assumes nothing.
 use Prim.Native.Nat.{ℕ, _≤_, _<_}
 use mathlib.Core.Path.{_≡_}
 use mathlib.Core.Bool.{true}
@@ -17,53 +19,48 @@ use Rattle.image.specs.Present.{present}
 use Rattle.image.specs.Split.{stepFrom}
 use Rattle.image.specs.Walk.{Walked, onward, walkFrom, walk}
 use Rattle.image.specs.Rows.{Row, inDomains, Says, Refusals}
-use Rattle.image.specs.Given.{Given, rowOf, Fit, writeRow, imageSize, Wrote}
+use Rattle.image.specs.WriteRow.{LentValue, rowOf, Fit, writeRow, imageSize, Wrote}
 use Rattle.image.proofs.Images.{every-image, only-says, no-other}
 use Rattle.image.proofs.Ways.{walk-on}
-use Rattle.image.proofs.Gives.{written, not-written}
-use Rattle.image.proofs.Papers.{giveRow, nullsOf, every-row-written}
+use Rattle.image.proofs.WriteRows.{written, not-written}
+use Rattle.image.proofs.Papers.{every-row-given}
 use Rattle.promises.specs.Checks.{checked-valid}
 
--- 1 and 2. What the walk gives is what the image says: one answer for each present column, in order, each NULL or in its domain, laid end to end over the bytes used; or the answers
--- before the first value that ends early (9) or has a part out of range (10), and that refusal at its column; or 9 at 0 where the null bits are not whole
-pub walked : (r p im : List ℕ) → recordValid r ≡ true → length p ≡ bytesFor (countOf r) → Bytes im → Says (present r p) im (walk r p im)
-walked = every-image
+-- what a row can rely on under the record r. p stands for presence bits, im for an image and nulls for null bits; ds is a row on paper, a datum for each present column, and gs a row as the
+-- writer takes it, values with the bytes lent beside each
+pub record Relied (r : List ℕ) : Type 0 where
+  -- what the walk over an image gives is what the image says. Either null bits and all values are there: one answer for each present column, in order, each NULL or in its domain, laid end to end
+  -- over the bytes used, and anything may stand behind them. Or the null bits are not whole: 9 at 0. Or the answers before the first value that ends early (9) or is all there and has a part out of
+  -- range (10), and that refusal at its column
+  pub walked : (p im : List ℕ) → length p ≡ bytesFor (countOf r) → Bytes im → Says (present r p) im (walk r p im)
+  -- exactly so: whatever the image says is what the walk gives
+  pub exactly : (p im : List ℕ) (w : Walked) → length p ≡ bytesFor (countOf r) → Says (present r p) im w → walk r p im ≡ w
+  -- no other refusal occurs
+  pub no-other-refusal : (p im : List ℕ) (w : Refusal) → length p ≡ bytesFor (countOf r) → Bytes im → walk r p im .how ≡ refused w → Refusals r p im w
+  -- every row in the domains, with null bits that say which of it is NULL, is written given room, and the walk over what was written gives the row
+  pub row-written : (p nulls : List ℕ) (gs : List LentValue) (buf : List ℕ) → Fit r p nulls gs → imageSize r p nulls (rowOf gs) ≤ length buf
+      → Wrote r p nulls (rowOf gs) buf (writeRow r p nulls gs buf)
+  -- and is refused for room alone
+  pub row-refused : (p nulls : List ℕ) (gs : List LentValue) (buf : List ℕ) → Fit r p nulls gs → length buf < imageSize r p nulls (rowOf gs) → writeRow r p nulls gs buf ≡ refuse 8 0
+  -- every row on paper in the domains can be given so: there are such values and such null bits
+  pub every-row : (p : List ℕ) (ds : Row) → length p ≡ bytesFor (countOf r) → inDomains (present r p) ds ≡ true
+      → (nulls : List ℕ) × (gs : List LentValue) × Fit r p nulls gs × (rowOf gs ≡ ds)
 
--- exactly so: whatever the image says is what the walk gives
-pub exactly : (r p im : List ℕ) (w : Walked) → recordValid r ≡ true → length p ≡ bytesFor (countOf r) → Says (present r p) im w → walk r p im ≡ w
-exactly = only-says
+-- under every valid record
+pub relied : (r : List ℕ) → recordValid r ≡ true → Relied r
+relied r v = record {
+  walked = λ p im b y. every-image r p im v b y;
+  exactly = λ p im w b s. only-says r p im w v b s;
+  no-other-refusal = λ p im w b y e. no-other r p im w v b y e;
+  row-written = written r;
+  row-refused = not-written r;
+  every-row = λ p ds b d. every-row-given r p ds v b d;
+}
 
--- 3. No other refusal occurs
-pub no-other-refusal : (r p im : List ℕ) (w : Refusal) → recordValid r ≡ true → length p ≡ bytesFor (countOf r) → Bytes im → walk r p im .how ≡ refused w → Refusals r p im w
-no-other-refusal = no-other
+-- so under the record that the check left of a map, in whatever dialect
+pub relied-on : (d : Dialect) (event : List ℕ) (postHeader : ℕ) (buf : List ℕ) (n : ℕ) (left : List ℕ) → check d event postHeader buf ≡ ok (n, left) → Relied (take n left)
+relied-on d event postHeader buf n left h = relied (take n left) (checked-valid d event postHeader buf n left h)
 
--- steps and the walk agree: from any cursor, the walk is the step's answer and the walk from the step's cursor
+-- and the walk is its steps, which are what the library has: from any cursor, made up or not, it is the step's answer and then the walk from the step's cursor
 pub step-by-step : (r p im : List ℕ) (c : Cursor) → walkFrom r p im c ≡ onward (λ c′. walkFrom r p im c′) im (stepFrom r p im c)
 step-by-step = walk-on
-
--- 4. Every row in the domains, with null bits that say which of it is NULL, is written given room, and the walk reads it back to the last byte
-pub row-written : (r p nulls : List ℕ) (gs : List Given) (buf : List ℕ) → Fit r p nulls gs → imageSize r p nulls (rowOf gs) ≤ length buf
-    → Wrote r p nulls (rowOf gs) buf (writeRow r p nulls gs buf)
-row-written = written
-
--- and is refused for room alone
-pub row-refused : (r p nulls : List ℕ) (gs : List Given) (buf : List ℕ) → Fit r p nulls gs → length buf < imageSize r p nulls (rowOf gs)
-    → writeRow r p nulls gs buf ≡ refuse 8 0
-row-refused = not-written
-
--- every row on paper can be given so
-pub every-row : (r p buf : List ℕ) (ds : Row) → recordValid r ≡ true → length p ≡ bytesFor (countOf r) → inDomains (present r p) ds ≡ true
-    → imageSize r p (nullsOf ds) ds ≤ length buf → Wrote r p (nullsOf ds) ds buf (writeRow r p (nullsOf ds) (giveRow ds) buf)
-every-row = every-row-written
-
--- 5. Joined with the check: under the record that it left of a map, in whatever dialect, every image is walked so
-pub relied-on : (d : Dialect) (event : List ℕ) (postHeader : ℕ) (buf : List ℕ) (n : ℕ) (left : List ℕ) → check d event postHeader buf ≡ ok (n, left)
-    → (p im : List ℕ) → length p ≡ bytesFor (countOf (take n left)) → Bytes im → Says (present (take n left) p) im (walk (take n left) p im)
-relied-on d event postHeader buf n left h p im b y = every-image (take n left) p im (checked-valid d event postHeader buf n left h) b y
-
--- and every row is written and read back
-pub relied-on-rows : (d : Dialect) (event : List ℕ) (postHeader : ℕ) (space : List ℕ) (n : ℕ) (left : List ℕ) → check d event postHeader space ≡ ok (n, left)
-    → (p buf : List ℕ) (ds : Row) → length p ≡ bytesFor (countOf (take n left)) → inDomains (present (take n left) p) ds ≡ true
-    → imageSize (take n left) p (nullsOf ds) ds ≤ length buf
-    → Wrote (take n left) p (nullsOf ds) ds buf (writeRow (take n left) p (nullsOf ds) (giveRow ds) buf)
-relied-on-rows d event postHeader space n left h p buf ds b i l = every-row-written (take n left) p buf ds (checked-valid d event postHeader space n left h) b i l

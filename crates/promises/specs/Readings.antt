@@ -44,24 +44,24 @@ pub data Reading : Type 0 where
   packed : ℕ → List ℕ → Reading
   temporal : Kind → List ℕ → Outcome Temporal → Reading
   char : ℕ → ℕ → ℕ → ℕ → Reading
-  map : List ℕ → List ℕ → Reading
+  event : List ℕ → List ℕ → Reading
   image : List ℕ → List ℕ → List ℕ → List (ℕ × Datum) → ℕ → Reading
 
 -- a temporal, read to the end of its bytes, or a refusal
-abbrev pub whole : List ℕ → Outcome Temporal → Outcome (Temporal × ℕ)
-whole bytes (ok t) = ok (t, length bytes)
-whole bytes (refused w) = refused w
+abbrev pub toEnd : List ℕ → Outcome Temporal → Outcome (Temporal × ℕ)
+toEnd bytes (ok t) = ok (t, length bytes)
+toEnd bytes (refused w) = refused w
 
 -- what the paper means by it
 abbrev pub Holds : Reading → Type 0
 -- the number is written as these bytes, and they are read as it, to their end
 Holds (packed number bytes) = (packedBytes number ≡ bytes) × (readPacked bytes 0 ≡ ok (number, length bytes))
 -- these bytes of a column of this kind are read as the temporal, to their end, or refused
-Holds (temporal kind bytes answer) = readTemporal kind 0 bytes 0 ≡ whole bytes answer
+Holds (temporal kind bytes answer) = readTemporal kind 0 bytes 0 ≡ toEnd bytes answer
 -- a CHAR column with this metadata has this declared length, and its values so many length bytes
 Holds (char m0 m1 declared lengthBytes) = (charLength m0 m1 ≡ declared) × (shapeOf (record { kind = 254; m0 = m0; m1 = m1; unsigned = false }) ≡ Counted lengthBytes)
 -- the check of this event (post-header length 8), to document 01's letter, gives this record
-Holds (map event profile) = after (checkMap Document event 8) (λ es. ok (recordBytes es)) ≡ ok profile
+Holds (event bytes profile) = after (checkMap Document bytes 8) (λ es. ok (recordBytes es)) ≡ ok profile
 -- under this record and these presence bits the walk over this image gives these answers, and so many bytes used
 Holds (image profile presence im answers used) = walkImage profile presence im ≡ record { answers = answers; how = ok used }
 
@@ -86,7 +86,7 @@ table =
     (ok (At record { year = 2000; month = 1; day = 1; hour = 0; minute = 0; second = 0; micros = 0 }))
     ∷ char 0xfe 0xff 255 1
     ∷ char 0xee 0x00 256 2
-    ∷ map
+    ∷ event
     (0x2a ∷ 0x00 ∷ 0x00 ∷ 0x00 ∷ 0x00 ∷ 0x00 ∷ 0x01 ∷ 0x00 ∷ 0x01 ∷ 0x74 ∷ 0x00 ∷ 0x01 ∷ 0x72 ∷ 0x00 ∷ 0x03 ∷ 0x03 ∷ 0x0f ∷ 0x01 ∷ 0x02 ∷ 0x14 ∷ 0x00 ∷ 0x02 ∷ 0x01 ∷ 0x01 ∷ 0x40 ∷ [])
     (0x18 ∷ 0x00 ∷ 0x01 ∷ 0x00 ∷ 0x03 ∷ 0x00 ∷ 0x03 ∷ 0x0c ∷ 0x00 ∷ 0x00 ∷ 0x00 ∷ 0x00 ∷ 0x0f ∷ 0x0a ∷ 0x14 ∷ 0x00 ∷ 0x00 ∷ 0x00 ∷ 0x01 ∷ 0x0d ∷ 0x00 ∷ 0x00 ∷ 0x00 ∷ 0x00 ∷ [])
     -- -2, "ab", 200

@@ -1,5 +1,5 @@
--- One stored value of any column, in four statements: the bytes of a value are read back; what is read had a value of the domain for its only stored form; an
--- accepted column refuses exactly for bytes that end early (9) and parts out of range (10); and what the writer wrote is read back. Assumes nothing.
+-- One stored value of any column, in four statements: the bytes of a value are read back; whatever is read is in the domain, and its bytes are the stored form of it; an
+-- accepted column refuses only for bytes that end early (9) and parts out of range (10); and what the writer wrote is read back. Assumes nothing.
 use Prim.Native.Nat.{ℕ, _+_, _-_}
 use mathlib.Core.Path.{_≡_, sym, ap, subst, _∙_}
 use mathlib.Core.Bool.{true}

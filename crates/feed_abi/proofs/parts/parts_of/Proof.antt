@@ -13,7 +13,7 @@ use Rattle.feed_abi.proofs.parts.parts_of.Statement.{statement}
 use Rattle.feed_abi.proofs.parts.parts_of.Tie as tie
 use Rattle.feed_abi.proofs.parts.parts_of.Reads as reads
 use Rattle.feed_abi.proofs.parts.parts_of.Lts as lts
-use Rattle.feed_abi.proofs.parts.one.Reads as one-reads
+use Rattle.feed_abi.proofs.parts.one_part.Reads as one-part-reads
 use Rattle.feed_abi.proofs.parts.temporal_parts.Reads as temporal-parts-reads
 use Rattle.feed_abi.proofs.twos.twos.Reads as twos-reads
 
@@ -26,38 +26,38 @@ enum-known-value c = search needs
 twos-requires : tie.Need-twos-requires
 twos-requires c κs = search needs
 
-one-requires : tie.Need-one-requires
-one-requires c κs = search needs
+one-part-requires : tie.Need-one-part-requires
+one-part-requires c κs = search needs
 
 enum-known-value-2 : tie.Need-enum-known-value-2
 enum-known-value-2 c = search needs
 
-one-requires-2 : tie.Need-one-requires-2
-one-requires-2 c κs = search needs
+one-part-requires-2 : tie.Need-one-part-requires-2
+one-part-requires-2 c κs = search needs
 
 enum-known-value-3 : tie.Need-enum-known-value-3
 enum-known-value-3 c = search needs
 
-cast-one : tie.Need-cast-one
-cast-one c = search needs
+cast-one-part : tie.Need-cast-one-part
+cast-one-part c = search needs
 
-one-requires-3 : tie.Need-one-requires-3
-one-requires-3 c κs = search needs
+one-part-requires-3 : tie.Need-one-part-requires-3
+one-part-requires-3 c κs = search needs
 
 enum-known-value-4 : tie.Need-enum-known-value-4
 enum-known-value-4 c = search needs
 
-one-requires-4 : tie.Need-one-requires-4
-one-requires-4 c κs = search needs
+one-part-requires-4 : tie.Need-one-part-requires-4
+one-part-requires-4 c κs = search needs
 
 enum-known-value-5 : tie.Need-enum-known-value-5
 enum-known-value-5 c = search needs
 
-cast-one-2 : tie.Need-cast-one-2
-cast-one-2 c = search needs
+cast-one-part-2 : tie.Need-cast-one-part-2
+cast-one-part-2 c = search needs
 
-one-requires-5 : tie.Need-one-requires-5
-one-requires-5 c κs = search needs
+one-part-requires-5 : tie.Need-one-part-requires-5
+one-part-requires-5 c κs = search needs
 
 enum-known-value-6 : tie.Need-enum-known-value-6
 enum-known-value-6 c = search needs
@@ -74,23 +74,23 @@ returns c = (rw (c .enum-told .given .1), rw (c .enum-told .given .1) held-null)
 
 returns-2 : tie.Need-returns-2
 unfolding partsOf
-returns-2 c = (rw (c .before .before .before .value .given .1) (c .one .ensures ∙ ap (λ (n : ℕ). padded 7 (n ∷ [])) (c .before .twos .ensures ∙ ap (twosOf (2 ^ 64)) (toZ-ofZ w64 (c .before .before .before .value .given .0 .0) (record { sfits = c .before .before .known-told .given .0 .1 })))), rw (c .before .before .before .value .given .1) (held-int (c .before .before .before .value .given .0 .0) (record { sfits = c .before .before .known-told .given .0 .1 })))
+returns-2 c = (rw (c .before .before .before .value .given .1) (c .one-part .ensures ∙ ap (λ (n : ℕ). padded 7 (n ∷ [])) (c .before .twos .ensures ∙ ap (twosOf (2 ^ 64)) (toZ-ofZ w64 (c .before .before .before .value .given .0 .0) (record { sfits = c .before .before .known-told .given .0 .1 })))), rw (c .before .before .before .value .given .1) (held-int (c .before .before .before .value .given .0 .0) (record { sfits = c .before .before .known-told .given .0 .1 })))
 
 returns-3 : tie.Need-returns-3
 unfolding partsOf
-returns-3 c = (rw (c .before .before .value2 .given .1) (c .one2 .ensures), rw (c .before .before .value2 .given .1) (held-uint (c .before .before .value2 .given .0 .0) (omega (arith, c .before .known-told2 .given))))
+returns-3 c = (rw (c .before .before .value2 .given .1) (c .one-part2 .ensures), rw (c .before .before .value2 .given .1) (held-uint (c .before .before .value2 .given .0 .0) (omega (arith, c .before .known-told2 .given))))
 
 returns-4 : tie.Need-returns-4
 unfolding partsOf
-returns-4 c = (rw (c .before .before .value3 .given .1) (c .one3 .ensures), rw (c .before .before .value3 .given .1) (held-float (c .before .before .value3 .given .0 .0) (omega (arith, c .before .known-told3 .given))))
+returns-4 c = (rw (c .before .before .value3 .given .1) (c .one-part3 .ensures), rw (c .before .before .value3 .given .1) (held-float (c .before .before .value3 .given .0 .0) (omega (arith, c .before .known-told3 .given))))
 
 returns-5 : tie.Need-returns-5
 unfolding partsOf
-returns-5 c = (rw (c .before .before .value4 .given .1) (c .one4 .ensures), rw (c .before .before .value4 .given .1) (held-double (c .before .before .value4 .given .0 .0) (omega (arith, c .before .known-told4 .given))))
+returns-5 c = (rw (c .before .before .value4 .given .1) (c .one-part4 .ensures), rw (c .before .before .value4 .given .1) (held-double (c .before .before .value4 .given .0 .0) (omega (arith, c .before .known-told4 .given))))
 
 returns-6 : tie.Need-returns-6
 unfolding partsOf
-returns-6 c = (rw (c .before .before .value5 .given .1) (c .one5 .ensures), rw (c .before .before .value5 .given .1) (held-year (c .before .before .value5 .given .0 .0) (omega (arith, c .before .known-told5 .given))))
+returns-6 c = (rw (c .before .before .value5 .given .1) (c .one-part5 .ensures), rw (c .before .before .value5 .given .1) (held-year (c .before .before .value5 .given .0 .0) (omega (arith, c .before .known-told5 .given))))
 
 returns-7 : tie.Need-returns-7
 unfolding partsOf
@@ -107,17 +107,17 @@ parts-of-spec =
     enum-told
     enum-known-value
     twos-requires
-    one-requires
+    one-part-requires
     enum-known-value-2
-    one-requires-2
+    one-part-requires-2
     enum-known-value-3
-    cast-one
-    one-requires-3
+    cast-one-part
+    one-part-requires-3
     enum-known-value-4
-    one-requires-4
+    one-part-requires-4
     enum-known-value-5
-    cast-one-2
-    one-requires-5
+    cast-one-part-2
+    one-part-requires-5
     enum-known-value-6
     temporal-parts-requires
     enum-known-value-7

@@ -2,7 +2,7 @@
 use mathlib.Core.Path.{sym}
 use Rattle.value.specs.Reading.{datumOf}
 use Rattle.image.specs.Rows.{isNull}
-use Rattle.image.proofs.Sorts.{not-null}
+use Rattle.image.proofs.Sorts.{others-not-null}
 use borrow.Author.Needs.{needs}
 use Rattle.image.proofs.put.is_null.Statement.{statement}
 use Rattle.image.proofs.put.is_null.Tie as tie
@@ -17,7 +17,7 @@ unfolding isNull datumOf
 returns c = rw (c .enum-told .given .1)
 
 returns-2 : tie.Need-returns-2
-returns-2 c = sym (not-null (c .before .args .value) (c .match .keys2))
+returns-2 c = sym (others-not-null (c .before .args .value) (c .match .keys2))
 
 pub is-null-spec : {M : Type 1} → statement M
 is-null-spec = tie.close (tie.spec enum-told returns returns-2)

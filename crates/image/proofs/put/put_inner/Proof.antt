@@ -6,7 +6,7 @@ use borrow.Author.Tests.{not-true, not-false}
 use Rattle.wire.specs.Outcome.{refused}
 use Rattle.record.specs.Entries.{columnOf}
 use Rattle.image.proofs.Sorts.{null-anywhere}
-use Rattle.image.proofs.Steps.{below}
+use Rattle.image.proofs.Steps.{column-below}
 use Rattle.image.proofs.Puts.{put-end, put-unmarked, put-marked, put-null-full, put-null-goes, put-done, put-bad, put-refused, put-next}
 use borrow.Author.Needs.{needs}
 use Rattle.image.proofs.put.put_inner.Statement.{statement}
@@ -32,7 +32,7 @@ returns c = let a = c .before .before .before .before .before .before .before .b
     put-refused (a .buf .now) (put-end (a .nulls .now) (a .lent .now) (a .buf .now) (a .value) (c .before .before .before .before .before .before .before .before .pre) (c .before .before .first-set .ensures) (c .before .if1 .taken) ∙ ap refused (sym (c .refuse .ensures)))
 
 add-behind : tie.Need-add-behind
-add-behind c = omega (arith, below (c .before .before .before .before .before .before .before .pre) (c .before .first-set .ensures) (c .if1 .left), (c .before .before .before .before .before .before .before .pre) .few)
+add-behind c = omega (arith, column-below (c .before .before .before .before .before .before .before .pre) (c .before .first-set .ensures) (c .if1 .left), (c .before .before .before .before .before .before .before .pre) .few)
 
 bit-lsb0-requires : tie.Need-bit-lsb0-requires
 bit-lsb0-requires c κs = search needs

@@ -2,7 +2,7 @@
 use mathlib.Core.Path.{sym, ap, _∙_}
 use native.Mathlib.Omega.{arith}
 use Rattle.record.specs.Entries.{columnOf}
-use Rattle.image.proofs.Steps.{below, rank-next, rank-small, step-end, step-null, step-got, step-bad}
+use Rattle.image.proofs.Steps.{column-below, rank-next, rank-small, step-end, step-null, step-got, step-bad}
 use borrow.Author.Needs.{needs}
 use Rattle.image.proofs.step.step_inner.Statement.{statement}
 use Rattle.image.proofs.step.step_inner.Tie as tie
@@ -21,7 +21,7 @@ returns : tie.Need-returns
 returns c = (sym (step-end (c .before .before .before .before .before .pre) (c .before .first-set .ensures) _ _ (c .if1 .taken)), tt)
 
 add-behind : tie.Need-add-behind
-add-behind c = omega (arith, below (c .before .before .before .before .before .pre) (c .before .first-set .ensures) (c .if1 .left), (c .before .before .before .before .before .pre) .few)
+add-behind c = omega (arith, column-below (c .before .before .before .before .before .pre) (c .before .first-set .ensures) (c .if1 .left), (c .before .before .before .before .before .pre) .few)
 
 add-rank : tie.Need-add-rank
 add-rank c = omega (arith, rank-small (c .before .before .before .before .before .before .pre) (c .before .before .first-set .ensures))

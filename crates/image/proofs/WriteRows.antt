@@ -3,18 +3,18 @@ use Prim.Native.Nat.{ℕ, suc, _+_, _-_, _≤_, _<_}
 use mathlib.Core.Path.{_≡_, refl, sym, ap, subst, _∙_}
 use mathlib.Core.Bool.{Bool, true, false, true≢false}
 use mathlib.Core.Logic.{dite, ⊎-elim}
-use mathlib.Core.List.{List, [], _∷_, _++_, append-assoc}
-use native.Mathlib.Nat.{add-zero, zero-add, sub-zero}
+use mathlib.Core.List.{List, [], _∷_, _++_, append-assoc, nil≢cons, head-eq-of-cons-eq, tail-eq-of-cons-eq}
+use native.Mathlib.Nat.{zero-add, sub-zero}
 use native.Mathlib.Numerals.{add-one}
 use native.Mathlib.Decide.{decLe}
 use native.Mathlib.Omega.{arith}
-use borrow.Author.Tests.{le-ltb, eq-eqb}
+use borrow.Author.Tests.{eq-eqb}
 use lib.ListN.{length, drop, length-append}
 use Rattle.wire.specs.Outcome.{Outcome, ok, refused, refuse, after, why}
 use Rattle.wire.specs.Bits.{bytesFor, bitLsb0}
 use Rattle.wire.specs.Stored.{stored, store}
 use Rattle.wire.proofs.Outcomes.{after-is-ok, after-refuses, same-ok, ok-not-refused}
-use Rattle.wire.proofs.Stores.{length-stored, stored-none, stored-stored, store-fits, store-full}
+use Rattle.wire.proofs.Stores.{length-stored, stored-stored, store-fits, store-full}
 use Rattle.temporal.proofs.Ranges.{and-true}
 use Rattle.value.specs.declared.datum.Value.{Value}
 use Rattle.value.specs.Domains.{domain}
@@ -24,17 +24,18 @@ use Rattle.value.proofs.Facts.{taken-domain}
 use Rattle.record.specs.Records.{countOf}
 use Rattle.image.specs.declared.cursor.Cursor.{Cursor}
 use Rattle.image.specs.Present.{Present, countBits, firstFrom, presentFrom, present}
-use Rattle.image.specs.Split.{Slot, slots, slotsAt, cursor, head}
+use Rattle.image.specs.Split.{Slot, slots, slotsAt, cursor, headWith}
 use Rattle.image.specs.Walk.{walk}
 use Rattle.image.specs.Rows.{Row, isNull, inDomains, rowBytes, answersOf, Marks}
-use Rattle.image.specs.Puts.{filled, headNulls, startImage, slotBytes, putOver, putFrom}
-use Rattle.image.specs.Given.{Given, rowOf, areLent, Fit, putRow, writeRow, imageSize, Wrote}
+use Rattle.image.specs.Puts.{filled, headNulls, startImage, slotBytes, putOver}
+use Rattle.image.specs.WriteRow.{LentValue, rowOf, areLent, Fit, putRow, writeRow, imageSize, Wrote}
 use Rattle.image.proofs.Firsts.{first-is, present-end, present-first, count-set, count-none}
+use Rattle.image.proofs.Heads.{Over, nullBytes, head-is}
 use Rattle.image.proofs.Slots.{inCell, cell}
 use Rattle.image.proofs.Presents.{present-length}
-use Rattle.image.proofs.Walks.{Over, nullBytes, head-is}
 use Rattle.image.proofs.Images.{row-length, every-row}
 use Rattle.image.proofs.Fills.{fill-length, fill-kept}
+use Rattle.image.proofs.Puts.{store-none, put-goes}
 
 -- ---- stores one behind the other are one store
 store-more : (d a b : List ℕ) (at : ℕ) → at + length a ≤ length d → store (stored d at a) (at + length a) b ≡ store d at (a ++ b)
@@ -49,10 +50,6 @@ store-more d a b at h =
     ∙ ap (λ (x : List ℕ). ok (at + length (a ++ b), x)) (stored-stored d at a b h)
     ∙ sym (store-fits d (a ++ b) at m))
     (λ m. store-full (stored d at a) b (at + length a) (omega arith) ∙ sym (store-full d (a ++ b) at (omega arith)))
-
-store-none : (d : List ℕ) (at : ℕ) → at ≤ length d → store d at [] ≡ ok (at, d)
-store-none d at h =
-    store-fits d [] at (omega arith) ∙ ap (λ (x : ℕ). ok (x, stored d at [])) (add-zero at) ∙ ap (λ (x : List ℕ). ok (at, x)) (stored-none d at)
 
 -- and whatever goes on behind a store as the next store does
 store-then : (d a b : List ℕ) (at : ℕ) (f : ℕ × List ℕ → Outcome (ℕ × List ℕ)) → (at + length a ≤ length d → f (at + length a, stored d at a) ≡ store (stored d at a) (at + length a) b)
@@ -70,7 +67,7 @@ pub record Lent (r p nulls : List ℕ) : Type 0 where
   pub over : Over r p
   pub size : length nulls ≡ nullBytes r p
 
-nulls-is : (r p nulls : List ℕ) → Lent r p nulls → headNulls r p nulls ≡ ok (head (countOf r) (nullBytes r p))
+nulls-is : (r p nulls : List ℕ) → Lent r p nulls → headNulls r p nulls ≡ ok (headWith (countOf r) (nullBytes r p))
 unfolding headNulls
 nulls-is r p nulls u = rw (head-is r p (u .over), eq-eqb (length nulls) (nullBytes r p) (u .size))
 
@@ -86,7 +83,7 @@ slot-bytes i lent v h e l = go (isNull (datumOf lent v)) refl
         let x : domain (i .present .shape) (datumOf lent v) ≡ true = rw n at h in
         rw (e, n, taken-domain (i .present .shape) (datumOf lent v) (i .present .column) x, l, x)
 
-put-over : (i : Slot) (is : List Slot) (c : Cursor) (g : Given) (buf : List ℕ) → let d = datumOf (g .lent) (g .value) in
+put-over : (i : Slot) (is : List Slot) (c : Cursor) (g : LentValue) (buf : List ℕ) → let d = datumOf (g .lent) (g .value) in
     inCell (i .present) d ≡ true → i .null ≡ isNull d → isLent (g .lent) (g .value) ≡ true
     → putOver (i ∷ is) c (g .lent) (g .value) buf ≡ after (store buf (c .offset) (cell (i .present) d)) (λ x. ok (cursor (i .present .column + 1) (x .0), x .1))
 unfolding putOver
@@ -100,27 +97,18 @@ next-present r p j c cs h e =
     let f = firstFrom (n - j) p j in
     let i = first-is (n - j) p j in
     dite (decLe n f)
-    (λ (a : n ≤ f). absurd (nil-cons c cs (sym (present-end (n - j) r p j (omega arith)) ∙ e)))
+    (λ (a : n ≤ f). absurd (nil≢cons (sym (present-end (n - j) r p j (omega arith)) ∙ e)))
     (λ a.
     let l : f < n = omega arith in
     let z = sym (present-first (n - j) r p j (omega arith)) ∙ e in
-    let x : f ≡ c .column = ap (λ (y : Present). y .column) (heads z) in
+    let x : f ≡ c .column = ap (λ (y : Present). y .column) (head-eq-of-cons-eq z) in
     let k : n - (f + 1) ≡ j + (n - j) - suc f = omega arith in
     let s : f + 1 ≡ suc f = add-one f in
     rw (← x) (
       l,
-      ap (λ (y : ℕ). presentFrom y r p (f + 1)) k ∙ ap (presentFrom (j + (n - j) - suc f) r p) s ∙ tails z,
+      ap (λ (y : ℕ). presentFrom y r p (f + 1)) k ∙ ap (presentFrom (j + (n - j) - suc f) r p) s ∙ tail-eq-of-cons-eq z,
       ap (countBits p) s ∙ count-set p f (i .found (omega arith)) ∙ ap suc (i .rank),
     ))
-  where
-    nil-cons : (g : Present) (gs : List Present) → [] ≡ g ∷ gs → ⊥
-    nil-cons g gs z = let o : _≡_ {A = ℕ} 0 1 = cc in omega arith
-
-    heads : {a b : Present} {x y : List Present} → a ∷ x ≡ b ∷ y → a ≡ b
-    heads z = cc
-
-    tails : {a b : Present} {x y : List Present} → a ∷ x ≡ b ∷ y → x ≡ y
-    tails z = cc
 
 -- ---- the row
 -- what a writer of several values has used, and the buffer
@@ -132,10 +120,10 @@ used-after : (w : Outcome (ℕ × List ℕ)) (c : ℕ × List ℕ → Cursor × 
 used-after (ok x) c f = refl
 used-after (refused v) c f = refl
 
-pub put-row : (gs : List Given) (cs : List Present) (r p nulls : List ℕ) (j o : ℕ) (buf : List ℕ) → Lent r p nulls → j ≤ countOf r → presentFrom (countOf r - j) r p j ≡ cs
+put-row : (gs : List LentValue) (cs : List Present) (r p nulls : List ℕ) (j o : ℕ) (buf : List ℕ) → Lent r p nulls → j ≤ countOf r → presentFrom (countOf r - j) r p j ≡ cs
     → inDomains cs (rowOf gs) ≡ true → Marks nulls (countBits p j) (rowOf gs) → areLent gs ≡ true → o ≤ length buf
     → used (putRow r p nulls gs (cursor j o) buf) ≡ store buf o (rowBytes cs (rowOf gs))
-unfolding putRow rowOf areLent inDomains Marks rowBytes putFrom slotsAt slots
+unfolding putRow rowOf areLent inDomains Marks rowBytes slotsAt slots
 put-row [] [] r p nulls j o buf u h e d m l b = sym (store-none buf o b)
 put-row [] (c ∷ cs) r p nulls j o buf u h e d m l b = absurd (true≢false (sym d))
 put-row (g ∷ gs) [] r p nulls j o buf u h e d m l b = absurd (true≢false (sym d))
@@ -145,7 +133,7 @@ put-row (g ∷ gs) (c ∷ cs) r p nulls j o buf u h e d m l b =
     let t = and-true (isLent (g .lent) (g .value)) (areLent gs) l in
     let n = next-present r p j c cs h e in
     let i : Slot = record { present = c; null = bitLsb0 nulls (countBits p j) } in
-    rw (nulls-is r p nulls u, le-ltb (countOf r) j h, e, put-over i (slots cs (suc (countBits p j)) nulls) (cursor j o) g buf (w .0) (m .0) (t .0))
+    rw (put-goes r p nulls (cursor j o) (g .lent) (g .value) buf (nulls-is r p nulls u) h, e, put-over i (slots cs (suc (countBits p j)) nulls) (cursor j o) g buf (w .0) (m .0) (t .0))
     (used-after (store buf o (cell c x)) (λ y. (cursor (c .column + 1) (y .0), y .1)) (λ y. putRow r p nulls gs (y .0) (y .1))
     ∙ store-then buf (cell c x) (rowBytes cs (rowOf gs)) o (λ y. used (putRow r p nulls gs (cursor (c .column + 1) (y .0)) (y .1)))
     (λ f.
@@ -154,7 +142,7 @@ put-row (g ∷ gs) (c ∷ cs) r p nulls j o buf u h e d m l b =
     (subst (λ (y : ℕ). Marks nulls y (rowOf gs)) (sym (n .2)) (m .1)) (t .1) (omega arith)))
 
 -- the start and the row
-write-lent : (r p nulls : List ℕ) (gs : List Given) (buf : List ℕ) → Lent r p nulls → Fit r p nulls gs → let n = countBits p (countOf r) in
+write-lent : (r p nulls : List ℕ) (gs : List LentValue) (buf : List ℕ) → Lent r p nulls → Fit r p nulls gs → let n = countBits p (countOf r) in
     length (filled n nulls) ≡ nullBytes r p
     → used (writeRow r p nulls gs buf) ≡ store buf 0 (filled n nulls ++ rowBytes (present r p) (rowOf gs))
 unfolding writeRow startImage
@@ -172,7 +160,7 @@ write-lent r p nulls gs buf u w e =
     ∙ ap (λ (x : ℕ). store (stored buf 0 f) x bs) (sym z)))
 
 -- the whole image is one store
-pub write-row : (r p nulls : List ℕ) (gs : List Given) (buf : List ℕ) → Fit r p nulls gs
+pub write-row : (r p nulls : List ℕ) (gs : List LentValue) (buf : List ℕ) → Fit r p nulls gs
     → used (writeRow r p nulls gs buf) ≡ store buf 0 (filled (length (rowOf gs)) nulls ++ rowBytes (present r p) (rowOf gs))
 write-row r p nulls gs buf w =
     let n : countBits p (countOf r) ≡ length (rowOf gs) = sym (row-length (present r p) (rowOf gs) (w .row) ∙ present-length r p) in
@@ -187,18 +175,18 @@ unfolding Marks
 marks-same [] k a b h m = tt
 marks-same (d ∷ ds) k a b h m = (h k (omega arith) (omega arith) ∙ m .0, marks-same ds (suc k) a b (λ i g l. h i (omega arith) (omega arith)) (m .1))
 
-flat : (nulls bs buf : List ℕ) → stored buf 0 (nulls ++ bs) ≡ nulls ++ (bs ++ drop (length (nulls ++ bs)) buf)
+stored-image : (nulls bs buf : List ℕ) → stored buf 0 (nulls ++ bs) ≡ nulls ++ (bs ++ drop (length (nulls ++ bs)) buf)
 unfolding stored
-flat nulls bs buf = rw (zero-add (length (nulls ++ bs))) (append-assoc nulls bs (drop (length (nulls ++ bs)) buf))
+stored-image nulls bs buf = rw (zero-add (length (nulls ++ bs))) (append-assoc nulls bs (drop (length (nulls ++ bs)) buf))
 
-image-size : (r p nulls : List ℕ) (gs : List Given) → Fit r p nulls gs
+image-size : (r p nulls : List ℕ) (gs : List LentValue) → Fit r p nulls gs
     → 0 + length (filled (length (rowOf gs)) nulls ++ rowBytes (present r p) (rowOf gs)) ≡ imageSize r p nulls (rowOf gs)
 image-size r p nulls gs w =
     let f = filled (length (rowOf gs)) nulls in
     let l = fill-length (length (rowOf gs)) nulls (w .size) in
     omega (arith, length-append f (rowBytes (present r p) (rowOf gs)))
 
-pub written : (r p nulls : List ℕ) (gs : List Given) (buf : List ℕ) → Fit r p nulls gs → imageSize r p nulls (rowOf gs) ≤ length buf
+pub written : (r p nulls : List ℕ) (gs : List LentValue) (buf : List ℕ) → Fit r p nulls gs → imageSize r p nulls (rowOf gs) ≤ length buf
     → Wrote r p nulls (rowOf gs) buf (writeRow r p nulls gs buf)
 written r p nulls gs buf w h =
     let ds = rowOf gs in
@@ -218,13 +206,13 @@ written r p nulls gs buf w h =
       offset = o;
       buffer = k;
       walked =
-          ap (walk r p) (k ∙ flat f bs buf)
+          ap (walk r p) (k ∙ stored-image f bs buf)
           ∙ every-row r p f (drop (length (f ++ bs)) buf) ds (w .valid) (w .bits) (w .row) m (l ∙ w .size)
           ∙ ap (λ (x : ℕ). record { answers = answersOf (present r p) ds; how = ok x }) (ap (λ (x : ℕ). x + length bs) l ∙ sym o);
     }
 
 -- ---- and without room it is refused, 8 at 0
-pub not-written : (r p nulls : List ℕ) (gs : List Given) (buf : List ℕ) → Fit r p nulls gs → length buf < imageSize r p nulls (rowOf gs) → writeRow r p nulls gs buf ≡ refuse 8 0
+pub not-written : (r p nulls : List ℕ) (gs : List LentValue) (buf : List ℕ) → Fit r p nulls gs → length buf < imageSize r p nulls (rowOf gs) → writeRow r p nulls gs buf ≡ refuse 8 0
 not-written r p nulls gs buf w h =
     let bytes = filled (length (rowOf gs)) nulls ++ rowBytes (present r p) (rowOf gs) in
     let s = image-size r p nulls gs w in

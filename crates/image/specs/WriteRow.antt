@@ -18,25 +18,25 @@ use Rattle.image.specs.Rows.{Row, inDomains, rowBytes, answersOf, Marks}
 use Rattle.image.specs.Puts.{filled, startImage, putFrom}
 
 -- a value as a step takes it, with the bytes lent beside it
-pub record Given : Type 0 where
+pub record LentValue : Type 0 where
   pub lent : List ℕ
   pub value : Value
 
--- the row on paper
-unfoldable pub rowOf : List Given → Row
+-- the row that they say
+unfoldable pub rowOf : List LentValue → Row
 unfolding datumOf
 rowOf [] = []
 rowOf (g ∷ gs) = datumOf (g .lent) (g .value) ∷ rowOf gs
 
 -- whether each value's bytes are all there
-unfoldable pub areLent : List Given → Bool
+unfoldable pub areLent : List LentValue → Bool
 unfolding isLent
 areLent [] = true
 areLent (g ∷ gs) = isLent (g .lent) (g .value) && areLent gs
 
 -- what a row is given with: a valid record and presence bits of its length; for each present column a value that it takes, or NULL, with its bytes;
 -- and null bits that say which are NULL
-pub record Fit (r p nulls : List ℕ) (gs : List Given) : Type 0 where
+pub record Fit (r p nulls : List ℕ) (gs : List LentValue) : Type 0 where
   pub valid : recordValid r ≡ true
   pub bits : length p ≡ bytesFor (countOf r)
   pub row : inDomains (present r p) (rowOf gs) ≡ true
@@ -45,17 +45,18 @@ pub record Fit (r p nulls : List ℕ) (gs : List Given) : Type 0 where
   pub size : length nulls ≡ bytesFor (length (rowOf gs))
 
 -- a step for each, from a cursor on: the cursor behind them, and the buffer
-unfoldable pub putRow : List ℕ → List ℕ → List ℕ → List Given → Cursor → List ℕ → Outcome (Cursor × List ℕ)
+unfoldable pub putRow : List ℕ → List ℕ → List ℕ → List LentValue → Cursor → List ℕ → Outcome (Cursor × List ℕ)
 unfolding putFrom
 putRow r p nulls [] c buf = ok (c, buf)
 putRow r p nulls (g ∷ gs) c buf = after (putFrom r p nulls c (g .lent) (g .value) buf) (λ x. putRow r p nulls gs (x .0) (x .1))
 
-unfoldable pub writeRow : List ℕ → List ℕ → List ℕ → List Given → List ℕ → Outcome (Cursor × List ℕ)
+-- a start, and then the row
+unfoldable pub writeRow : List ℕ → List ℕ → List ℕ → List LentValue → List ℕ → Outcome (Cursor × List ℕ)
 unfolding startImage putRow
 writeRow r p nulls gs buf = after (startImage r p nulls buf) (λ x. putRow r p nulls gs (x .0) (x .1))
 
 -- ---- what a row that was written is
--- how many bytes the image of a row is
+-- how many bytes the image of a row has
 abbrev pub imageSize : List ℕ → List ℕ → List ℕ → Row → ℕ
 imageSize r p nulls ds = length nulls + length (rowBytes (present r p) ds)
 
