@@ -11,8 +11,8 @@ use Rattle.temporal.specs.declared.misc.PackedTime.{PackedTime}
 use Rattle.temporal.specs.Fraction.{unitOf}
 use Rattle.temporal.specs.Ranges.{clockFault, dayFault}
 
--- the moment of a whole part n, whose seconds and minutes are over the radix r, hours over h, days over d and months over mo, and of u
--- microseconds; its whole part again; and its fault
+-- the moment of a whole part n, whose seconds and minutes have the radix r, hours h, days d and months mo, and of u microseconds; its whole part
+-- again; and its fault
 unfoldable pub momentBy : ℕ → ℕ → ℕ → ℕ → ℕ → ℕ → Moment
 momentBy r h d mo n u = record {
   year = n / r / r / h / d / mo;

@@ -10,7 +10,7 @@ use Rattle.temporal.specs.declared.misc.PackedTime.{PackedTime}
 use Rattle.temporal.specs.Fraction.{unitOf}
 use Rattle.temporal.specs.Ranges.{clockFault}
 
--- the time of a whole part n, whose minutes and seconds are over the radix r, and of u microseconds; its whole part again; and its fault
+-- the time of a whole part n, whose minutes and seconds have the radix r, and of u microseconds; its whole part again; and its fault
 unfoldable pub timeBy : ℕ → Bool → ℕ → ℕ → Time
 timeBy r negative n u = record { negative = negative; hours = n / r / r; minutes = n / r % r; seconds = n % r; micros = u }
 

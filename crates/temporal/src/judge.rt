@@ -52,7 +52,7 @@ pub(crate) fn day_fault(y: u64, mo: u64, d: u64) -> u8
     0
 }
 
-// The time of a whole part n, whose minutes and seconds are over radix, and of u microseconds.
+// The time of a whole part n, whose minutes and seconds have this radix, and of u microseconds.
 pub(crate) fn time_by(radix: u64, negative: bool, n: u64, u: u64) -> Judged
     requires { ⌜ 0 < radix ⌝ }
     ensures { λ r. ⌜ r ≡ judgedTime (timeBy radix negative n u) ⌝ }
@@ -77,7 +77,7 @@ pub(crate) fn time_by(radix: u64, negative: bool, n: u64, u: u64) -> Judged
     }))
 }
 
-// The moment of a whole part n and of u microseconds. Seconds and minutes are over radix; hours, days and months are the radices of these.
+// The moment of a whole part n and of u microseconds; radix is that of seconds and minutes; hours, days and months are the radices of these.
 pub(crate) fn moment_by(radix: u64, hours: u64, days: u64, months: u64, n: u64, u: u64) -> Judged
     requires { ⌜ (0 < radix) × (0 < hours) × (0 < days) × (0 < months) ⌝ }
     ensures { λ r. ⌜ r ≡ judgedMoment (momentBy radix hours days months n u) ⌝ }

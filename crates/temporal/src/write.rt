@@ -144,7 +144,7 @@ fn time2_fraction(w: usize, t: Time) -> u64
     u
 }
 
-// The fields of a time as one number, minutes and seconds over radix.
+// The fields of a time as one number, whose minutes and seconds have this radix.
 fn time_number(radix: u64, t: Time) -> u64
     requires { ⌜ radix ≤ 100 ⌝ }
     ensures { λ r. ⌜ (r ≡ timeNumber radix t) × (r ≤ 1000000000) ⌝ }
@@ -154,7 +154,7 @@ fn time_number(radix: u64, t: Time) -> u64
     append(minutes, radix, t.seconds)
 }
 
-// The same of a moment. Seconds and minutes are over radix; hours, days and months are the radices of these.
+// The same of a moment; radix is that of seconds and minutes, and hours, days and months are the radices of these.
 fn moment_number(radix: u64, hours: u64, days: u64, months: u64, m: Moment) -> u64
     requires { ⌜ (radix ≤ 100) × (hours ≤ 100) × (days ≤ 100) × (months ≤ 100) ⌝ }
     ensures { λ r. ⌜ (r ≡ momentNumber radix hours days months m) × (r ≤ 1000000000000000) ⌝ }

@@ -49,7 +49,7 @@ pub fn read_be(s: &[u8], at: usize, k: usize) -> u64
     be(s, at, there(s, at, k))
 }
 
-// The same as read_le, for those who know that all k bytes are there. It goes down from the most significant byte.
+// The same as read_le, for those who know that all k bytes are there. It starts at the last of them, the most significant.
 pub(crate) fn le(s: &[u8], at: usize, k: usize) -> u64
     requires { ⌜ (k ≤ 8) × (k ≤ length (now s) - at) ⌝ }
     ensures { λ r. ⌜ (r ≡ leValue (take k (drop at (now (s .entry))))) × (r < 256 ^ k) ⌝ }
@@ -119,7 +119,7 @@ pub(crate) fn put_le(buf: &mut [u8], at: usize, k: usize, v: u64)
     }
 }
 
-// The same as write_be, for those who know that there is room. It goes down from the least significant byte.
+// The same as write_be, for those who know that there is room. It starts at the last byte, the least significant.
 fn put_be(buf: &mut [u8], at: usize, k: usize, v: u64)
     requires { ⌜ at + k ≤ length (now buf) ⌝ }
     ensures { λ _. ⌜ now (buf .exit) ≡ stored (now (buf .entry)) at (beBytes k v) ⌝ }
