@@ -37,6 +37,7 @@ pub taken-at : (sh : Shape) (p : ℕ) → isTaken sh ≡ true → taken sh p ≡
 unfolding taken
 taken-at sh p h = rw h
 
+-- and what is taken is the shape itself
 pub taken-same : (sh sh′ : Shape) (p : ℕ) → taken sh p ≡ ok sh′ → (sh′ ≡ sh) × (isTaken sh ≡ true)
 unfolding taken
 taken-same sh sh′ p e =

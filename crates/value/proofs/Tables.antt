@@ -82,11 +82,13 @@ width-of t =
     (pick Width (eqb t 246) (λ e. tt)
     (pick Width (eqb t 247) (λ e. tt)
     (pick Width (eqb t 248) (λ e. tt)
-    (pick Width (ltb t 249) (λ e. tt)
-    (pick Width (leb t 252) (λ e. tt)
+    (pick Width (eqb t 249) (λ e. tt)
+    (pick Width (eqb t 250) (λ e. tt)
+    (pick Width (eqb t 251) (λ e. tt)
+    (pick Width (eqb t 252) (λ e. tt)
     (pick Width (eqb t 253) (λ e. (omega arith, omega arith))
     (pick Width (eqb t 254) (λ e. tt)
-    (pick Width (eqb t 255) (λ e. tt) tt))))))))))))))))))))))))))))
+    (pick Width (eqb t 255) (λ e. tt) tt))))))))))))))))))))))))))))))
 
 -- ---- every column
 one-or-two : (declared : ℕ) → Fine (Counted (lengthBytes declared))
@@ -173,10 +175,6 @@ some-of (NotTaken n) h e s = absurd (true≢false (sym e))
 
 pub some-bytes : (c : Column) → isTaken (shapeOf c) ≡ true → (s : List ℕ) → 0 < need (shapeOf c) s
 some-bytes c = some-of (shapeOf c) (fine c)
-
--- ---- above the numbers of blobs
-pub above : (t : ℕ) → (t < 249 → ⊥) → (t ≡ 249 → ⊥) → (t ≡ 250 → ⊥) → (t ≡ 251 → ⊥) → (t ≡ 252 → ⊥) → (249 ≤ t) × (252 < t)
-above t h a b c d = (omega arith, omega arith)
 
 -- ---- a column's shape is its family's, where its type is a real type
 pub by-family :

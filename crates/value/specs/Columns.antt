@@ -40,12 +40,14 @@ familyOf t =
     (cond (eqb t 246) Decimal
     (cond (eqb t 247) Enum
     (cond (eqb t 248) Set
-    (cond (ltb t 249) Unknown
-    (cond (leb t 252) Blob
+    (cond (eqb t 249) Blob
+    (cond (eqb t 250) Blob
+    (cond (eqb t 251) Blob
+    (cond (eqb t 252) Blob
     (cond (eqb t 253) Varchar
     (cond (eqb t 254) Char
     (cond (eqb t 255) Blob
-    Unknown)))))))))))))))))))))))))))
+    Unknown)))))))))))))))))))))))))))))
 
 -- ---- what the family alone tells: whether there is such a type, how many bytes of metadata it has, and whether it is numeric.
 -- "Numeric are types 1, 2, 3, 4, 5, 8, 9, 246": to these document 01 gives a signedness bit

@@ -48,6 +48,7 @@ numberIn (year n) = n
 numberIn (when t) = 0
 numberIn (bytes b) = 0
 
+-- no temporal in particular
 abbrev pub noWhen : Temporal
 noWhen = Since (record { seconds = 0; micros = 0 })
 

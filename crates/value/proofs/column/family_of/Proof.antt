@@ -1,10 +1,6 @@
--- `value::column::family_of` meets its contract. At a key the definition computes; the rest is cut at the numbers of blobs. Assumes nothing.
+-- `value::column::family_of` meets its contract. At a key the definition computes; at no key each of its tests fails. Assumes nothing.
 use Rattle.wire.proofs.Rules.{tests}
 use Rattle.value.specs.Columns.{familyOf}
-use Rattle.value.proofs.Tables.{above}
-use mathlib.Core.Logic.{dite}
-use native.Mathlib.Decide.{decLt}
-use Prim.Native.Nat.{_<_, _≤_}
 use Rattle.value.proofs.column.family_of.Statement.{statement}
 use Rattle.value.proofs.column.family_of.Tie as tie
 use Rattle.value.proofs.column.family_of.Reads as reads
@@ -132,13 +128,7 @@ returns-30 c = simp (c .match .keys30)
 
 returns-31 : tie.Need-returns-31
 unfolding familyOf
-returns-31 c = let t = c .before .args .kind in
-    dite (decLt t 249) (λ (l : t < 249). search tests)
-    (λ (l : t < 249 → ⊥). let r = c .match .rest .0 .0 .0 in
-    let b = above t l (r .0 .0 .0 .1) (r .0 .0 .1) (r .0 .1) (r .1) in
-    let g : 249 ≤ t = b .0 in
-    let h : 252 < t = b .1 in
-    search tests)
+returns-31 c = search tests
 
 pub family-of-spec : {M : Type 1} → statement M
 family-of-spec =
