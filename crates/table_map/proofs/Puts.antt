@@ -183,7 +183,7 @@ pub no-room-for : (p : Parts) (d : List ℕ) (n : ℕ) → length d < n → even
 unfolding writeEvent
 no-room-for p d n h e =
     let s = sized p n e in
-    rw (s .0) (store-full d (eventBytes p) 0 (omega (arith, s .1)))
+    rw (s .0) (store-full d (eventBytes p) 0 (omega arith))
 
 pub event-put : (p : Parts) (d x : List ℕ) (n next : ℕ) → eventSize p ≡ ok n
     → Put d 0 (headBytes (p .id) (p .flags) (p .database) (p .table) ++ columnBytes (p .types) (p .metadata) (p .bits) (p .optional)) x next

@@ -29,7 +29,7 @@ bounds : (c : tie.After-packed-size2) → let a = c .before .before .before .bef
 bounds c =
     let a = c .before .before .before .before .before .before .before .before .before .before .args in
     let k = narrow _ _ _ _ _ (sym (c .before .before .before .is-event .ensures) ∙ not-false _ (c .before .before .if1 .left)) in
-    (k .0, k .1, k .2, omega (arith, c .before .packed-size .ensures, packed-narrow (length (a .types .now))), omega (arith, c .packed-size2 .ensures, packed-narrow (length (a .metadata .now))))
+    (k .0, k .1, k .2, omega (arith, packed-narrow (length (a .types .now))), omega (arith, packed-narrow (length (a .metadata .now))))
 
 -- what stands before the metadata, the two packed lengths having m and n bytes
 abbrev front : Parts → ℕ → ℕ → ℕ
@@ -86,7 +86,7 @@ returns-2 c =
     let n = z .packed-size2 in
     let t : isEvent p ≡ true = any-rest _ _ _ _ _ _ _ _ _ (sym (z .before .before .before .is-event .ensures) ∙ not-false _ (z .before .before .if1 .left)) in
     let r : 18446744073709551615 < front p (m .result) (n .result) + length (p .metadata) = no-room _ _ _ _ (c .before .before .has-room .ensures) (not-true _ (c .before .if2 .taken)) in
-    let h : 2 ^ 64 ≤ length (eventBytes p) = omega (arith, event-length p, m .ensures, n .ensures) in
+    let h : 2 ^ 64 ≤ length (eventBytes p) = omega (arith, event-length p) in
     rw (size-over p t h, c .refuse2 .ensures)
 
 add-body : tie.Need-add-body
@@ -114,7 +114,7 @@ returns-3 c =
     let n = z .packed-size2 in
     let t : isEvent p ≡ true = any-rest _ _ _ _ _ _ _ _ _ (sym (z .before .before .before .is-event .ensures) ∙ not-false _ (z .before .before .if1 .left)) in
     let r : 18446744073709551615 < front p (m .result) (n .result) + length (p .metadata) + length (p .optional) = no-room _ _ _ _ (c .before .before .has-room2 .ensures) (not-true _ (c .before .if3 .taken)) in
-    let h : 2 ^ 64 ≤ length (eventBytes p) = omega (arith, event-length p, m .ensures, n .ensures) in
+    let h : 2 ^ 64 ≤ length (eventBytes p) = omega (arith, event-length p) in
     rw (size-over p t h, c .refuse3 .ensures)
 
 add-t17 : tie.Need-add-t17
@@ -136,7 +136,7 @@ returns-4 c =
     let n = z .packed-size2 in
     let t : isEvent p ≡ true = any-rest _ _ _ _ _ _ _ _ _ (sym (z .before .before .before .is-event .ensures) ∙ not-false _ (z .before .before .if1 .left)) in
     let r : front p (m .result) (n .result) + length (p .metadata) + length (p .optional) ≤ 18446744073709551615 = room _ _ _ _ (c .before .has-room2 .ensures) (not-false _ (c .if3 .left)) in
-    let l : length (eventBytes p) ≡ front p (m .result) (n .result) + length (p .metadata) + length (p .optional) = omega (arith, event-length p, m .ensures, n .ensures) in
+    let l : length (eventBytes p) ≡ front p (m .result) (n .result) + length (p .metadata) + length (p .optional) = omega (arith, event-length p) in
     rw (size-is p _ t l (omega arith))
 
 pub event-size-spec : {M : Type 1} → statement M

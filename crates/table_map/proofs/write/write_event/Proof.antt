@@ -48,7 +48,7 @@ put-head-requires c κs =
     let e = sym (z .before .before .event-size .ensures) ∙ ap sizeSaid (z .n .given .1) in
     let y = sized p (z .n .given .0 .0) e in
     let k = taken p (y .0) in
-    (k .database, k .table, omega (arith, y .1, event-length p))
+    (k .database, k .table, omega (arith, event-length p))
 
 put-columns-requires : tie.Need-put-columns-requires
 put-columns-requires c κs =
@@ -59,7 +59,6 @@ put-columns-requires c κs =
     let y = sized p (z .n .given .0 .0) e in
     omega (
       arith,
-      y .1,
       event-length p,
       column-length (a .types .now) (a .metadata .now) (a .bits .now) (a .optional .now),
       head-length (a .id) (a .flags) (a .database .now) (a .table .now),
