@@ -142,11 +142,6 @@ pub any-rest : (id flags : ℕ) (database table types metadata bits optional : L
 unfolding isEvent
 any-rest id flags database table types metadata bits optional b e = e
 
-pub narrow : (id : ℕ) (database table types bits : List ℕ)
-    → isEvent (parts id 0 database table types [] bits []) ≡ true
-    → (length database ≤ 255) × (length table ≤ 255) × (length bits ≡ bytesFor (length types))
-narrow id database table types bits e = let k = taken (parts id 0 database table types [] bits []) e in (k .database, k .table, k .bits)
-
 pub size-not-taken : (p : Parts) → isEvent p ≡ false → eventSize p ≡ refuse 13 0
 unfolding eventSize
 size-not-taken p e = rw e
