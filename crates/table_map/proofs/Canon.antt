@@ -95,16 +95,16 @@ canonical-same s postHeader e h r c =
     ∙ ap (λ (k : ℕ). packedBytes k ++ drop (e .types .start) s) ly
     ∙ sym (packed-split s (tn + 1) (e .types .len) (e .types .start) h (l .columns .count) (c .count)) in
     let x₃ : nameBytes (partOf s (e .table)) ++ columnBytes (partOf s (e .types)) (partOf s (e .metadata)) (partOf s (e .bits)) (partOf s (e .optional)) ≡ drop (dn + 1) s =
-    ap (λ (z : List ℕ). nameBytes (partOf s (e .table)) ++ z) x₄ ∙ sym (name-split s (dn + 1) (e .table) (l .names .two) (omega (arith, w .types)) (c .table)) in
+    ap (λ (z : List ℕ). nameBytes (partOf s (e .table)) ++ z) x₄ ∙ sym (name-split s (dn + 1) (e .table) (l .names .two) (omega arith) (c .table)) in
     let x₂ : behindFlags (partsOf s e) ≡ drop 8 s =
-    ap (λ (z : List ℕ). nameBytes (partOf s (e .database)) ++ z) x₃ ∙ sym (name-split s 8 (e .database) (l .names .one) (omega (arith, w .table)) (c .database)) in
+    ap (λ (z : List ℕ). nameBytes (partOf s (e .database)) ++ z) x₃ ∙ sym (name-split s 8 (e .database) (l .names .one) (omega arith) (c .database)) in
     let x₁ : leBytes 2 (e .flags) ++ behindFlags (partsOf s e) ≡ drop 6 s =
     ap (λ (z : List ℕ). leBytes 2 (e .flags) ++ z) x₂
     ∙ ap (λ (k : ℕ). leBytes 2 k ++ drop 8 s) (l .flags)
-    ∙ sym (number-split s 6 2 h (omega (arith, w .database))) in
+    ∙ sym (number-split s 6 2 h (omega arith)) in
     ap (λ (z : List ℕ). leBytes 6 (e .id) ++ z) x₁
     ∙ ap (λ (k : ℕ). leBytes 6 k ++ drop 6 s) (l .id)
-    ∙ sym (number-split s 0 6 h (omega (arith, w .database)))
+    ∙ sym (number-split s 0 6 h (omega arith))
 
 -- ---- the other way
 -- the event's bytes, from the flags' end on, of bytes that are as written
@@ -250,9 +250,9 @@ read-taken s postHeader e h r =
     let o = parts-within s postHeader e r in
     let w = each-within s postHeader e r in
     let i : e .id < 2 ^ 48 = subst (λ (v : ℕ). v < 2 ^ 48) (sym (l .id)) (id-fits s postHeader h (omega arith)) in
-    let d : length (partOf s (e .database)) ≤ 255 = omega (arith, part-length s (e .database) (w .database), l .names .one .len, h (idBytes postHeader + 2)) in
+    let d : length (partOf s (e .database)) ≤ 255 = omega (arith, part-length s (e .database) (w .database), h (idBytes postHeader + 2)) in
     let t : length (partOf s (e .table)) ≤ 255 =
-    omega (arith, part-length s (e .table) (w .table), l .names .two .len, h (e .database .start + e .database .len + 1)) in
+    omega (arith, part-length s (e .table) (w .table), h (e .database .start + e .database .len + 1)) in
     let b : length (partOf s (e .bits)) ≡ bytesFor (length (partOf s (e .types))) =
     part-length s (e .bits) (w .bits) ∙ l .columns .bits-len ∙ ap bytesFor (sym (part-length s (e .types) (w .types))) in
     rw (lt-ltb _ _ i, le-leb _ _ d, le-leb _ _ t, eq-eqb _ _ b)

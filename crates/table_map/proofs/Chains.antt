@@ -124,7 +124,7 @@ columned s at x e =
     record {
       count = n .1 ∙ ap (λ (y : Part × Part × Part × ℕ). ok (y .0 .len, y .0 .start)) q;
       announced = ap (readPacked s) (sym at2) ∙ j .0 ∙ ap (λ (y : Part). ok (y .len, y .start)) p1;
-      bits-start = omega (arith, j .1);
+      bits-start = omega arith;
       bits-len = sym l2 ∙ ap bytesFor l0;
       next-is = omega arith;
       ends = omega arith;
@@ -180,7 +180,7 @@ laid s postHeader e r =
           subst (λ (v : ℕ). Columned s v (e .types) (e .metadata) (e .bits) (e .bits .start + e .bits .len)) m
           (subst (λ (v : ℕ). Columned s (x .0 .2) (e .types) (e .metadata) (e .bits) v) n l′);
       rest-start = omega arith;
-      rest-len = omega (arith, l′ .ends);
+      rest-len = omega arith;
     }
 
 -- where the columns that were read end

@@ -64,7 +64,7 @@ pub string-moves : Moves stringItem
 string-moves = record {
   moves = λ s at p next e.
       let x = long-moves s at p next e in
-      (omega (arith, x .0, x .1), x .2);
+      (omega arith, x .2);
 }
 
 pub pair-moves : Moves pairItem
@@ -76,7 +76,7 @@ pair-moves = record {
       let m = read-moves s at (x .0 .0) (x .0 .1) (x .1) in
       let n = read-moves s (x .0 .1) (y .0 .0) (y .0 .1) (y .1) in
       let z : y .0 .1 ≡ next = ap (λ (w : (ℕ × ℕ) × ℕ). w .1) (same-ok (y .2)) in
-      (omega (arith, m .0, n .0), omega (arith, n .1));
+      (omega arith, omega arith);
 }
 
 strings-move : (n : ℕ) (s : List ℕ) (at next : ℕ) → at ≤ length s → strings n s at ≡ ok next → (at ≤ next) × (next ≤ length s)
@@ -88,7 +88,7 @@ strings-move (suc n) s at next h e =
     let x = after-is-ok (longPart s at) (λ x. strings n s (x .1)) next e in
     let m = long-moves s at (x .0 .0) (x .0 .1) (x .1) in
     let r = strings-move n s (x .0 .1) next (m .2) (x .2) in
-    (omega (arith, m .0, m .1, r .0), r .1)
+    (omega arith, r .1)
 
 -- a count is believed only as far as the bytes go: n strings take n bytes at least
 strings-take : (n : ℕ) (s : List ℕ) (at next : ℕ) → strings n s at ≡ ok next → at + n ≤ next
@@ -99,7 +99,7 @@ strings-take zero s at next e =
 strings-take (suc n) s at next e =
     let x = after-is-ok (longPart s at) (λ x. strings n s (x .1)) next e in
     let m = long-moves s at (x .0 .0) (x .0 .1) (x .1) in
-    omega (arith, m .0, m .1, strings-take n s (x .0 .1) next (x .2))
+    omega (arith, strings-take n s (x .0 .1) next (x .2))
 
 -- and where the bytes end before the count, it is refused at their end
 pub strings-missing : (m n : ℕ) (s : List ℕ) (at : ℕ) → m < n → strings m s at ≡ ok (length s) → strings n s at ≡ refuse 1 (length s)
@@ -133,5 +133,5 @@ group-moves = record {
       let x = group-strings s at (a .0) (a .1) next e in
       let m = read-moves s at (a .0) (a .1) (x .0) in
       let n = strings-move (a .0) s (a .1) next (m .1) (x .1) in
-      (omega (arith, m .0, n .0), n .1);
+      (omega arith, n .1);
 }

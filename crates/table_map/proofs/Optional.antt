@@ -60,7 +60,7 @@ step-by-item c s h = rw (step-before (fieldItem (c .numeric) (c .columns)) s (c 
 pub value-lent : (s : List ℕ) (at : ℕ) (p : Part) (next : ℕ) → longPart s at ≡ ok (p, next) → lentPart s p ≡ partOf s p
 value-lent s at p next e =
     let m = long-moves s at p next e in
-    let h : p .start + p .len ≤ length s = omega (arith, m .1, m .2) in
+    let h : p .start + p .len ≤ length s = omega arith in
     rw (le-leb _ _ h)
 
 -- the value is not there
@@ -169,5 +169,5 @@ pub field-moves : (numeric columns : ℕ) → Moves (fieldItem numeric columns)
 field-moves numeric columns = record {
   moves = λ s at a next e.
       let m = long-moves s (at + 1) (a .1) next (field-read numeric columns s at a next e .value) in
-      (omega (arith, m .0, m .1), m .2);
+      (omega arith, m .2);
 }

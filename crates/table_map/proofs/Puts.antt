@@ -142,11 +142,6 @@ pub any-rest : (id flags : ℕ) (database table types metadata bits optional : L
 unfolding isEvent
 any-rest id flags database table types metadata bits optional b e = e
 
-pub narrow : (id : ℕ) (database table types bits : List ℕ)
-    → isEvent (parts id 0 database table types [] bits []) ≡ true
-    → (length database ≤ 255) × (length table ≤ 255) × (length bits ≡ bytesFor (length types))
-narrow id database table types bits e = let k = taken (parts id 0 database table types [] bits []) e in (k .database, k .table, k .bits)
-
 pub size-not-taken : (p : Parts) → isEvent p ≡ false → eventSize p ≡ refuse 13 0
 unfolding eventSize
 size-not-taken p e = rw e
@@ -183,7 +178,7 @@ pub no-room-for : (p : Parts) (d : List ℕ) (n : ℕ) → length d < n → even
 unfolding writeEvent
 no-room-for p d n h e =
     let s = sized p n e in
-    rw (s .0) (store-full d (eventBytes p) 0 (omega (arith, s .1)))
+    rw (s .0) (store-full d (eventBytes p) 0 (omega arith))
 
 pub event-put : (p : Parts) (d x : List ℕ) (n next : ℕ) → eventSize p ≡ ok n
     → Put d 0 (headBytes (p .id) (p .flags) (p .database) (p .table) ++ columnBytes (p .types) (p .metadata) (p .bits) (p .optional)) x next

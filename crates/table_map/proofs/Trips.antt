@@ -34,7 +34,7 @@ pub record From (s : List ℕ) (at : ℕ) (rest : List ℕ) : Type 0 where
 -- ---- what stands at the start of the rest, and what stands behind it
 pub from-more : (a b : List ℕ) (n : ℕ) {s : List ℕ} {at : ℕ} → length a ≡ n → From s at (a ++ b) → From s (at + n) b
 from-more a b n {s} {at} l f =
-    record { is = sym (drop-drop n at s) ∙ ap (drop n) (f .is) ∙ drop-at a b n l; ends = omega (arith, f .ends, length-append a b) }
+    record { is = sym (drop-drop n at s) ∙ ap (drop n) (f .is) ∙ drop-at a b n l; ends = omega (arith, length-append a b) }
 
 pub from-part : (a b : List ℕ) (n : ℕ) {s : List ℕ} {at : ℕ} → length a ≡ n → From s at (a ++ b) → take n (drop at s) ≡ a
 from-part a b n {s} {at} l f = ap (take n) (f .is) ∙ take-at a b n l
@@ -42,7 +42,7 @@ from-part a b n {s} {at} l f = ap (take n) (f .is) ∙ take-at a b n l
 from-within : (a b : List ℕ) (n place : ℕ) {s : List ℕ} {at : ℕ} → length a ≡ n → From s at (a ++ b) → within s at n place ≡ ok (at + n)
 unfolding within
 from-within a b n place {s} {at} l f =
-    let h : at + n ≤ length s = omega (arith, f .ends, length-append a b) in
+    let h : at + n ≤ length s = omega (arith, length-append a b) in
     rw (le-leb _ _ h)
 
 pub from-first : (x : ℕ) (b : List ℕ) {s : List ℕ} {at : ℕ} → From s at (x ∷ b) → getD s at 0 ≡ x
@@ -50,7 +50,7 @@ from-first x b {s} {at} f = ap (λ (k : ℕ). getD s k 0) (sym (add-zero at)) �
 
 from-packed : (v : ℕ) (b : List ℕ) {s : List ℕ} {at : ℕ} → v < 2 ^ 64 → From s at (packedBytes v ++ b) → readPacked s at ≡ ok (v, at + length (packedBytes v))
 from-packed v b {s} {at} h f =
-    let n : length (take at s) ≡ at = length-take-le at s (omega (arith, f .ends)) in
+    let n : length (take at s) ≡ at = length-take-le at s (omega arith) in
     let w : take at s ++ (packedBytes v ++ b) ≡ s = ap (λ (l : List ℕ). take at s ++ l) (sym (f .is)) ∙ take-append-drop at s in
     ap (λ (l : List ℕ). readPacked l at) (sym w)
     ∙ ap (readPacked (take at s ++ (packedBytes v ++ b))) (sym n)
@@ -181,7 +181,7 @@ write-read p t g h k =
     let f₂ : From s at (columnBytes (p .types) (p .metadata) (p .bits) (p .optional)) =
     from-more (0 ∷ []) (columnBytes (p .types) (p .metadata) (p .bits) (p .optional)) 1 refl (n .4) in
     let m = columns-back p h k (q .bits) f₂ in
-    let z : length s - restAt at p ≡ length (p .optional) = omega (arith, m .4 .ends) in
+    let z : length s - restAt at p ≡ length (p .optional) = omega arith in
     let y : take (length s - restAt at p) (drop (restAt at p) s) ≡ p .optional =
     ap (λ (b : ℕ). take b (drop (restAt at p) s)) z ∙ ap (take (length (p .optional))) (m .4 .is) ∙ take-length (p .optional) in (
       record {
@@ -219,7 +219,7 @@ wrote-event p d x n e =
 pub size-written : (p : Parts) (d x : List ℕ) (n : ℕ) → length d < 2 ^ 64 → writeEvent p d ≡ ok (n, x) → eventSize p ≡ ok n
 size-written p d x n h e =
     let w = wrote-event p d x n e in
-    size-is p n (w .0) (w .1) (omega (arith, w .2))
+    size-is p n (w .0) (w .1) (omega arith)
 
 -- what was written into a buffer is read back from it
 pub buffer-read : (p : Parts) (d x : List ℕ) (n : ℕ) → writeEvent p d ≡ ok (n, x) → p .flags < 2 ^ 16 → length (p .types) < 2 ^ 64 → length (p .metadata) < 2 ^ 64

@@ -30,7 +30,7 @@ enough {A} rule v (suc m) (suc k) s at h l = go (λ next. enough rule v m k s ne
     go again (ok end) e = refl
     go again (ok (item a next)) e =
         let w = item-moves rule v s at a next e in
-        rw (again next (omega (arith, w .0, w .1)) (omega (arith, w .0, w .1)))
+        rw (again next (omega arith) (omega arith))
     go again (refused r) e = refl
 
 -- a walk is its first step, and the walk from where that leads
@@ -42,7 +42,7 @@ walk-steps {A} rule v s at = go (step rule s at) refl
     go (ok end) e = refl
     go (ok (item a next)) e =
         let w = item-moves rule v s at a next e in
-        let x = enough rule v (length s - at) (suc (length s - next)) s next (omega (arith, w .0, w .1)) (omega arith) in
+        let x = enough rule v (length s - at) (suc (length s - next)) s next (omega arith) (omega arith) in
         rw x
     go (refused r) e = refl
 
@@ -57,7 +57,7 @@ few {A} rule v (suc m) s at = go (λ next. few rule v m s next) (step rule s at)
     go again (ok end) e = omega arith
     go again (ok (item a next)) e =
         let w = item-moves rule v s at a next e in
-        omega (arith, w .0, w .1, again next)
+        omega (arith, again next)
     go again (refused r) e = omega arith
 
 pub walk-ends : {A : Type 0} (rule : Rule A) → Moves rule → (s : List ℕ) (at : ℕ) → length (walk rule s at .items) ≤ length s - at
@@ -76,7 +76,7 @@ whole-not-broken e = let z : _≡_ {A = ℕ} 0 1 = cc in omega arith
 further : {A : Type 0} {rule : Rule A} {s : List ℕ} {w : Refusal} (at next : ℕ) → at < next → next ≤ length s → Breaks rule s next w → Breaks rule s at w
 further at next h l b = record {
   there = b .there;
-  from = inr (⊎-elim (λ e. (omega arith, omega arith)) (λ p. (omega (arith, p .0), p .1)) (b .from));
+  from = inr (⊎-elim (λ e. (omega arith, omega arith)) (λ p. (omega arith, p .1)) (b .from));
   refuses = b .refuses;
 }
 

@@ -48,13 +48,13 @@ loop-again c =
     let t = c .before .before .before in
     let l = t .before .loop in
     let h = ap entryHolds (sym (c .before .before .entry-in .ensures)) ∙ sym (c .before .entry-holds .ensures) ∙ not-false _ (c .if1 .left) in
-    (omega (arith, t .loop-test .taken), sym (goes-on _ _ (l .j) (t .loop-test .taken) h) ∙ l .inv .1)
+    (omega arith, sym (goes-on _ _ (l .j) (t .loop-test .taken) h) ∙ l .inv .1)
 
 returns-2 : tie.Need-returns-2 Inv-loop μ-loop
 returns-2 c =
     let a = c .before .before .before .args in
     let l = c .before .loop in
-    let z : a .n - l .j ≡ 0 = omega (arith, c .loop-test .left) in
+    let z : a .n - l .j ≡ 0 = omega arith in
     sym (sym (l .inv .1) ∙ ap (λ (k : ℕ). entriesHold k (a .profile .now) (l .j)) z ∙ none-left (a .profile .now) (l .j))
 
 pub entries-hold-spec : {M : Type 1} → statement M

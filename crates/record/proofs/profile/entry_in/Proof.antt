@@ -15,7 +15,7 @@ use Rattle.wire.proofs.read_le.Reads as read-le-reads
 returns : tie.Need-returns
 returns c =
     let a = c .before .before .args in
-    sym (entry-past (a .profile .now) (a .column) (omega (arith, c .if1 .taken)))
+    sym (entry-past (a .profile .now) (a .column) (omega arith))
 
 mul-at : tie.Need-mul-at
 mul-at c = search needs

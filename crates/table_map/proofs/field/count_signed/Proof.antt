@@ -29,7 +29,7 @@ sign-bits-requires : tie.Need-sign-bits-requires Inv-loop μ-loop
 sign-bits-requires c κs = search needs
 
 add-n : tie.Need-add-n Inv-loop μ-loop
-add-n c = omega (arith, c .sign-bits .ensures .1)
+add-n c = omega arith
 
 add-i : tie.Need-add-i Inv-loop μ-loop
 add-i c = omega arith
@@ -42,14 +42,14 @@ loop-again c =
     let a = c .before .before .before .before .before .args in
     let l = c .before .before .before .loop in
     let t = signed-turn (a .dialect) (a .types .now) (l .i) (c .before .before .loop-test .taken) in
-    (omega arith, omega (arith, c .sign-bits .ensures .1), omega (arith, t, c .sign-bits .ensures .0, l .inv .2))
+    (omega arith, omega arith, omega arith)
 
 returns : tie.Need-returns Inv-loop μ-loop
 returns c =
     let a = c .before .before .before .args in
     let k : drop (c .before .loop .i) (a .types .now) ≡ [] = drop-of-length-le (a .types .now) (c .loop-test .left) in
     let e = rw k at (c .before .loop .inv .2) in
-    omega (arith, e, signed-none (a .dialect))
+    omega (arith, signed-none (a .dialect))
 
 pub count-signed-spec : {M : Type 1} → statement M
 count-signed-spec =

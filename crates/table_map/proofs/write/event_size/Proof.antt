@@ -5,10 +5,9 @@ use mathlib.Core.Bool.{true}
 use mathlib.Core.Path.{_≡_, sym, _∙_}
 use borrow.Author.Tests.{not-true, not-false}
 use lib.ListN.{length}
-use Rattle.wire.specs.Bits.{bytesFor}
 use Rattle.wire.proofs.Stores.{room, no-room}
 use Rattle.table_map.specs.Writes.{Parts, parts, isEvent, eventBytes}
-use Rattle.table_map.proofs.Puts.{any-rest, narrow, packed-narrow, size-not-taken, size-over, size-is, event-length}
+use Rattle.table_map.proofs.Puts.{Taken, taken, any-rest, packed-narrow, size-not-taken, size-over, size-is, event-length}
 use borrow.Author.Needs.{needs}
 use Rattle.table_map.proofs.write.event_size.Statement.{statement}
 use Rattle.table_map.proofs.write.event_size.Tie as tie
@@ -19,21 +18,23 @@ use Rattle.wire.proofs.packed_size.Reads as packed-size-reads
 use Rattle.wire.proofs.refuse.Reads as refuse-reads
 use Rattle.wire.proofs.has_room.Reads as has-room-reads
 
--- what bounds the sums before the metadata: names are short, there is a bit for each type, and a packed integer has at most 9 bytes
-bounds : (c : tie.After-packed-size2) → let a = c .before .before .before .before .before .before .before .before .before .before .args in
-    (length (a .database .now) ≤ 255)
-    × (length (a .table .now) ≤ 255)
-    × (length (a .bits .now) ≡ bytesFor (length (a .types .now)))
-    × (c .before .packed-size .result ≤ 9)
-    × (c .packed-size2 .result ≤ 9)
-bounds c =
-    let a = c .before .before .before .before .before .before .before .before .before .before .args in
-    let k = narrow _ _ _ _ _ (sym (c .before .before .before .is-event .ensures) ∙ not-false _ (c .before .before .if1 .left)) in
-    (k .0, k .1, k .2, omega (arith, c .before .packed-size .ensures, packed-narrow (length (a .types .now))), omega (arith, c .packed-size2 .ensures, packed-narrow (length (a .metadata .now))))
+-- where both packed lengths have been measured: the lent parts, which the writer takes, and what stands before the metadata
+abbrev given : tie.After-packed-size2 → Parts
+given z = let a = z .before .before .before .before .before .before .before .before .before .before .args in parts (a .id) (a .flags) (a .database .now) (a .table .now) (a .types .now) (a .metadata .now) (a .bits .now) (a .optional .now)
 
--- what stands before the metadata, the two packed lengths having m and n bytes
-abbrev front : Parts → ℕ → ℕ → ℕ
-front p m n = 12 + length (p .database) + length (p .table) + (m + n) + length (p .types) + length (p .bits)
+is-taken : (z : tie.After-packed-size2) → isEvent (given z) ≡ true
+is-taken z = any-rest _ _ _ _ _ _ _ _ _ (sym (z .before .before .before .is-event .ensures) ∙ not-false _ (z .before .before .if1 .left))
+
+abbrev front : tie.After-packed-size2 → ℕ
+front z =
+    let p = given z in
+    12 + length (p .database) + length (p .table) + (z .before .packed-size .result + z .packed-size2 .result) + length (p .types) + length (p .bits)
+
+-- what bounds it: names are short, there is a bit for each type, and a packed integer has at most 9 bytes
+bounds : (z : tie.After-packed-size2) → Taken (given z) × (z .before .packed-size .result ≤ 9) × (z .packed-size2 .result ≤ 9)
+bounds z =
+    let p = given z in
+    (taken p (is-taken z), omega (arith, packed-narrow (length (p .types))), omega (arith, packed-narrow (length (p .metadata))))
 
 is-event-requires : tie.Need-is-event-requires
 is-event-requires c κs = search needs
@@ -80,23 +81,16 @@ refuse-requires-2 c κs = search needs
 returns-2 : tie.Need-returns-2
 returns-2 c =
     let z = c .before .before .before in
-    let a = z .before .before .before .before .before .before .before .before .before .before .args in
-    let p = parts (a .id) (a .flags) (a .database .now) (a .table .now) (a .types .now) (a .metadata .now) (a .bits .now) (a .optional .now) in
-    let m = z .before .packed-size in
-    let n = z .packed-size2 in
-    let t : isEvent p ≡ true = any-rest _ _ _ _ _ _ _ _ _ (sym (z .before .before .before .is-event .ensures) ∙ not-false _ (z .before .before .if1 .left)) in
-    let r : 18446744073709551615 < front p (m .result) (n .result) + length (p .metadata) = no-room _ _ _ _ (c .before .before .has-room .ensures) (not-true _ (c .before .if2 .taken)) in
-    let h : 2 ^ 64 ≤ length (eventBytes p) = omega (arith, event-length p, m .ensures, n .ensures) in
-    rw (size-over p t h, c .refuse2 .ensures)
+    let p = given z in
+    let r : 18446744073709551615 < front z + length (p .metadata) = no-room _ _ _ _ (c .before .before .has-room .ensures) (not-true _ (c .before .if2 .taken)) in
+    let h : 2 ^ 64 ≤ length (eventBytes p) = omega (arith, event-length p) in
+    rw (size-over p (is-taken z) h, c .refuse2 .ensures)
 
 add-body : tie.Need-add-body
 add-body c =
     let z = c .before .before in
-    let a = z .before .before .before .before .before .before .before .before .before .before .args in
-    let p = parts (a .id) (a .flags) (a .database .now) (a .table .now) (a .types .now) (a .metadata .now) (a .bits .now) (a .optional .now) in
-    let m = z .before .packed-size in
-    let n = z .packed-size2 in
-    let r : front p (m .result) (n .result) + length (p .metadata) ≤ 18446744073709551615 = room _ _ _ _ (c .before .has-room .ensures) (not-false _ (c .if2 .left)) in
+    let p = given z in
+    let r : front z + length (p .metadata) ≤ 18446744073709551615 = room _ _ _ _ (c .before .has-room .ensures) (not-false _ (c .if2 .left)) in
     omega arith
 
 has-room-requires-2 : tie.Need-has-room-requires-2
@@ -108,36 +102,25 @@ refuse-requires-3 c κs = search needs
 returns-3 : tie.Need-returns-3
 returns-3 c =
     let z = c .before .before .before .before .before in
-    let a = z .before .before .before .before .before .before .before .before .before .before .args in
-    let p = parts (a .id) (a .flags) (a .database .now) (a .table .now) (a .types .now) (a .metadata .now) (a .bits .now) (a .optional .now) in
-    let m = z .before .packed-size in
-    let n = z .packed-size2 in
-    let t : isEvent p ≡ true = any-rest _ _ _ _ _ _ _ _ _ (sym (z .before .before .before .is-event .ensures) ∙ not-false _ (z .before .before .if1 .left)) in
-    let r : 18446744073709551615 < front p (m .result) (n .result) + length (p .metadata) + length (p .optional) = no-room _ _ _ _ (c .before .before .has-room2 .ensures) (not-true _ (c .before .if3 .taken)) in
-    let h : 2 ^ 64 ≤ length (eventBytes p) = omega (arith, event-length p, m .ensures, n .ensures) in
-    rw (size-over p t h, c .refuse3 .ensures)
+    let p = given z in
+    let r : 18446744073709551615 < front z + length (p .metadata) + length (p .optional) = no-room _ _ _ _ (c .before .before .has-room2 .ensures) (not-true _ (c .before .if3 .taken)) in
+    let h : 2 ^ 64 ≤ length (eventBytes p) = omega (arith, event-length p) in
+    rw (size-over p (is-taken z) h, c .refuse3 .ensures)
 
 add-t17 : tie.Need-add-t17
 add-t17 c =
     let z = c .before .before .before .before in
-    let a = z .before .before .before .before .before .before .before .before .before .before .args in
-    let p = parts (a .id) (a .flags) (a .database .now) (a .table .now) (a .types .now) (a .metadata .now) (a .bits .now) (a .optional .now) in
-    let m = z .before .packed-size in
-    let n = z .packed-size2 in
-    let r : front p (m .result) (n .result) + length (p .metadata) + length (p .optional) ≤ 18446744073709551615 = room _ _ _ _ (c .before .has-room2 .ensures) (not-false _ (c .if3 .left)) in
+    let p = given z in
+    let r : front z + length (p .metadata) + length (p .optional) ≤ 18446744073709551615 = room _ _ _ _ (c .before .has-room2 .ensures) (not-false _ (c .if3 .left)) in
     omega arith
 
 returns-4 : tie.Need-returns-4
 returns-4 c =
     let z = c .before .before .before .before in
-    let a = z .before .before .before .before .before .before .before .before .before .before .args in
-    let p = parts (a .id) (a .flags) (a .database .now) (a .table .now) (a .types .now) (a .metadata .now) (a .bits .now) (a .optional .now) in
-    let m = z .before .packed-size in
-    let n = z .packed-size2 in
-    let t : isEvent p ≡ true = any-rest _ _ _ _ _ _ _ _ _ (sym (z .before .before .before .is-event .ensures) ∙ not-false _ (z .before .before .if1 .left)) in
-    let r : front p (m .result) (n .result) + length (p .metadata) + length (p .optional) ≤ 18446744073709551615 = room _ _ _ _ (c .before .has-room2 .ensures) (not-false _ (c .if3 .left)) in
-    let l : length (eventBytes p) ≡ front p (m .result) (n .result) + length (p .metadata) + length (p .optional) = omega (arith, event-length p, m .ensures, n .ensures) in
-    rw (size-is p _ t l (omega arith))
+    let p = given z in
+    let r : front z + length (p .metadata) + length (p .optional) ≤ 18446744073709551615 = room _ _ _ _ (c .before .has-room2 .ensures) (not-false _ (c .if3 .left)) in
+    let l : length (eventBytes p) ≡ front z + length (p .metadata) + length (p .optional) = omega (arith, event-length p) in
+    rw (size-is p _ (is-taken z) l (omega arith))
 
 pub event-size-spec : {M : Type 1} → statement M
 event-size-spec =
