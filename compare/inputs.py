@@ -3,7 +3,7 @@ import os
 import random
 import re
 
-from listed import BLOBS, FRACTION_BYTES, NO_METADATA, shortest, unhex
+from listed import BLOBS, FRACTION_BYTES, NO_METADATA, packed_at, shortest, unhex
 
 HOSTILE = (0, 1, 5, 7, 8, 59, 60, 99, 100, 127, 128, 250, 251, 252, 253, 254, 255)
 SERVERS = ("mysql", "mariadb")
@@ -63,7 +63,7 @@ def pack(rng):
 
 # ---- single values
 def columns():
-    """each real type with accepted metadata, as type, m0, m1"""
+    """each real type but 246, with accepted metadata, as type, m0, m1"""
     for kind in (1, 2, 3, 7, 8, 9, 11, 12, 13, 14):
         yield kind, 0, 0
     yield 4, 4, 0
@@ -145,6 +145,7 @@ def value(rng):
         yield "value 19 2 0 0 %s%04x" % (("7fff", "8000")[b >> 15], b)
         yield "value 14 0 0 0 %04x%02x" % (b, rng.choice((0, 0x1f, 0x4e, 0xff)))
     for kind in range(256):
+        # decimals are not compared; 6 and 243, which are types of no column, stand in the stored list
         if kind in (246, 243, 6):
             continue
         for _ in range(60):
@@ -198,15 +199,10 @@ def optional_of(m):
     """types and optional bytes of a map"""
     at = 8 + m[8] + 2
     at += 1 + m[at] + 1
-    n, at = packed_from(m, at)
+    n, at = packed_at(m, at)
     types = m[at:at + n]
-    size, at = packed_from(m, at + n)
+    size, at = packed_at(m, at + n)
     return types, m[at + size + (n + 7) // 8:]
-
-
-def packed_from(s, at):
-    size = {252: 2, 253: 3, 254: 8}.get(s[at], 0)
-    return (int.from_bytes(s[at + 1:at + 1 + size], "little"), at + 1 + size) if size else (s[at], at + 1)
 
 
 def fields(rng, folder):
@@ -229,7 +225,7 @@ def field_values(optional):
     at = 0
     while at < len(optional):
         kind = optional[at]
-        size, at = packed_from(optional, at + 1)
+        size, at = packed_at(optional, at + 1)
         yield kind, optional[at:at + size]
         at += size
 

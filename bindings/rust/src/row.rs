@@ -39,6 +39,7 @@ impl<'a> Iterator for Row<'a> {
         let State::At { column, offset } = self.state else {
             return None;
         };
+        // what it is after a refusal; an answer sets it anew
         self.state = State::Refused;
         let out = match abi::step(
             self.record.as_bytes(),

@@ -3,9 +3,8 @@ use crate::fields::DialectWord;
 use crate::fields::read_dialect;
 use crate::maps::post_header;
 use crate::output::put_bad;
-use crate::output::put_hex;
+use crate::output::put_ok;
 use crate::output::put_refused;
-use crate::output::put_text;
 use crate::printing::put_named;
 use crate::room::fill;
 use crate::room::put_unwritten;
@@ -122,8 +121,7 @@ fn put_name<'a>(
     match map_check::column_name(names, operator, column) {
         NameRead::Name(_) => {
             let name = map_check::name_part(names, operator, column);
-            let used = put_text(out, used, b"ok ");
-            put_hex(out, used, name)
+            put_ok(out, used, name)
         }
         NameRead::Refused(refusal) => put_refused(out, used, refusal),
     }

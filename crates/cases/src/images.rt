@@ -18,10 +18,11 @@ use image::Cursor;
 use image::First;
 use image::Step;
 
-// More steps than any image has columns.
+// The steps of the longest walk: one for each of 255 columns, and one that finds the end.
 const MOST_STEPS: usize = 256;
 
-// What became of one turn of a walk: it goes on, with its cursor and how many bytes of output wait, or it is over.
+// What became of one turn of a walk: it goes on, with its cursor and how many bytes of output wait,
+// or it is over.
 enum Walk {
     On(Cursor, usize),
     Over(usize),
@@ -122,7 +123,7 @@ fn put_turn(out: &mut [u8], used: usize, step: Step, s: &[u8]) -> Walk {
     }
 }
 
-// The walk from a cursor on. It counts its turns down, from a number that no walk uses up.
+// The walk from a cursor on. It counts its steps down as `next_line` counts its turns.
 fn put_walk(
     out: &mut [u8],
     used: usize,

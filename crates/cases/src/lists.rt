@@ -231,7 +231,7 @@ fn put_step(out: &mut [u8], used: usize, step: Step, s: &[u8]) -> usize {
     }
 }
 
-// `item KIND HEX OFFSET`; charsets have items of two kinds, and are none of its kinds
+// `item KIND HEX OFFSET`; not for charsets, whose items are of two kinds
 pub(crate) fn item_case(
     line: &[u8],
     at: usize,

@@ -81,6 +81,12 @@ pub(crate) fn put_hex(out: &mut [u8], used: usize, s: &[u8]) -> usize {
     now
 }
 
+// `ok`, and bytes in hex.
+pub(crate) fn put_ok(out: &mut [u8], used: usize, s: &[u8]) -> usize {
+    let used = put_text(out, used, b"ok ");
+    put_hex(out, used, s)
+}
+
 // The answer to a malformed line.
 pub(crate) fn put_bad(out: &mut [u8], used: usize) -> usize {
     put_text(out, used, b"bad")

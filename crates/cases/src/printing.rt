@@ -42,7 +42,7 @@ fn put_date(out: &mut [u8], used: usize, name: &[u8], date: Date) -> usize {
     put_part(out, used, date.day as u64)
 }
 
-// Behind a date or a sign.
+// `:h:m:s:MICROS`, behind a date or a sign
 fn put_clock(
     out: &mut [u8],
     used: usize,
@@ -74,8 +74,16 @@ fn put_moment(out: &mut [u8], used: usize, moment: Moment) -> usize {
     )
 }
 
-fn put_time(out: &mut [u8], used: usize, sign: &[u8], time: Time) -> usize {
-    let used = put_text(out, used, sign);
+// `time:`, and the sign
+fn put_sign(out: &mut [u8], used: usize, negative: bool) -> usize {
+    if negative {
+        return put_text(out, used, b"time:-");
+    }
+    put_text(out, used, b"time:+")
+}
+
+fn put_time(out: &mut [u8], used: usize, time: Time) -> usize {
+    let used = put_sign(out, used, time.negative);
     put_clock(
         out,
         used,
@@ -86,19 +94,12 @@ fn put_time(out: &mut [u8], used: usize, sign: &[u8], time: Time) -> usize {
     )
 }
 
-fn put_lasting(out: &mut [u8], used: usize, time: Time) -> usize {
-    if time.negative {
-        return put_time(out, used, b"time:-", time);
-    }
-    put_time(out, used, b"time:+", time)
-}
-
 fn put_temporal(out: &mut [u8], used: usize, temporal: Temporal) -> usize {
     match temporal {
         Temporal::Since(stamp) => put_stamp(out, used, stamp),
         Temporal::On(date) => put_date(out, used, b"date:", date),
         Temporal::At(moment) => put_moment(out, used, moment),
-        Temporal::Lasts(time) => put_lasting(out, used, time),
+        Temporal::Lasts(time) => put_time(out, used, time),
     }
 }
 

@@ -1,6 +1,7 @@
 // The cases of a row image that is written: `start`, `put` and `row`.
 use crate::images::put_cursor;
 use crate::output::put_bad;
+use crate::output::put_ok;
 use crate::output::put_refused;
 use crate::room::fill;
 use crate::room::is_untouched_around;
@@ -25,23 +26,25 @@ use value::Value;
 use wire::Refusal;
 ghost use Prim.Native.Nat.{_≤_};
 
-// Where the record, the presence bits and the null bits of a line end in the arena. They stand behind each other, from its start.
+// Where the record, the presence bits and the null bits of a line end in the arena. They stand
+// behind each other, from its start.
 struct Ends {
     profile: usize,
     presence: usize,
     nulls: usize,
 }
 
-// The bytes that a call stored, and its cursor.
-fn put_next(out: &mut [u8], used: usize, room: &[u8], from: usize, next: Cursor) -> usize {
+// The bytes that a call stored from `from` on, and its cursor.
+fn put_stored(out: &mut [u8], used: usize, room: &[u8], from: usize, next: Cursor) -> usize {
     if !is_untouched_around(room, from, next.offset) {
         return put_spoiled(out, used);
     }
-    let used = put_written(out, used, room, from, next.offset);
+    let used = put_ok(out, used, part(room, from, next.offset));
     put_cursor(out, used, next)
 }
 
-fn start_into(room: &mut [u8], arena: &[u8], ends: Ends) -> Put {
+// The writer's start, with the byte strings of a line.
+fn call_start(room: &mut [u8], arena: &[u8], ends: Ends) -> Put {
     image::start(
         part(arena, 0, ends.profile),
         part(arena, ends.profile, ends.presence),
@@ -50,7 +53,8 @@ fn start_into(room: &mut [u8], arena: &[u8], ends: Ends) -> Put {
     )
 }
 
-fn put_into(room: &mut [u8], arena: &[u8], ends: Ends, cursor: Cursor, value: Value) -> Put {
+// The same for one step of the writer. The bytes of the value stand in the arena too.
+fn call_put(room: &mut [u8], arena: &[u8], ends: Ends, cursor: Cursor, value: Value) -> Put {
     cursor.put(
         part(arena, 0, ends.profile),
         part(arena, ends.profile, ends.presence),
@@ -61,10 +65,11 @@ fn put_into(room: &mut [u8], arena: &[u8], ends: Ends, cursor: Cursor, value: Va
     )
 }
 
-fn put_start(room: &mut [u8], arena: &[u8], ends: Ends, out: &mut [u8], used: usize) -> usize {
+// Starts an image in the room that was asked for.
+fn start_into(room: &mut [u8], arena: &[u8], ends: Ends, out: &mut [u8], used: usize) -> usize {
     fill(room);
-    match start_into(room, arena, ends) {
-        Put::Next(next) => put_next(out, used, room, 0, next),
+    match call_start(room, arena, ends) {
+        Put::Next(next) => put_stored(out, used, room, 0, next),
         Put::Refused(refusal) => put_unwritten(out, used, room, refusal),
     }
 }
@@ -96,10 +101,11 @@ pub(crate) fn start_case(
         presence,
         nulls,
     };
-    put_start(&mut room[0..size], arena, ends, out, used)
+    start_into(&mut room[0..size], arena, ends, out, used)
 }
 
-fn put_put(
+// Stores one value at a cursor in the room that was asked for.
+fn put_into(
     room: &mut [u8],
     arena: &[u8],
     ends: Ends,
@@ -109,20 +115,20 @@ fn put_put(
     used: usize,
 ) -> usize {
     fill(room);
-    match put_into(room, arena, ends, cursor, value) {
-        Put::Next(next) => put_next(out, used, room, cursor.offset, next),
+    match call_put(room, arena, ends, cursor, value) {
+        Put::Next(next) => put_stored(out, used, room, cursor.offset, next),
         Put::Refused(refusal) => put_unwritten(out, used, room, refusal),
     }
 }
 
-// A cursor and a room.
+// The cursor, and the length of the room.
 enum Placing {
     Found(Cursor, usize),
     Bad,
 }
 
 // `COLUMN OFFSET ROOM`, the last words of a line
-fn read_placing(line: &[u8], at: usize, most: usize) -> Placing {
+fn read_placing(line: &[u8], at: usize) -> Placing {
     let Number2::Found(column, offset, next) = read_number2(line, at) else {
         return Placing::Bad;
     };
@@ -133,9 +139,6 @@ fn read_placing(line: &[u8], at: usize, most: usize) -> Placing {
     let offset = offset as usize;
     let size = size as usize;
     if !is_last(next) {
-        return Placing::Bad;
-    }
-    if size > most {
         return Placing::Bad;
     }
     Placing::Found(Cursor { column, offset }, size)
@@ -156,7 +159,7 @@ pub(crate) fn put_case(
     let ValueWord::Found(value, _, next) = read_value_word(line, next, arena, nulls) else {
         return put_bad(out, used);
     };
-    let Placing::Found(cursor, size) = read_placing(line, next, room.len()) else {
+    let Placing::Found(cursor, size) = read_placing(line, next) else {
         return put_bad(out, used);
     };
     if size > room.len() {
@@ -167,7 +170,7 @@ pub(crate) fn put_case(
         presence,
         nulls,
     };
-    put_put(&mut room[0..size], arena, ends, cursor, value, out, used)
+    put_into(&mut room[0..size], arena, ends, cursor, value, out, used)
 }
 
 // How many value words there are.
@@ -176,7 +179,8 @@ enum Count {
     Bad,
 }
 
-// The value words from `at` on, each decoded and dropped again.
+// Counts the value words from `at` to the end of the line. Each is decoded, to see that it is good,
+// and the next is decoded over it. A line has fewer words than bytes, so the loop ends by a return.
 fn count_values(line: &[u8], at: usize, arena: &mut [u8], from: usize) -> Count {
     let mut next = at;
     let mut count: usize = 0;
@@ -193,6 +197,7 @@ fn count_values(line: &[u8], at: usize, arena: &mut [u8], from: usize) -> Count 
     Count::Bad
 }
 
+// 1 for a column that is present, else 0.
 fn weight(presence: &[u8], column: usize) -> usize
     ensures { λ r. ⌜ r ≤ 1 ⌝ }
 {
@@ -216,18 +221,21 @@ fn count_present(profile: &[u8], presence: &[u8]) -> usize {
     present
 }
 
-// What became of a step of the writer.
+// What became of a step of the writer: the next cursor, its refusal, or a byte changed that it was
+// not to change.
 enum Stored {
     Next(Cursor),
     Refused(Refusal),
     Spoiled,
 }
 
+// A cast by a call asks for no proof that the byte of a slice fits.
 fn wide(x: u8) -> u64 {
     x as u64
 }
 
-// A number that changes with the bytes.
+// A checksum: it stands in for a copy of the bytes, to see later whether they changed. The remainders
+// show that the sum fits; that of a byte changes nothing.
 fn digest(s: &[u8]) -> u64 {
     let mut sum: u64 = 0;
     let mut i: usize = 0;
@@ -238,10 +246,11 @@ fn digest(s: &[u8]) -> u64 {
     sum
 }
 
-// One value at a cursor. What was stored before must still be there, and nothing behind the new cursor may have changed.
+// Stores one value at a cursor. What was stored before must still be there, and nothing behind the
+// new cursor may have changed.
 fn put_checked(room: &mut [u8], arena: &[u8], ends: Ends, cursor: Cursor, value: Value) -> Stored {
     let stored = digest(part(room, 0, cursor.offset));
-    let answer = put_into(room, arena, ends, cursor, value);
+    let answer = call_put(room, arena, ends, cursor, value);
     if digest(part(room, 0, cursor.offset)) != stored {
         return Stored::Spoiled;
     }
@@ -261,7 +270,8 @@ fn put_checked(room: &mut [u8], arena: &[u8], ends: Ends, cursor: Cursor, value:
     }
 }
 
-// The values of a line, one after the other, from the first cursor on.
+// Stores the values of a line, one after the other, from the first cursor on. Like `count_values`,
+// which has found all of them good, it ends by a return.
 fn put_values(
     room: &mut [u8],
     line: &[u8],
@@ -296,8 +306,8 @@ fn put_values(
     put_bad(out, used)
 }
 
-// A row, through the start and a step for each value.
-fn put_row(
+// Writes a row into the room that was asked for, by the start and a step for each value.
+fn row_into(
     room: &mut [u8],
     line: &[u8],
     at: usize,
@@ -307,7 +317,7 @@ fn put_row(
     used: usize,
 ) -> usize {
     fill(room);
-    match start_into(room, arena, ends) {
+    match call_start(room, arena, ends) {
         Put::Next(first) => {
             if !is_untouched_around(room, 0, first.offset) {
                 return put_spoiled(out, used);
@@ -343,7 +353,8 @@ fn read_row(line: &[u8], at: usize, arena: &mut [u8]) -> RowWords {
     RowWords::Found(ends, size as usize, next, values)
 }
 
-// Whether there is a value for each present column; 11 and 12 for the presence bits are told before that.
+// Whether there is a value for each present column. A record that is not valid and presence bits of
+// wrong length are refused first: there is nothing to count by then.
 enum Fitting {
     Yes,
     No,
@@ -380,7 +391,7 @@ pub(crate) fn row_case(
     let profile = part(arena, 0, ends.profile);
     let presence = part(arena, ends.profile, ends.presence);
     match fits(profile, presence, values) {
-        Fitting::Yes => put_row(&mut room[0..size], line, next, arena, ends, out, used),
+        Fitting::Yes => row_into(&mut room[0..size], line, next, arena, ends, out, used),
         Fitting::No => put_bad(out, used),
         Fitting::Refused(refusal) => put_refused(out, used, refusal),
     }

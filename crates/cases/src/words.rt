@@ -35,25 +35,26 @@ pub(crate) enum Number16 {
     Bad,
 }
 
-// The place in the arena after the bytes, and that of the next word.
-pub(crate) enum Bytes {
-    Found(usize, usize),
-    Bad,
-}
-
-// The same for two byte strings, the second behind the first.
-pub(crate) enum Bytes2 {
-    Found(usize, usize, usize),
-    Bad,
-}
-
 // Two numbers, and the place of the next word.
 pub(crate) enum Number2 {
     Found(u64, u64, usize),
     Bad,
 }
 
-// The ends of three byte strings in the arena, and the place of the next word.
+// The place in the arena after the bytes, and that of the next word.
+pub(crate) enum Bytes {
+    Found(usize, usize),
+    Bad,
+}
+
+// The ends of two byte strings in the arena, the second behind the first, and the place of the next
+// word.
+pub(crate) enum Bytes2 {
+    Found(usize, usize, usize),
+    Bad,
+}
+
+// The same for three.
 pub(crate) enum Bytes3 {
     Found(usize, usize, usize, usize),
     Bad,
@@ -162,6 +163,17 @@ pub(crate) fn read_number16(line: &[u8], at: usize) -> Number16 {
     Number16::Found(value as u16, next)
 }
 
+// Two numbers.
+pub(crate) fn read_number2(line: &[u8], at: usize) -> Number2 {
+    let Number::Found(first, next) = read_number(line, at) else {
+        return Number2::Bad;
+    };
+    let Number::Found(second, next) = read_number(line, next) else {
+        return Number2::Bad;
+    };
+    Number2::Found(first, second, next)
+}
+
 // The value of a lower-case hex digit.
 fn hex_value(b: u8) -> u8 {
     if b < b'0' {
@@ -228,17 +240,6 @@ pub(crate) fn read_bytes(line: &[u8], at: usize, arena: &mut [u8], from: usize) 
         return Bytes::Bad;
     };
     Bytes::Found(end, next)
-}
-
-// Two numbers.
-pub(crate) fn read_number2(line: &[u8], at: usize) -> Number2 {
-    let Number::Found(first, next) = read_number(line, at) else {
-        return Number2::Bad;
-    };
-    let Number::Found(second, next) = read_number(line, next) else {
-        return Number2::Bad;
-    };
-    Number2::Found(first, second, next)
 }
 
 // Two byte strings, decoded into `arena` from `from` on.

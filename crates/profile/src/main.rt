@@ -1,5 +1,6 @@
-// Reads the body of a table map event from standard input, checks it, and prints a line for each column: place, real type, flags, m0, m1, charset. A refusal prints its number and
-// its place. A word chooses the dialect.
+// Reads the body of a table map event from standard input, checks it, and prints a line for each
+// column: place, real type, flags, m0, m1, charset. A refusal prints its number and its place. A word
+// chooses the dialect.
 mod output;
 
 use libc::STDIN_FILENO;
@@ -12,7 +13,7 @@ use wire::Refusal;
 use wire::Written;
 use wire::refusal::NO_ROOM;
 
-// An input that fills the buffer is longer than any that is taken.
+// The longest input that is taken. The buffer for it has a byte more, so that a longer one is told.
 const MOST_INPUT: usize = 65536;
 
 const POST_HEADER: u8 = 8;
@@ -23,6 +24,7 @@ enum Asked {
     Unknown,
 }
 
+// Whether the two hold the same bytes.
 fn same(a: &[u8], b: &[u8]) -> bool {
     if a.len() != b.len() {
         return false;
@@ -114,7 +116,7 @@ fn put_columns(out: &mut [u8], profile: &[u8], columns: usize) -> usize {
     used
 }
 
-// The lines for an event.
+// The lines for an event. The longest record has 1,536 bytes: 6, and 6 for each of 255 columns.
 fn put_profile(out: &mut [u8], event: &[u8], dialect: Dialect) -> usize {
     if MOST_INPUT < event.len() {
         return put_refused(out, 0, wire::refuse(NO_ROOM, 0));

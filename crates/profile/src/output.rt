@@ -1,4 +1,5 @@
-// What is printed, gathered in a buffer: `used` bytes of `out` wait, and each function returns the new count. What has no room is left out; the buffer holds the lines of 255 columns.
+// What is printed, gathered in a buffer: `used` bytes of `out` wait, and each function returns the
+// new count. What has no room is left out; the buffer holds the lines of 255 columns.
 
 fn put_byte(out: &mut [u8], used: usize, b: u8) -> usize {
     if out.len() <= used {

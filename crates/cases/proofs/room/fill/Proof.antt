@@ -7,16 +7,16 @@ use Rattle.cases.proofs.room.fill.Statement.{statement}
 use Rattle.cases.proofs.room.fill.Tie as tie
 
 abbrev Inv-loop : tie.InvT-loop
-Inv-loop lent₀ i₀ lent i = length lent ≡ length lent₀
+Inv-loop room₀ i₀ room i = length room ≡ length room₀
 
 abbrev μ-loop : tie.MeasureT-loop
-μ-loop lent₀ i₀ lent i = length lent₀ - i
+μ-loop room₀ i₀ room i = length room₀ - i
 
 loop-holds : tie.Need-loop-holds Inv-loop μ-loop
 loop-holds c = search needs
 
-slice-write-lent : tie.Need-slice-write-lent Inv-loop μ-loop
-slice-write-lent c = search needs
+slice-write-room : tie.Need-slice-write-room Inv-loop μ-loop
+slice-write-room c = search needs
 
 add-i : tie.Need-add-i Inv-loop μ-loop
 add-i c = search needs
@@ -40,7 +40,7 @@ fill-spec =
     Inv-loop
     μ-loop
     loop-holds
-    slice-write-lent
+    slice-write-room
     add-i
     loop-less
     loop-again

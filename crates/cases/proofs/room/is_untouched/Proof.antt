@@ -6,10 +6,10 @@ use Rattle.cases.proofs.room.is_untouched.Statement.{statement}
 use Rattle.cases.proofs.room.is_untouched.Tie as tie
 
 abbrev Inv-loop : tie.InvT-loop
-Inv-loop lent i₀ i = Unit {0}
+Inv-loop room i₀ i = Unit {0}
 
 abbrev μ-loop : tie.MeasureT-loop
-μ-loop lent i₀ i = length lent - i
+μ-loop room i₀ i = length room - i
 
 loop-holds : tie.Need-loop-holds Inv-loop μ-loop
 loop-holds c = search needs
