@@ -27,7 +27,7 @@ use Rattle.map_check.specs.declared.entries.Standing.{Standing}
 use Rattle.map_check.specs.declared.entries.EntryTurn.{EntryTurn}
 use Rattle.map_check.specs.Columns.{metaBytes, declared, declareAll}
 use Rattle.map_check.specs.Ranks.{place, noRanks, ranksAfter}
-use Rattle.map_check.specs.Profile.{charsetBy, charsetOf, entryWith, entryFor, entriesFrom}
+use Rattle.map_check.specs.Profile.{charsetBy, charsetFor, entryWith, entryFor, entriesFrom}
 use Rattle.map_check.specs.Standing.{TakenIf, Ready, Starts, toCome, Came}
 use Rattle.map_check.proofs.Declares.{declared-length}
 use Rattle.map_check.proofs.Counts.{at-most-after}
@@ -84,8 +84,8 @@ counted-charset false counted u w = refl
 found-charset : (d : Dialect) (s : List ℕ) (x : Facts) (c : Declared) (k : Ranks) (a b : ℕ)
     → a ≡ cond (hasCharset d (c .real)) (charsetBy s (x .characters) (k .character)) 0
     → b ≡ cond (isEnumOrSet (c .real)) (charsetBy s (x .choices) (k .choice)) 0
-    → cond (isCharacter (c .real)) a b ≡ charsetOf s x c k
-unfolding charsetOf hasCharset
+    → cond (isCharacter (c .real)) a b ≡ charsetFor s x c k
+unfolding charsetFor hasCharset
 found-charset d s x c k a b e f = rw (e, f) (counted-charset (isCharacter (c .real)) _ (charsetBy s (x .characters) (k .character)) _)
 
 -- what the code of a turn has gathered

@@ -16,7 +16,7 @@ use Rattle.map_check.specs.declared.field.Found.the-variants.{Value, Not
 use Rattle.map_check.specs.declared.names.NameRead.{NameRead}
 use Rattle.map_check.specs.declared.names.NameRead.the-variants.{Name, Refused}
 use Rattle.map_check.specs.Fields.{valueIn}
-use Rattle.map_check.specs.Names.{stringAt, partIn, nameOf}
+use Rattle.map_check.specs.Names.{stringAt, partFound, nameOf}
 
 -- ---- a string, `left` strings before the one asked
 pub looks-found : (left asked : ℕ) (s : List ℕ) (at : ℕ) (p : Part) (next : ℕ) → left ≡ 0 → step stringItem s at ≡ ok (item p next)
@@ -44,7 +44,7 @@ looks-broken zero asked s at w e = rw e
 looks-broken (suc i) asked s at w e = rw e
 
 -- ---- the bytes of a value that was found are those of its part
-pub in-part : (s : List ℕ) (f : Found) → lentPart s (partIn f) ≡ valueIn s f
+pub in-part : (s : List ℕ) (f : Found) → lentPart s (partFound f) ≡ valueIn s f
 in-part s (Value p) = refl
 in-part s Nothing = rw (le-leb 0 (length s) (omega arith))
 

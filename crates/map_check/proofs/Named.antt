@@ -15,7 +15,7 @@ use Rattle.table_map.specs.Fields.{signBits, countSigned, contentsHold, fieldIt
 use Rattle.map_check.specs.Ranks.{place, noRanks}
 use Rattle.map_check.specs.Contents.{every, listHolds, exactly, keyItem, contentsFull}
 use Rattle.map_check.specs.Fields.{stood, rivalOf, isKept, keepSteps, keepFields, firstOf}
-use Rattle.map_check.specs.Names.{listOf, stringAt, columnName, nameIn, namesOf}
+use Rattle.map_check.specs.Names.{listOf, stringAt, columnName, nameIn, namesBytes}
 
 -- ---- names: "a" and "bc" in the map, "x" and "y" in the operator's list
 abbrev names : List ℕ
@@ -69,12 +69,12 @@ no-further = refl
 abbrev event : List ℕ → List ℕ
 event optional = 1 ∷ 0 ∷ 0 ∷ 0 ∷ 0 ∷ 0 ∷ 1 ∷ 0 ∷ 1 ∷ 0x74 ∷ 0 ∷ 1 ∷ 0x72 ∷ 0 ∷ 1 ∷ 1 ∷ 0 ∷ 0 ∷ optional
 
-of-map : namesOf Document (event (1 ∷ 1 ∷ 128 ∷ 4 ∷ 2 ∷ 1 ∷ 97 ∷ [])) (readEvent (event (1 ∷ 1 ∷ 128 ∷ 4 ∷ 2 ∷ 1 ∷ 97 ∷ [])) 8) ≡ 1 ∷ 97 ∷ []
+of-map : namesBytes Document (event (1 ∷ 1 ∷ 128 ∷ 4 ∷ 2 ∷ 1 ∷ 97 ∷ [])) (readEvent (event (1 ∷ 1 ∷ 128 ∷ 4 ∷ 2 ∷ 1 ∷ 97 ∷ [])) 8) ≡ 1 ∷ 97 ∷ []
 unfolding readEvent readNames readColumns leValue readPacked formOf within shortPart longPart step walkSteps signBits countSigned hasSignBit isNumeric familyOf contentsHold fieldItem firstOf
 of-map = refl
 
 -- none behind a field that is refused
-behind-a-refusal : namesOf Document (event (14 ∷ 0 ∷ 4 ∷ 2 ∷ 1 ∷ 97 ∷ [])) (readEvent (event (14 ∷ 0 ∷ 4 ∷ 2 ∷ 1 ∷ 97 ∷ [])) 8) ≡ []
+behind-a-refusal : namesBytes Document (event (14 ∷ 0 ∷ 4 ∷ 2 ∷ 1 ∷ 97 ∷ [])) (readEvent (event (14 ∷ 0 ∷ 4 ∷ 2 ∷ 1 ∷ 97 ∷ [])) 8) ≡ []
 unfolding readEvent readNames readColumns leValue readPacked formOf within shortPart longPart step walkSteps signBits countSigned hasSignBit isNumeric familyOf contentsHold fieldItem firstOf
 behind-a-refusal = refl
 

@@ -22,7 +22,7 @@ use Rattle.map_check.specs.declared.facts.Facts.{Facts}
 use Rattle.map_check.specs.declared.facts.Charsets.{Charsets}
 use Rattle.map_check.specs.Contents.{exactly, integerHolds, defaultHolds}
 use Rattle.map_check.specs.Fields.{valueIn}
-use Rattle.map_check.specs.Profile.{stands, fromList, charsetBy, charsetOf, oneIf, isVisible, flagsOf, entryFor}
+use Rattle.map_check.specs.Profile.{stands, fromList, charsetBy, charsetFor, oneIf, isVisible, flagsOf, entryFor}
 use Rattle.map_check.specs.Standing.{ClassHolds}
 use Rattle.map_check.proofs.Bounds.{either-at-most, charset-list, charset-default}
 
@@ -42,8 +42,8 @@ pub charset-narrow : (s : List ℕ) (class : Charsets) (r : Rank) → ClassHolds
 unfolding charsetBy
 charset-narrow s class r h = omega (arith, class-narrow s (r .0) (class .default) (class .list) (h .size) (h .list) (h .default))
 
-pub column-narrow : (s : List ℕ) (x : Facts) (c : Declared) (k : Ranks) → ClassHolds s (x .characters) → ClassHolds s (x .choices) → charsetOf s x c k < 2 ^ 16
-unfolding charsetOf
+pub column-narrow : (s : List ℕ) (x : Facts) (c : Declared) (k : Ranks) → ClassHolds s (x .characters) → ClassHolds s (x .choices) → charsetFor s x c k < 2 ^ 16
+unfolding charsetFor
 column-narrow s x c k h g =
     let a : charsetBy s (x .characters) (k .character) ≤ 65535 = omega (arith, charset-narrow s (x .characters) (k .character) h) in
     let b : charsetBy s (x .choices) (k .choice) ≤ 65535 = omega (arith, charset-narrow s (x .choices) (k .choice) g) in
@@ -57,7 +57,7 @@ none-elsewhere false true u w = refl
 none-elsewhere false false u w = refl
 
 pub charset-holds : (s : List ℕ) (x : Facts) (c : Declared) (j : Place) (k : Ranks) → charsetHolds (entryFor s x c j k) ≡ true
-unfolding charsetHolds charsetOf
+unfolding charsetHolds charsetFor
 charset-holds s x c j k = none-elsewhere (isCharacter (c .real)) (isEnumOrSet (c .real)) _ _
 
 -- ---- flags

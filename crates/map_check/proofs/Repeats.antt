@@ -16,13 +16,13 @@ use Rattle.table_map.proofs.Steps.{item-read}
 use Rattle.table_map.proofs.Items.{Moves}
 use Rattle.map_check.specs.Contents.{keyItem}
 use Rattle.map_check.specs.Fields.{stood}
-use Rattle.map_check.specs.Keys.{placed, keysFrom, keysOnce}
+use Rattle.map_check.specs.Keys.{withPlace, keysFrom, keysOnce}
 use Rattle.map_check.proofs.KeyItems.{key-moves}
 use Rattle.map_check.proofs.Between.{Between, none, one-more, rises, parted, items-next, items-past, items-stop}
 
 -- items with their places move as they do without
-pub placed-moves : {A : Type 0} (rule : Rule A) → Moves rule → Moves (placed rule)
-unfolding placed
+pub placed-moves : {A : Type 0} (rule : Rule A) → Moves rule → Moves (withPlace rule)
+unfolding withPlace
 placed-moves {A} rule m = record {
   moves = λ s at a next e.
       let x = after-is-ok (rule s at) (λ y. ok ((at, y .0), y .1)) (a, next) e in
@@ -33,34 +33,34 @@ placed-moves {A} rule m = record {
 -- ---- the keys from a place on
 pub keys-next : (paired : Bool) (value : List ℕ) (at k next : ℕ) → keyItem paired value at ≡ ok (k, next)
     → keysFrom paired value at ≡ (at, k) ∷ keysFrom paired value next
-unfolding placed
+unfolding withPlace
 keys-next paired value at k next e =
-    let r : placed (keyItem paired) value at ≡ ok ((at, k), next) = rw e in
-    items-next (placed (keyItem paired)) (placed-moves (keyItem paired) (key-moves paired)) value at (at, k) next r
+    let r : withPlace (keyItem paired) value at ≡ ok ((at, k), next) = rw e in
+    items-next (withPlace (keyItem paired)) (placed-moves (keyItem paired) (key-moves paired)) value at (at, k) next r
 
 pub keys-past : (paired : Bool) (value : List ℕ) (at : ℕ) → length value ≤ at → keysFrom paired value at ≡ []
-keys-past paired value at h = items-past (placed (keyItem paired)) (placed-moves (keyItem paired) (key-moves paired)) value at h
+keys-past paired value at h = items-past (withPlace (keyItem paired)) (placed-moves (keyItem paired) (key-moves paired)) value at h
 
 pub keys-stop : (paired : Bool) (value : List ℕ) (at : ℕ) (w : Refusal) → keyItem paired value at ≡ refused w → keysFrom paired value at ≡ []
-unfolding placed
+unfolding withPlace
 keys-stop paired value at w e =
-    let r : placed (keyItem paired) value at ≡ refused w = rw e in
-    items-stop (placed (keyItem paired)) (placed-moves (keyItem paired) (key-moves paired)) value at w r
+    let r : withPlace (keyItem paired) value at ≡ refused w = rw e in
+    items-stop (withPlace (keyItem paired)) (placed-moves (keyItem paired) (key-moves paired)) value at w r
 
 -- they stand within the value
-places : {A : Type 0} (rule : Rule A) (m : ℕ) (s : List ℕ) (at j : ℕ) (d : ℕ × A) → j < length (walkSteps m (placed rule) s at .items)
-    → getD (walkSteps m (placed rule) s at .items) j d .0 < length s
-unfolding walkSteps placed
+places : {A : Type 0} (rule : Rule A) (m : ℕ) (s : List ℕ) (at j : ℕ) (d : ℕ × A) → j < length (walkSteps m (withPlace rule) s at .items)
+    → getD (walkSteps m (withPlace rule) s at .items) j d .0 < length s
+unfolding walkSteps withPlace
 places rule zero s at j d h = absurd (omega arith)
-places {A} rule (suc m) s at j d h = go (λ next i. places rule m s next i d) (step (placed rule) s at) refl j h
+places {A} rule (suc m) s at j d h = go (λ next i. places rule m s next i d) (step (withPlace rule) s at) refl j h
   where
-    go : ((next i : ℕ) → i < length (walkSteps m (placed rule) s next .items) → getD (walkSteps m (placed rule) s next .items) i d .0 < length s)
-        → (o : Outcome (Stepped (ℕ × A) ℕ)) → step (placed rule) s at ≡ o
-        → (j : ℕ) → j < length (onward (walkSteps m (placed rule) s) o .items) → getD (onward (walkSteps m (placed rule) s) o .items) j d .0 < length s
+    go : ((next i : ℕ) → i < length (walkSteps m (withPlace rule) s next .items) → getD (walkSteps m (withPlace rule) s next .items) i d .0 < length s)
+        → (o : Outcome (Stepped (ℕ × A) ℕ)) → step (withPlace rule) s at ≡ o
+        → (j : ℕ) → j < length (onward (walkSteps m (withPlace rule) s) o .items) → getD (onward (walkSteps m (withPlace rule) s) o .items) j d .0 < length s
     go again (ok end) e j h = absurd (omega arith)
     go again (refused r) e j h = absurd (omega arith)
     go again (ok (item a next)) e zero h =
-        let x = item-read (placed rule) s at a next e in
+        let x = item-read (withPlace rule) s at a next e in
         let y = after-is-ok (rule s at) (λ z. ok ((at, z .0), z .1)) (a, next) (x .1) in
         let z : at ≡ a .0 = ap (λ (w : (ℕ × A) × ℕ). w .0 .0) (same-ok (y .2)) in
         omega (arith, x .0, z)

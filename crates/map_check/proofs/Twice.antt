@@ -21,7 +21,7 @@ use Rattle.map_check.specs.declared.field.Found.{Found}
 use Rattle.map_check.specs.declared.field.Found.the-variants.{Value, Nothing}
 use Rattle.map_check.specs.Contents.{keyItem}
 use Rattle.map_check.specs.Fields.{stood, firstOf}
-use Rattle.map_check.specs.Keys.{placed, keysFrom, keysOnce, onceIn, keysHold}
+use Rattle.map_check.specs.Keys.{withPlace, keysFrom, keysOnce, onceIn, keysHold}
 use Rattle.map_check.proofs.Lent.{lent-ends}
 use Rattle.map_check.proofs.Repeats.{key-places}
 
@@ -195,5 +195,5 @@ keys-told s fs w e =
 
 -- ---- keys 1, 2, 2, 1: the third item is told and not the fourth
 third : keysOnce 40 [] (keysFrom false (1 ∷ 2 ∷ 2 ∷ 1 ∷ []) 0) ≡ refuse 7 42
-unfolding readPacked formOf step walkSteps placed keyItem stood keysOnce
+unfolding readPacked formOf step walkSteps withPlace keyItem stood keysOnce
 third = refl

@@ -1,4 +1,4 @@
--- "The first key index that stands twice is a 7": placed at the first byte of the earliest item, of field 8 or 9, that repeats an earlier one. Assumes nothing.
+-- "The first key index that stands twice is a 7": withPlace at the first byte of the earliest item, of field 8 or 9, that repeats an earlier one. Assumes nothing.
 use Prim.Native.Nat.{ℕ, _+_}
 use mathlib.Core.Bool.{Bool, true, false, cond}
 use mathlib.Core.List.{List, [], _∷_, _++_}
@@ -12,12 +12,12 @@ use Rattle.map_check.specs.Contents.{keyItem}
 use Rattle.map_check.specs.Fields.{stood, firstOf}
 
 -- items with the places where they stand
-unfoldable pub placed : {A : Type 0} → Rule A → Rule (ℕ × A)
-placed rule s at = after (rule s at) (λ x. ok ((at, x .0), x .1))
+unfoldable pub withPlace : {A : Type 0} → Rule A → Rule (ℕ × A)
+withPlace rule s at = after (rule s at) (λ x. ok ((at, x .0), x .1))
 
 -- the keys of a field's value, each with its place in the value
 abbrev pub keysFrom : Bool → List ℕ → ℕ → List (ℕ × ℕ)
-keysFrom paired value at = walk (placed (keyItem paired)) value at .items
+keysFrom paired value at = walk (withPlace (keyItem paired)) value at .items
 
 -- none of them repeats one of those before it; the value starts at `start`
 unfoldable pub keysOnce : ℕ → List ℕ → List (ℕ × ℕ) → Outcome (Unit {0})
@@ -32,5 +32,5 @@ onceIn paired s Nothing = ok tt
 
 -- no key stands twice: in field 8, then in field 9, of which at most one stands
 unfoldable pub keysHold : List ℕ → List (ℕ × Part) → Outcome (Unit {0})
-unfolding walkSteps placed keyItem keysOnce firstOf
+unfolding walkSteps withPlace keyItem keysOnce firstOf
 keysHold s fs = after (onceIn false s (firstOf 8 fs)) (λ x. onceIn true s (firstOf 9 fs))

@@ -50,16 +50,16 @@ namesFound d s (ok e) = firstOf 4 (fieldsFrom (fieldsAt d (lentPart s (e .types)
 namesFound d s (refused r) = Nothing
 
 -- its bytes
-abbrev pub namesOf : Dialect → List ℕ → Outcome Event → List ℕ
-namesOf d s o = valueIn s (namesFound d s o)
+abbrev pub namesBytes : Dialect → List ℕ → Outcome Event → List ℕ
+namesBytes d s o = valueIn s (namesFound d s o)
 
 -- where it stands in the event, start and length 0 for nothing
-abbrev pub partIn : Found → Part
-partIn (Value p) = p
-partIn Nothing = part 0 0
+abbrev pub partFound : Found → Part
+partFound (Value p) = p
+partFound Nothing = part 0 0
 
 abbrev pub namesPart : Dialect → List ℕ → Outcome Event → Part
-namesPart d s o = partIn (namesFound d s o)
+namesPart d s o = partFound (namesFound d s o)
 
 -- what the answer of the lookup says
 abbrev pub nameOf : NameRead → Outcome Part

@@ -64,9 +64,9 @@ unfoldable pub charsetBy : List ℕ → Charsets → Rank → ℕ
 unfolding readPacked walkSteps pairItem pairOr
 charsetBy s x r = fromList s (r .0) (x .default) (x .list)
 
-unfoldable pub charsetOf : List ℕ → Facts → Declared → Ranks → ℕ
+unfoldable pub charsetFor : List ℕ → Facts → Declared → Ranks → ℕ
 unfolding charsetBy isCharacter isEnumOrSet
-charsetOf s x c k =
+charsetFor s x c k =
     cond (isCharacter (c .real)) (charsetBy s (x .characters) (k .character))
     (cond (isEnumOrSet (c .real)) (charsetBy s (x .choices) (k .choice))
     0)
@@ -95,10 +95,10 @@ abbrev pub entryWith : List ℕ → Facts → Declared → Place → Ranks → �
 entryWith s x c j k charset = record { kind = c .real; flags = flagsOf s x c j k; m0 = c .m0; m1 = c .m1; charset = charset }
 
 abbrev pub entryFor : List ℕ → Facts → Declared → Place → Ranks → Entry
-entryFor s x c j k = entryWith s x c j k (charsetOf s x c k)
+entryFor s x c j k = entryWith s x c j k (charsetFor s x c k)
 
 -- the entries of columns, from a place and ranks on
 unfoldable pub entriesFrom : Dialect → List ℕ → Facts → List Declared → Place → Ranks → List Entry
-unfolding flagsOf charsetOf ranksAfter
+unfolding flagsOf charsetFor ranksAfter
 entriesFrom d s x [] j k = []
 entriesFrom d s x (c ∷ cs) j k = entryFor s x c j k ∷ entriesFrom d s x cs (place (suc (j .0))) (ranksAfter d k c)

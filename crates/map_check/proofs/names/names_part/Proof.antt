@@ -7,7 +7,7 @@ use Rattle.map_check.proofs.names.names_part.Tie as tie
 use Rattle.map_check.proofs.names.names_part.Reads as reads
 use Rattle.map_check.proofs.names.names_part.Lts as lts
 use Rattle.map_check.proofs.field.find_field.Reads as find-field-reads
-use Rattle.map_check.proofs.names.part_in.Reads as part-in-reads
+use Rattle.map_check.proofs.names.part_found.Reads as part-found-reads
 use Rattle.table_map.proofs.part_of.Reads as part-of-reads
 use Rattle.table_map.proofs.read_event.Reads as read-event-reads
 use Rattle.table_map.proofs.field.Fields.new.Reads as new-reads
@@ -33,11 +33,11 @@ new-requires c κs = search needs
 find-field-requires : tie.Need-find-field-requires
 find-field-requires c κs = search needs
 
-part-in-requires : tie.Need-part-in-requires
-part-in-requires c κs = search needs
+part-found-requires : tie.Need-part-found-requires
+part-found-requires c κs = search needs
 
 returns-2 : tie.Need-returns-2
-returns-2 c = rw (sym (c .before .before .before .before .before .before .before .before .before .read-event .ensures) ∙ ap eventOf (c .before .before .before .before .before .before .before .e .given .1), ← (c .before .before .before .part-of .ensures), ← (c .before .before .new .ensures), ← (c .before .find-field .ensures)) (c .part-in .ensures)
+returns-2 c = rw (sym (c .before .before .before .before .before .before .before .before .before .read-event .ensures) ∙ ap eventOf (c .before .before .before .before .before .before .before .e .given .1), ← (c .before .before .before .part-of .ensures), ← (c .before .before .new .ensures), ← (c .before .find-field .ensures)) (c .part-found .ensures)
 
 pub names-part-spec : {M : Type 1} → statement M
 names-part-spec =
@@ -50,5 +50,5 @@ names-part-spec =
     part-of-requires
     new-requires
     find-field-requires
-    part-in-requires
+    part-found-requires
     returns-2)
