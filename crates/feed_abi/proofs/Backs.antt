@@ -9,13 +9,13 @@ use lib.Dec.{eqb}
 use Rattle.wire.specs.Outcome.{ok}
 use Rattle.wire.specs.Signed.{inHalves}
 use Rattle.wire.proofs.Signs.{signs-back}
+use Rattle.wire.proofs.Outcomes.{both-true}
 use Rattle.temporal.specs.declared.parts.Time.{Time}
 use Rattle.temporal.specs.declared.parts.Temporal.the-variants.{Since, On, At, Lasts}
 use Rattle.value.specs.declared.datum.Value.{Value}
 use Rattle.value.specs.declared.datum.Value.the-variants.{Null, Int, Uint, Float, Double, Year, When, Bytes}
 use Rattle.value.specs.Data.{intIn}
 use Rattle.value.specs.Reading.{datumOf}
-use Rattle.value.proofs.Facts.{both}
 use Rattle.image.specs.declared.cursor.Cursor.{Cursor}
 use Rattle.image.specs.Split.{null, value}
 use Rattle.feed_abi.specs.Parts.{kindOf, partsOf, padded, topsOf, fit, isTaken, made, valueOf, isHeld}
@@ -78,7 +78,7 @@ makes (Bytes start len) rest h = refl
 pub value-back : (v : Value) (rest : List ℕ) → isHeld v ≡ true → valueOf (kindOf v) (partsOf v ++ rest) ≡ ok v
 unfolding valueOf isHeld
 value-back v rest h =
-    let w = both (inHalves (2 ^ 64) (intIn (datumOf [] v))) (fit (topsOf (kindOf v)) (partsOf v)) h in
+    let w = both-true (inHalves (2 ^ 64) (intIn (datumOf [] v))) (fit (topsOf (kindOf v)) (partsOf v)) h in
     let t : isTaken (kindOf v) (partsOf v ++ rest) ≡ true = taken-is (kindOf v) (partsOf v ++ rest) (least v) (most v) ∙ fit-more (topsOf (kindOf v)) (partsOf v) rest (w .1) in
     rw t (ap ok (makes v rest (w .0)))
 

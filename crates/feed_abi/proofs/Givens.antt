@@ -8,10 +8,9 @@ use borrow.Author.Tests.{leb-true}
 use lib.ListN.{length, getD, take}
 use lib.Dec.{leb, eqb}
 use Rattle.wire.specs.Outcome.{ok, why}
-use Rattle.wire.proofs.Outcomes.{test-is-ok}
+use Rattle.wire.proofs.Outcomes.{test-is-ok, both-true}
 use Rattle.wire.proofs.Signs.{signs-sound}
 use Rattle.value.specs.declared.datum.Value.{Value}
-use Rattle.value.proofs.Facts.{both}
 use Rattle.feed_abi.specs.Parts.{kindOf, partsOf, topsOf, fit, isTaken, made, valueOf}
 use Rattle.feed_abi.proofs.Takes.{fit-at}
 
@@ -28,7 +27,7 @@ fit-listed : (ts ps : List ℕ) → fit ts ps ≡ true → take (length ts) ps �
 unfolding fit
 fit-listed [] ps h = refl
 fit-listed (t ∷ ts) [] h = absurd (true≢false (sym h))
-fit-listed (t ∷ ts) (p ∷ ps) h = ap (λ (l : List ℕ). p ∷ l) (fit-listed ts ps (both (leb p t) (fit ts ps) h .1) ∙ sym (listed-behind (length ts) 0 p ps))
+fit-listed (t ∷ ts) (p ∷ ps) h = ap (λ (l : List ℕ). p ∷ l) (fit-listed ts ps (both-true (leb p t) (fit ts ps) h .1) ∙ sym (listed-behind (length ts) 0 p ps))
 
 -- ---- what a kind makes of parts that fit it
 abbrev MadeFrom : ℕ → Type 0
@@ -73,6 +72,6 @@ pub parts-back : (kind : ℕ) (ps : List ℕ) (v : Value) → valueOf kind ps �
 unfolding valueOf isTaken
 parts-back kind ps v e =
     let t = test-is-ok (isTaken kind ps) (made kind ps) (why 13 0) v e in
-    let u = both (leb 1 kind) (leb kind 11 && fit (topsOf kind) ps) (t .0) in
-    let w = both (leb kind 11) (fit (topsOf kind) ps) (u .1) in
+    let u = both-true (leb 1 kind) (leb kind 11 && fit (topsOf kind) ps) (t .0) in
+    let w = both-true (leb kind 11) (fit (topsOf kind) ps) (u .1) in
     subst (λ (x : Value). (kindOf x ≡ kind) × (partsOf x ≡ take (length (topsOf kind)) ps)) (t .1) (made-any kind (leb-true 1 kind (u .0)) (leb-true kind 11 (w .0)) ps (w .1))

@@ -13,7 +13,7 @@ use lib.ListN.{length, getD, drop, drop-of-length-le}
 use lib.Seq.{drop-cons}
 use lib.Dec.{leb}
 use mir.Val.{boolByte}
-use Rattle.value.proofs.Facts.{both}
+use Rattle.wire.proofs.Outcomes.{both-true}
 use Rattle.feed_abi.specs.Parts.{topsOf, fit, isTaken}
 
 -- ---- parts that fit
@@ -22,15 +22,15 @@ pub fit-at : (ts ps : List ℕ) (i : ℕ) → fit ts ps ≡ true → i < length 
 unfolding fit
 fit-at [] ps i h l = absurd (not-suc-le-zero l)
 fit-at (t ∷ ts) [] i h l = omega arith
-fit-at (t ∷ ts) (p ∷ ps) zero h l = leb-true p t (both (leb p t) (fit ts ps) h .0)
-fit-at (t ∷ ts) (p ∷ ps) (suc i) h l = fit-at ts ps i (both (leb p t) (fit ts ps) h .1) (omega arith)
+fit-at (t ∷ ts) (p ∷ ps) zero h l = leb-true p t (both-true (leb p t) (fit ts ps) h .0)
+fit-at (t ∷ ts) (p ∷ ps) (suc i) h l = fit-at ts ps i (both-true (leb p t) (fit ts ps) h .1) (omega arith)
 
 -- what stands behind them does not matter
 pub fit-more : (ts ps rest : List ℕ) → fit ts ps ≡ true → fit ts (ps ++ rest) ≡ true
 unfolding fit
 fit-more [] ps rest h = refl
 fit-more (t ∷ ts) [] rest h = absurd (true≢false (sym h))
-fit-more (t ∷ ts) (p ∷ ps) rest h = let w = both (leb p t) (fit ts ps) h in
+fit-more (t ∷ ts) (p ∷ ps) rest h = let w = both-true (leb p t) (fit ts ps) h in
     rw (w .0, fit-more ts ps rest (w .1))
 
 -- ---- a turn of the loop over them
@@ -58,8 +58,8 @@ as-number false = refl
 -- ---- kinds
 pub taken-fit : (kind k : ℕ) (ps : List ℕ) → isTaken kind ps ≡ true → kind ≡ k → fit (topsOf k) ps ≡ true
 unfolding isTaken
-taken-fit kind k ps h e = let w = both (leb 1 kind) (leb kind 11 && fit (topsOf kind) ps) h in
-    ap (λ (n : ℕ). fit (topsOf n) ps) (sym e) ∙ both (leb kind 11) (fit (topsOf kind) ps) (w .1) .1
+taken-fit kind k ps h e = let w = both-true (leb 1 kind) (leb kind 11 && fit (topsOf kind) ps) h in
+    ap (λ (n : ℕ). fit (topsOf n) ps) (sym e) ∙ both-true (leb kind 11) (fit (topsOf kind) ps) (w .1) .1
 
 pub taken-is : (kind : ℕ) (ps : List ℕ) → 1 ≤ kind → kind ≤ 11 → isTaken kind ps ≡ fit (topsOf kind) ps
 unfolding isTaken

@@ -16,8 +16,7 @@ use Rattle.wire.specs.Outcome.{ok, refused, refuse}
 use Rattle.wire.specs.Number.{Bytes}
 use Rattle.wire.specs.Bits.{bytesFor, bitLsb0}
 use Rattle.wire.proofs.Inverse.{bytes-drop}
-use Rattle.wire.proofs.Outcomes.{same-refused, ok-not-refused}
-use Rattle.temporal.proofs.Ranges.{and-true}
+use Rattle.wire.proofs.Outcomes.{same-refused, ok-not-refused, both-true}
 use Rattle.value.specs.declared.shape.Shape.{Shape}
 use Rattle.value.specs.Reading.{Fails, short as cut, range}
 use Rattle.record.specs.Records.{countOf, recordValid}
@@ -105,7 +104,7 @@ unfolding inDomains
 row-length [] [] h = refl
 row-length [] (d ∷ ds) h = absurd (true≢false (sym h))
 row-length (c ∷ cs) [] h = absurd (true≢false (sym h))
-row-length (c ∷ cs) (d ∷ ds) h = ap suc (row-length cs ds (and-true (inCell c d) (inDomains cs ds) h .1))
+row-length (c ∷ cs) (d ∷ ds) h = ap suc (row-length cs ds (both-true (inCell c d) (inDomains cs ds) h .1))
 
 pub every-row : (r p nulls rest : List ℕ) (ds : Row) → recordValid r ≡ true → length p ≡ bytesFor (countOf r) → inDomains (present r p) ds ≡ true → Marks nulls 0 ds
     → length nulls ≡ bytesFor (length ds)

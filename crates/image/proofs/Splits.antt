@@ -11,7 +11,7 @@ use Rattle.wire.specs.Outcome.{Outcome, ok, refused, refuse}
 use Rattle.wire.specs.Number.{Bytes}
 use Rattle.wire.specs.Bits.{bitLsb0}
 use Rattle.wire.proofs.Inverse.{bytes-drop}
-use Rattle.temporal.proofs.Ranges.{and-true}
+use Rattle.wire.proofs.Outcomes.{both-true}
 use Rattle.value.specs.Data.{Datum}
 use Rattle.value.specs.Columns.{isTaken}
 use Rattle.value.specs.Shapes.{Sized}
@@ -110,7 +110,7 @@ read-row [] more [] k nulls rest o h m = rw (add-zero k, add-zero o)
 read-row [] more (d ∷ ds) k nulls rest o h m = absurd (true≢false (sym h))
 read-row (c ∷ cs) more [] k nulls rest o h m = absurd (true≢false (sym h))
 read-row (c ∷ cs) more (d ∷ ds) k nulls rest o h m =
-    let w = and-true (inCell c d) (inDomains cs ds) h in
+    let w = both-true (inCell c d) (inDomains cs ds) h in
     let b = cell c d in
     let j : k + suc (length cs) ≡ suc k + length cs = omega arith in
     let n : o + length (b ++ rowBytes cs ds) ≡ o + length b + length (rowBytes cs ds) = omega (arith, length-append b (rowBytes cs ds)) in

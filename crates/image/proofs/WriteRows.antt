@@ -13,9 +13,8 @@ use lib.ListN.{length, drop, length-append}
 use Rattle.wire.specs.Outcome.{Outcome, ok, refused, refuse, after, why}
 use Rattle.wire.specs.Bits.{bytesFor, bitLsb0}
 use Rattle.wire.specs.Stored.{stored, store}
-use Rattle.wire.proofs.Outcomes.{after-is-ok, after-refuses, same-ok, ok-not-refused}
+use Rattle.wire.proofs.Outcomes.{after-is-ok, after-refuses, same-ok, ok-not-refused, both-true}
 use Rattle.wire.proofs.Stores.{length-stored, stored-stored, store-fits, store-full}
-use Rattle.temporal.proofs.Ranges.{and-true}
 use Rattle.value.specs.declared.datum.Value.{Value}
 use Rattle.value.specs.Domains.{domain}
 use Rattle.value.specs.Reading.{datumOf}
@@ -129,8 +128,8 @@ put-row [] (c ∷ cs) r p nulls j o buf u h e d m l b = absurd (true≢false (sy
 put-row (g ∷ gs) [] r p nulls j o buf u h e d m l b = absurd (true≢false (sym d))
 put-row (g ∷ gs) (c ∷ cs) r p nulls j o buf u h e d m l b =
     let x = datumOf (g .lent) (g .value) in
-    let w = and-true (inCell c x) (inDomains cs (rowOf gs)) d in
-    let t = and-true (isLent (g .lent) (g .value)) (areLent gs) l in
+    let w = both-true (inCell c x) (inDomains cs (rowOf gs)) d in
+    let t = both-true (isLent (g .lent) (g .value)) (areLent gs) l in
     let n = next-present r p j c cs h e in
     let i : Slot = record { present = c; null = bitLsb0 nulls (countBits p j) } in
     rw (put-goes r p nulls (cursor j o) (g .lent) (g .value) buf (nulls-is r p nulls u) h, e, put-over i (slots cs (suc (countBits p j)) nulls) (cursor j o) g buf (w .0) (m .0) (t .0))

@@ -6,8 +6,7 @@ use mathlib.Core.Bool.{Bool, true, false, cond, _&&_, _||_}
 use mathlib.Core.List.{List}
 use borrow.Author.Tests.{eqb-true}
 use lib.Dec.{eqb}
-use Rattle.wire.proofs.Outcomes.{by-test}
-use Rattle.temporal.proofs.Ranges.{and-true}
+use Rattle.wire.proofs.Outcomes.{by-test, both-true}
 use Rattle.value.specs.declared.column.Family.{Family}
 use Rattle.value.specs.declared.column.Family.the-variants.{Integer, Float, Double, Year, Timestamp, Date, Time, Datetime, Timestamp2, Datetime2, Time2, Varchar, Char, Blob, Json, Bit, Decimal, Enum, Set, Unknown}
 use Rattle.value.specs.declared.shape.Shape.the-variants.{Unsigned, Signed, NotTaken}
@@ -58,7 +57,7 @@ sign-free kind m0 m1 u v = go (eqb kind 10)
 
 pub accepted-taken : (c : Declared) (unsigned : Bool) → isAccepted c ≡ true → isTaken (shapeOf (realColumn c unsigned)) ≡ true
 unfolding isAccepted
-accepted-taken c unsigned e = sign-free (c .real) (c .m0) (c .m1) unsigned false ∙ and-true (isReal (c .kind) (c .real)) _ e .1
+accepted-taken c unsigned e = sign-free (c .real) (c .m0) (c .m1) unsigned false ∙ both-true (isReal (c .kind) (c .real)) _ e .1
 
 -- ---- a type and its real type are of one class
 one-of : {P : Type 0} (a b : Bool) → (a || b) ≡ true → (a ≡ true → P) → (b ≡ true → P) → P
@@ -86,4 +85,4 @@ pub accepted-numeric : (kind : ℕ) (meta : List ℕ) → isAccepted (declared k
     → isNumeric (familyOf (declared kind meta .kind)) ≡ isNumeric (familyOf (declared kind meta .real))
 unfolding isAccepted declared
 accepted-numeric kind meta e =
-    numeric-real kind (metaByte 0 kind meta) (realType kind (metaByte 0 kind meta)) refl (and-true (isReal kind (realType kind (metaByte 0 kind meta))) _ e .0)
+    numeric-real kind (metaByte 0 kind meta) (realType kind (metaByte 0 kind meta)) refl (both-true (isReal kind (realType kind (metaByte 0 kind meta))) _ e .0)

@@ -9,7 +9,7 @@ use lib.ListN.{getD}
 use lib.Dec.{leb, ltb, eqb}
 use Rattle.wire.specs.Outcome.{Outcome, ok, refused}
 use Rattle.wire.specs.Packed.{readPacked}
-use Rattle.temporal.proofs.Ranges.{and-true}
+use Rattle.wire.proofs.Outcomes.{both-true}
 use Rattle.table_map.specs.Lists.{walk, integerItem, pairItem}
 use Rattle.map_check.specs.declared.contents.Meaning.the-variants.{Charset}
 use Rattle.map_check.specs.Contents.{every, exactly, isCharset, integerHolds, pairsHold, pairsWhole, readHolds, defaultHolds}
@@ -23,14 +23,14 @@ either-at-most n false a b h l = l
 
 pub charset-fits : (c : ℕ) → isCharset c ≡ true → c ≤ 65535
 unfolding isCharset
-charset-fits c e = leb-true c 65535 (and-true (leb 1 c) (leb c 65535) e .1)
+charset-fits c e = leb-true c 65535 (both-true (leb 1 c) (leb c 65535) e .1)
 
 -- ---- a list
 each-fits : (l : List ℕ) → every (integerHolds Charset) l ≡ true → (i : ℕ) → getD l i 0 ≤ 65535
 unfolding every integerHolds
 each-fits [] e i = omega arith
-each-fits (c ∷ l) e zero = charset-fits c (and-true (isCharset c) (every (integerHolds Charset) l) e .0)
-each-fits (c ∷ l) e (suc i) = each-fits l (and-true (isCharset c) (every (integerHolds Charset) l) e .1) i
+each-fits (c ∷ l) e zero = charset-fits c (both-true (isCharset c) (every (integerHolds Charset) l) e .0)
+each-fits (c ∷ l) e (suc i) = each-fits l (both-true (isCharset c) (every (integerHolds Charset) l) e .1) i
 
 pub charset-list : (n : ℕ) (value : List ℕ) → exactly integerItem (integerHolds Charset) n value ≡ true
     → (i : ℕ) → getD (walk integerItem value 0 .items) i 0 ≤ 65535
@@ -44,9 +44,9 @@ unfolding pairsHold pairOr
 pairs-fit size low [] c h e r = h
 pairs-fit size low (p ∷ ps) c h e r =
     let rest = pairsHold size (suc (p .0)) ps in
-    let x = and-true (leb low (p .0)) (ltb (p .0) size && (isCharset (p .1) && rest)) e in
-    let y = and-true (ltb (p .0) size) (isCharset (p .1) && rest) (x .1) in
-    let z = and-true (isCharset (p .1)) rest (y .1) in
+    let x = both-true (leb low (p .0)) (ltb (p .0) size && (isCharset (p .1) && rest)) e in
+    let y = both-true (ltb (p .0) size) (isCharset (p .1) && rest) (x .1) in
+    let z = both-true (isCharset (p .1)) rest (y .1) in
     either-at-most 65535 (eqb (p .0) r) (p .1) _ (charset-fits (p .1) (z .0)) (pairs-fit size (suc (p .0)) ps c h (z .1) r)
 
 -- what such a field says: the default, where the pairs start, and what they are
@@ -64,7 +64,7 @@ charset-default size value e = go (readPacked value 0) refl e
   where
     go : (o : Outcome (ℕ × ℕ)) → readPacked value 0 ≡ o → readHolds size value o ≡ true → Defaults size value
     go (ok c) f g =
-        let x = and-true (isCharset (c .0)) (pairsWhole size 0 value (c .1)) g in
+        let x = both-true (isCharset (c .0)) (pairsWhole size 0 value (c .1)) g in
         let h = charset-fits (c .0) (x .0) in
         let y = pairs-true size 0 value (c .1) (x .1) .1 in
         record {

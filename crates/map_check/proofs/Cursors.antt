@@ -12,8 +12,7 @@ use lib.Seq.{getD-drop, drop-drop}
 use lib.Dec.{leb, ltb, eqb}
 use Rattle.wire.specs.Outcome.{Outcome, ok, refused}
 use Rattle.wire.specs.Packed.{readPacked}
-use Rattle.wire.proofs.Outcomes.{same-ok, ok-not-refused}
-use Rattle.temporal.proofs.Ranges.{and-true}
+use Rattle.wire.proofs.Outcomes.{same-ok, ok-not-refused, both-true}
 use Rattle.table_map.specs.declared.event.Part.{Part}
 use Rattle.table_map.specs.Parts.{lentPart}
 use Rattle.table_map.specs.Lists.{Rule, Stepped, end, item, step, Walked, onward, walk, walkSteps, integerItem, pairItem}
@@ -84,9 +83,9 @@ record First (size low : ℕ) (p : ℕ × ℕ) (ps : List (ℕ × ℕ)) : Type 0
 first-pair : (size low : ℕ) (p : ℕ × ℕ) (ps : List (ℕ × ℕ)) → pairsHold size low (p ∷ ps) ≡ true → First size low p ps
 unfolding pairsHold
 first-pair size low p ps e =
-    let a = and-true (leb low (p .0)) _ e in
-    let b = and-true (ltb (p .0) size) _ (a .1) in
-    let d = and-true (isCharset (p .1)) _ (b .1) in
+    let a = both-true (leb low (p .0)) _ e in
+    let b = both-true (ltb (p .0) size) _ (a .1) in
+    let d = both-true (isCharset (p .1)) _ (b .1) in
     record { rank = leb-true low (p .0) (a .0); fits = charset-fits (p .1) (d .0); below = b .0; charset = d .0; rise = d .1 }
 
 -- pairs that hold from a rank on hold from a later one, if the first is no earlier

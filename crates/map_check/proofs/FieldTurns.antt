@@ -10,7 +10,7 @@ use lib.Seq.{getD-set-same, getD-set-other}
 use lib.Dec.{leb, eqb}
 use Rattle.wire.specs.declared.refusal.Refusal.{Refusal}
 use Rattle.wire.specs.Outcome.{Outcome, ok, refused, refuse, after}
-use Rattle.temporal.proofs.Ranges.{and-true}
+use Rattle.wire.proofs.Outcomes.{both-true}
 use Rattle.table_map.specs.declared.event.Part.{Part}
 use Rattle.table_map.specs.declared.field.Fields.{Fields as FieldCursor}
 use Rattle.table_map.specs.Parts.{lentPart}
@@ -120,7 +120,7 @@ pub kind-low : (c : FieldCursor) (s : List ℕ) (f : ℕ × Part) (next : FieldC
 kind-low c s f next e =
     let r = item-read (fieldItem (c .numeric) (c .columns)) s (c .at) f (next .at) (field-stepped c s f next e .0) in
     let k = field-read (c .numeric) (c .columns) s (c .at) f (next .at) (r .1) .known in
-    let l = leb-true (f .0) 13 (and-true (leb 1 (f .0)) (leb (f .0) 13) k .1) in
+    let l = leb-true (f .0) 13 (both-true (leb 1 (f .0)) (leb (f .0) 13) k .1) in
     omega arith
 
 pub rival-low : (k : ℕ) → rivalOf k < 14

@@ -12,8 +12,7 @@ use lib.ListN.{length, getD}
 use lib.Dec.{leb, eqb}
 use Rattle.wire.specs.declared.refusal.Refusal.{Refusal}
 use Rattle.wire.specs.Outcome.{Outcome, ok, refused}
-use Rattle.wire.proofs.Outcomes.{after-is-ok, by-test, ok-not-refused, same-ok, same-refused}
-use Rattle.temporal.proofs.Ranges.{and-true}
+use Rattle.wire.proofs.Outcomes.{after-is-ok, by-test, ok-not-refused, same-ok, same-refused, both-true}
 use Rattle.table_map.specs.declared.event.Part.{Part}
 use Rattle.table_map.specs.declared.field.Fields.{Fields as FieldCursor}
 use Rattle.table_map.specs.Parts.{lentPart}
@@ -110,8 +109,8 @@ fits : (sizes : Ranks) (n : ℕ) (s before : List ℕ) (f : ℕ × Part) → isK
 unfolding isKept
 fits sizes n s before f e =
     let full = contentsFull sizes n (f .0) (lentPart s (f .1)) in
-    let x = and-true (not (stood (f .0) before)) (not (stood (rivalOf (f .0)) before) && full) e in
-    let y = and-true (not (stood (rivalOf (f .0)) before)) full (x .1) in
+    let x = both-true (not (stood (f .0) before)) (not (stood (rivalOf (f .0)) before) && full) e in
+    let y = both-true (not (stood (rivalOf (f .0)) before)) full (x .1) in
     record { first = not-true _ (x .0); alone = not-true _ (y .0); contents = y .1 }
 
 -- ---- the contents of the field that is found
@@ -181,7 +180,7 @@ kept-once sizes c s fs e i j h l q =
 -- every type is known, so it is not 0
 known-at : (sizes : Ranks) (n : ℕ) (s before : List ℕ) (fs : List (ℕ × Part)) → Kept sizes n s before fs → (i : ℕ) → i < length fs → 1 ≤ kindAt fs i
 known-at sizes n s before [] (none b) i h = absurd (omega arith)
-known-at sizes n s before (f ∷ fs) (more b g gs known t rest) zero h = leb-true 1 (f .0) (and-true (leb 1 (f .0)) (leb (f .0) 13) known .0)
+known-at sizes n s before (f ∷ fs) (more b g gs known t rest) zero h = leb-true 1 (f .0) (both-true (leb 1 (f .0)) (leb (f .0) 13) known .0)
 known-at sizes n s before (f ∷ fs) (more b g gs known t rest) (suc i) h = known-at sizes n s (f .0 ∷ before) fs rest i (omega arith)
 
 -- a rival has for its rival the type that it is the rival of, and is another type

@@ -9,7 +9,7 @@ use lib.ListN.{length}
 use lib.Dec.{leb, ltb, eqb}
 use Rattle.wire.specs.declared.refusal.Refusal.{Refusal}
 use Rattle.wire.specs.Outcome.{ok, refused}
-use Rattle.temporal.proofs.Ranges.{and-true}
+use Rattle.wire.proofs.Outcomes.{both-true}
 use Rattle.table_map.specs.Lists.{Rule, end, item, step, walk, pairItem}
 use Rattle.table_map.proofs.Steps.{step-before}
 use Rattle.table_map.proofs.Items.{Moves, pair-moves}
@@ -50,14 +50,14 @@ list-broken rule p m value at w e = rw (walk-steps rule m value at, e)
 pub list-true : {A : Type 0} (rule : Rule A) (p : A → Bool) (value : List ℕ) (at : ℕ) → listHolds rule p value at ≡ true
     → (isWhole (walk rule value at .how) ≡ true) × (every p (walk rule value at .items) ≡ true)
 unfolding listHolds
-list-true rule p value at e = and-true (isWhole (walk rule value at .how)) (every p (walk rule value at .items)) e
+list-true rule p value at e = both-true (isWhole (walk rule value at .how)) (every p (walk rule value at .items)) e
 
 -- a value of n items that hold
 pub exactly-true : {A : Type 0} (rule : Rule A) (p : A → Bool) (n : ℕ) (value : List ℕ) → exactly rule p n value ≡ true
     → (listHolds rule p value 0 ≡ true) × (length (walk rule value 0 .items) ≡ n)
 unfolding exactly
 exactly-true rule p n value e =
-    let x = and-true (listHolds rule p value 0) (eqb (length (walk rule value 0 .items)) n) e in
+    let x = both-true (listHolds rule p value 0) (eqb (length (walk rule value 0 .items)) n) e in
     (x .0, eqb-true _ _ (x .1))
 
 -- ---- the rest of such a value, from a place on, where `before` items were met
@@ -143,4 +143,4 @@ pairs-broken size low value at w e = rw (walk-steps pairItem pair-moves value at
 pub pairs-true : (size low : ℕ) (value : List ℕ) (at : ℕ) → pairsWhole size low value at ≡ true
     → (isWhole (walk pairItem value at .how) ≡ true) × (pairsHold size low (walk pairItem value at .items) ≡ true)
 unfolding pairsWhole
-pairs-true size low value at e = and-true (isWhole (walk pairItem value at .how)) (pairsHold size low (walk pairItem value at .items)) e
+pairs-true size low value at e = both-true (isWhole (walk pairItem value at .how)) (pairsHold size low (walk pairItem value at .items)) e

@@ -11,8 +11,7 @@ use Rattle.wire.specs.declared.refusal.Refusal.{Refusal}
 use Rattle.wire.specs.Outcome.{Outcome, ok, refused}
 use Rattle.wire.specs.Bits.{withDigit}
 use Rattle.wire.specs.Stored.{answerOf, leftOf}
-use Rattle.wire.proofs.Outcomes.{ok-not-refused, same-refused}
-use Rattle.temporal.proofs.Ranges.{and-true}
+use Rattle.wire.proofs.Outcomes.{ok-not-refused, same-refused, both-true}
 use Rattle.value.specs.Columns.{shapeOf}
 use Rattle.table_map.specs.Lists.{integerItem, pairItem, stringItem, groupItem}
 use Rattle.map_check.specs.Names.{listOf, columnName}
@@ -26,13 +25,13 @@ use Rattle.promises.proofs.Rows.{record-read, first-read, image-stepped
 line-number : (l : Line) (ls : List Line) → inTable (l ∷ ls) ≡ true → (1 ≤ numberOf l) × (numberOf l ≤ 14)
 unfolding inTable
 line-number l ls t =
-    let x = and-true (leb 1 (numberOf l)) (leb (numberOf l) 14 && inTable ls) t in
-    let y = and-true (leb (numberOf l) 14) (inTable ls) (x .1) in
+    let x = both-true (leb 1 (numberOf l)) (leb (numberOf l) 14 && inTable ls) t in
+    let y = both-true (leb (numberOf l) 14) (inTable ls) (x .1) in
     (leb-true 1 (numberOf l) (x .0), leb-true (numberOf l) 14 (y .0))
 
 lines-after : (l : Line) (ls : List Line) → inTable (l ∷ ls) ≡ true → inTable ls ≡ true
 unfolding inTable
-lines-after l ls t = and-true (leb (numberOf l) 14) (inTable ls) (and-true (leb 1 (numberOf l)) (leb (numberOf l) 14 && inTable ls) t .1) .1
+lines-after l ls t = both-true (leb (numberOf l) 14) (inTable ls) (both-true (leb 1 (numberOf l)) (leb (numberOf l) 14 && inTable ls) t .1) .1
 
 in-table : (ls : List Line) (w : Refusal) → inTable ls ≡ true → OneOf ls w → (1 ≤ w .number) × (w .number ≤ 14)
 in-table (n at p ∷ ls) w t just = line-number (n at p) ls t

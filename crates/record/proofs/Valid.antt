@@ -6,8 +6,7 @@ use mathlib.Core.List.{List}
 use native.Mathlib.Omega.{arith}
 use Rattle.wire.specs.declared.refusal.Refusal.{Refusal}
 use Rattle.wire.specs.Outcome.{ok, refused, why}
-use Rattle.wire.proofs.Outcomes.{test-is-ok, test-refuses}
-use Rattle.temporal.proofs.Ranges.{and-true}
+use Rattle.wire.proofs.Outcomes.{test-is-ok, test-refuses, both-true}
 use Rattle.value.specs.Columns.{shapeOf, isTaken}
 use Rattle.record.specs.Entries.{columnOf, entryHolds}
 use Rattle.record.specs.Records.{countOf, entryIn, entriesHold, headHolds, recordValid, readRecord}
@@ -18,22 +17,22 @@ unfolding entriesHold
 holds-at zero r j i e h = absurd (omega arith)
 holds-at (suc m) r j zero e h =
     let z : j ≡ j + 0 = omega arith in
-    subst (λ (k : ℕ). entryHolds (entryIn r k) ≡ true) z (and-true (entryHolds (entryIn r j)) _ e .0)
+    subst (λ (k : ℕ). entryHolds (entryIn r k) ≡ true) z (both-true (entryHolds (entryIn r j)) _ e .0)
 holds-at (suc m) r j (suc i) e h =
     let z : suc j + i ≡ j + suc i = omega arith in
-    subst (λ (k : ℕ). entryHolds (entryIn r k) ≡ true) z (holds-at m r (suc j) i (and-true (entryHolds (entryIn r j)) _ e .1) (omega arith))
+    subst (λ (k : ℕ). entryHolds (entryIn r k) ≡ true) z (holds-at m r (suc j) i (both-true (entryHolds (entryIn r j)) _ e .1) (omega arith))
 
 -- every entry of a valid record may be there
 pub valid-entry : (r : List ℕ) (j : ℕ) → recordValid r ≡ true → j < countOf r → entryHolds (entryIn r j) ≡ true
 unfolding recordValid
 valid-entry r j v h =
     let z : 0 + j ≡ j = omega arith in
-    subst (λ (k : ℕ). entryHolds (entryIn r k) ≡ true) z (holds-at (countOf r) r 0 j (and-true (headHolds r) _ v .1) h)
+    subst (λ (k : ℕ). entryHolds (entryIn r k) ≡ true) z (holds-at (countOf r) r 0 j (both-true (headHolds r) _ v .1) h)
 
 -- so its column is accepted, by the one table
 pub valid-column : (r : List ℕ) (j : ℕ) → recordValid r ≡ true → j < countOf r → isTaken (shapeOf (columnOf (entryIn r j))) ≡ true
 unfolding entryHolds
-valid-column r j v h = and-true (isTaken (shapeOf (columnOf (entryIn r j)))) _ (valid-entry r j v h) .0
+valid-column r j v h = both-true (isTaken (shapeOf (columnOf (entryIn r j)))) _ (valid-entry r j v h) .0
 
 -- a record that is read is valid, and its columns are counted
 pub read-valid : (r : List ℕ) (n : ℕ) → readRecord r ≡ ok n → (recordValid r ≡ true) × (n ≡ countOf r)

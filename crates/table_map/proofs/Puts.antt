@@ -13,11 +13,10 @@ use Rattle.wire.specs.Outcome.{ok, refused, refuse, why}
 use Rattle.wire.specs.Number.{leBytes}
 use Rattle.wire.specs.Packed.{packedBytes}
 use Rattle.wire.specs.Stored.{stored, store, leftOf}
-use Rattle.wire.proofs.Outcomes.{by-test, test-is-ok, ok-not-refused, same-refused}
+use Rattle.wire.proofs.Outcomes.{by-test, test-is-ok, ok-not-refused, same-refused, both-true}
 use Rattle.wire.proofs.Bytes.{leBytes-length}
 use Rattle.wire.proofs.Stores.{length-stored, stored-stored, store-fits, store-full}
 use Rattle.wire.proofs.Forms.{Tag, two, three, eight, Shortest, itself, behind, shortest}
-use Rattle.temporal.proofs.Ranges.{and-true}
 use Rattle.table_map.specs.Writes.{Parts, parts, nameBytes, eventBytes, isEvent, writeEvent, eventSize, headBytes, columnBytes, Put}
 
 -- ---- lengths
@@ -125,9 +124,9 @@ pub record Taken (p : Parts) : Type 0 where
 pub taken : (p : Parts) → isEvent p ≡ true → Taken p
 unfolding isEvent
 taken p e =
-    let a = and-true (ltb (p .id) (2 ^ 48)) _ e in
-    let b = and-true (leb (length (p .database)) 255) _ (a .1) in
-    let d = and-true (leb (length (p .table)) 255) _ (b .1) in
+    let a = both-true (ltb (p .id) (2 ^ 48)) _ e in
+    let b = both-true (leb (length (p .database)) 255) _ (a .1) in
+    let d = both-true (leb (length (p .table)) 255) _ (b .1) in
     record {
       id = ltb-true (p .id) (2 ^ 48) (a .0);
       database = leb-true (length (p .database)) 255 (b .0);

@@ -5,6 +5,7 @@ use mathlib.Core.Bool.{Bool, true, false, not, _&&_, false≢true}
 use native.Mathlib.Omega.{arith}
 use borrow.Author.Tests.{le-leb, leb-true, eq-eqb, ne-eqb, eqb-true, eqb-false}
 use lib.Dec.{eqb}
+use Rattle.wire.proofs.Outcomes.{both-true}
 use Rattle.temporal.specs.declared.kind.Kind.the-variants.{Time2}
 use Rattle.temporal.specs.declared.parts.Stamp.{Stamp}
 use Rattle.temporal.specs.declared.parts.Moment.{Moment}
@@ -14,7 +15,7 @@ use Rattle.temporal.specs.Fraction.{fractionBytes, unitOf}
 use Rattle.temporal.specs.Times.{timeNumber}
 use Rattle.temporal.specs.Kinds.{sort, timeIn}
 use Rattle.temporal.specs.Domains.{stampDomain, momentDomain, timeDomain, domain}
-use Rattle.temporal.proofs.Ranges.{Clock, Day, and-true, clock-of, clock-in, day-of, day-in}
+use Rattle.temporal.proofs.Ranges.{Clock, Day, clock-of, clock-in, day-of, day-in}
 
 -- ---- a stamp, a moment and a time that a fraction of w bytes can hold, and the other way round
 pub record HoldsStamp (w : ℕ) (t : Stamp) : Type 0 where
@@ -26,8 +27,8 @@ pub record HoldsStamp (w : ℕ) (t : Stamp) : Type 0 where
 pub stamp-of : (w : ℕ) (t : Stamp) → stampDomain w t ≡ true → HoldsStamp w t
 unfolding stampDomain
 stamp-of w t e =
-    let a = and-true _ _ e in
-    let b = and-true _ _ (a .1) in
+    let a = both-true _ _ e in
+    let b = both-true _ _ (a .1) in
     record { seconds = leb-true _ _ (a .0); micros = leb-true _ _ (b .0); units = eqb-true _ _ (b .1) }
 
 -- and what it needs
@@ -45,8 +46,8 @@ pub record HoldsMoment (w : ℕ) (m : Moment) : Type 0 where
 pub moment-of : (w : ℕ) (m : Moment) → momentDomain w m ≡ true → HoldsMoment w m
 unfolding momentDomain
 moment-of w m e =
-    let a = and-true _ _ e in
-    let b = and-true _ _ (a .1) in
+    let a = both-true _ _ e in
+    let b = both-true _ _ (a .1) in
     record { date = day-of _ _ _ (a .0); clock = clock-of _ _ _ _ _ (b .0); units = eqb-true _ _ (b .1) }
 
 -- and what it needs
@@ -77,8 +78,8 @@ not-zero false n h = refl
 pub time-of : (w : ℕ) (t : Time) → timeDomain w t ≡ true → HoldsTime w t
 unfolding timeDomain
 time-of w t e =
-    let a = and-true _ _ e in
-    let b = and-true _ _ (a .1) in
+    let a = both-true _ _ e in
+    let b = both-true _ _ (a .1) in
     record {
       clock = clock-of _ _ _ _ _ (a .0);
       units = eqb-true _ _ (b .0);
@@ -96,6 +97,6 @@ time-in w t h = rw (clock-in (h .clock), eq-eqb (t .micros % unitOf w) 0 (h .uni
 pub time2-room : (m0 : ℕ) (t : Temporal) → domain (Time2 m0) t ≡ true → (timeNumber 64 (timeIn t) < 8388608) × (timeIn t .micros ≤ 999999)
 unfolding domain
 time2-room m0 t e =
-    let a = and-true (eqb (sort t) 3) (timeDomain (fractionBytes m0) (timeIn t)) e in
+    let a = both-true (eqb (sort t) 3) (timeDomain (fractionBytes m0) (timeIn t)) e in
     let c = time-of (fractionBytes m0) (timeIn t) (a .1) .clock in
     (omega arith, c .micros)

@@ -9,6 +9,7 @@ use native.Mathlib.Nat.{zero-mul, zero-mod, zero-div}
 use native.Mathlib.Omega.{arith}
 use borrow.Author.Tests.{le-leb, lt-leb, lt-ltb, le-ltb, eq-eqb, ne-eqb, not-true}
 use lib.Dec.{eqb}
+use Rattle.wire.proofs.Outcomes.{both-true}
 use Rattle.temporal.specs.declared.kind.Kind.{Kind}
 use Rattle.temporal.specs.declared.kind.Kind.the-variants.{Timestamp, OldTime, OldDatetime, Newdate, Timestamp2, Datetime2, Time2}
 use Rattle.temporal.specs.declared.parts.Stamp.{Stamp}
@@ -24,7 +25,7 @@ use Rattle.temporal.specs.Kinds.{wholeBytes, fractionSize, partsOf, faul
 use Rattle.temporal.specs.Domains.{domain, stampDomain, dateDomain, momentDomain, timeDomain}
 use Rattle.temporal.proofs.Units.{fraction-small, unit-div, unit-mod, unit-whole, unit-fits, unit-some, unit-zero}
 use Rattle.temporal.proofs.Sorts.{is-since, is-on, is-at, is-lasts}
-use Rattle.temporal.proofs.Ranges.{and-true, clock-clear, clock-none, day-clear, day-none, day-of, day-in}
+use Rattle.temporal.proofs.Ranges.{clock-clear, clock-none, day-clear, day-none, day-of, day-in}
 use Rattle.temporal.proofs.Radices.{Below, time-back, time-number, moment-back, moment-number}
 use Rattle.temporal.proofs.Holds.{HoldsStamp, HoldsMoment, HoldsTime, sum, stamp-of, stamp-in, moment-of, moment-in, time-of, time-in}
 
@@ -55,7 +56,7 @@ unfolding domain partsOf faultOf wholeOf unitsOf wholeBytes fractionSize sort st
 timestamp2-law m0 = record {
   back = λ t e.
       let w = fractionBytes m0 in
-      let a = and-true (eqb (sort t) 0) (stampDomain w (stampIn t)) e in
+      let a = both-true (eqb (sort t) 0) (stampDomain w (stampIn t)) e in
       let h = stamp-of w (stampIn t) (a .1) in
       let p = stamp-back w (stampIn t) h in
       (ap stampFault p ∙ stamp-clear w (stampIn t) h, omega arith, unit-fits (stampIn t .micros) w (h .micros) (fraction-small m0), ap Since p ∙ is-since t (a .0));
@@ -66,7 +67,7 @@ timestamp-law : NumberLaw Timestamp
 unfolding domain partsOf faultOf wholeOf unitsOf wholeBytes fractionSize sort stampIn stampOf
 timestamp-law = record {
   back = λ t e.
-      let a = and-true (eqb (sort t) 0) (stampDomain 0 (stampIn t)) e in
+      let a = both-true (eqb (sort t) 0) (stampDomain 0 (stampIn t)) e in
       let h = stamp-of 0 (stampIn t) (a .1) in
       let z = unit-zero (stampIn t .micros) (h .micros) (h .units) in
       let p : stampOf 0 (stampIn t .seconds) 0 ≡ stampIn t = rw (zero-mul (unitOf 0), ← z) in
@@ -108,7 +109,7 @@ datetime2-law m0 = record {
   back = λ t e.
       let w = fractionBytes m0 in
       let m = momentIn t in
-      let a = and-true (eqb (sort t) 2) (momentDomain w m) e in
+      let a = both-true (eqb (sort t) 2) (momentDomain w m) e in
       let h = moment-of w m (a .1) in
       let d = h .date in
       let c = h .clock in
@@ -135,7 +136,7 @@ unfolding domain partsOf faultOf wholeOf unitsOf wholeBytes fractionSize sort mo
 datetime-law = record {
   back = λ t e.
       let m = momentIn t in
-      let a = and-true (eqb (sort t) 2) (momentDomain 0 m) e in
+      let a = both-true (eqb (sort t) 2) (momentDomain 0 m) e in
       let h = moment-of 0 m (a .1) in
       let d = h .date in
       let c = h .clock in
@@ -152,7 +153,7 @@ unfolding domain partsOf faultOf wholeOf unitsOf wholeBytes fractionSize sort da
 date-law = record {
   back = λ t e.
       let d = dateIn t in
-      let a = and-true (eqb (sort t) 1) (dateDomain d) e in
+      let a = both-true (eqb (sort t) 1) (dateDomain d) e in
       let h = day-of (d .year) (d .month) (d .day) (a .1) in
       let n = dateNumber d in
       let e1 : n / 32 / 16 ≡ d .year = omega arith in
@@ -175,8 +176,8 @@ unfolding domain partsOf faultOf wholeOf unitsOf wholeBytes fractionSize sort ti
 time-law = record {
   back = λ t e.
       let x = timeIn t in
-      let a = and-true (eqb (sort t) 3) (not (x .negative) && timeDomain 0 x) e in
-      let b = and-true (not (x .negative)) (timeDomain 0 x) (a .1) in
+      let a = both-true (eqb (sort t) 3) (not (x .negative) && timeDomain 0 x) e in
+      let b = both-true (not (x .negative)) (timeDomain 0 x) (a .1) in
       let h = time-of 0 x (b .1) in
       let c = h .clock in
       let n = timeNumber 100 x in
@@ -265,7 +266,7 @@ time2-law m0 = record {
   back = λ t e.
       let w = fractionBytes m0 in
       let x = timeIn t in
-      let a = and-true (eqb (sort t) 3) (timeDomain w x) e in
+      let a = both-true (eqb (sort t) 3) (timeDomain w x) e in
       let h = time-of w x (a .1) in
       let r = time2-back w (fraction-small m0) x h (x .negative) refl in
       (ap timeFault (r .2) ∙ time-clear w x h, r .0, r .1, ap Lasts (r .2) ∙ is-lasts t (a .0));

@@ -1,17 +1,14 @@
 -- Ranges: a judgement with no part out of range says that each is in it, and the other way round; and so does the domain's test. Assumes nothing.
 use Prim.Native.Nat.{ℕ, suc, _≤_}
 use mathlib.Core.Path.{_≡_, refl, sym}
-use mathlib.Core.Bool.{Bool, true, false, _&&_, false≢true, and-eq-true-iff}
+use mathlib.Core.Bool.{Bool, true, false, false≢true}
 use mathlib.Core.Logic.{dite}
 use native.Mathlib.Decide.{decLe}
 use native.Mathlib.Omega.{arith}
 use borrow.Author.Tests.{le-leb, lt-leb, leb-true, eq-eqb, ne-eqb}
 use lib.Dec.{eqb}
+use Rattle.wire.proofs.Outcomes.{both-true}
 use Rattle.temporal.specs.Ranges.{over, clockFault, dayFault, inDay, inClock}
-
--- a conjunction of tests that holds
-pub and-true : (a b : Bool) → (a && b) ≡ true → (a ≡ true) × (b ≡ true)
-and-true a b = and-eq-true-iff a b .0
 
 -- a part, and the others behind it
 over-clear : (v top p o : ℕ) → over v top (suc p) o ≡ 0 → (v ≤ top) × (o ≡ 0)
@@ -57,9 +54,9 @@ clock-in {top} {h} {m} {s} {u} c = simp (le-leb h top (c .hour), le-leb m 59 (c 
 pub clock-of : (top h m s u : ℕ) → inClock top h m s u ≡ true → Clock top h m s u
 unfolding inClock
 clock-of top h m s u e =
-    let a = and-true _ _ e in
-    let b = and-true _ _ (a .1) in
-    let d = and-true _ _ (b .1) in
+    let a = both-true _ _ e in
+    let b = both-true _ _ (a .1) in
+    let d = both-true _ _ (b .1) in
     record { hour = leb-true _ _ (a .0); minute = leb-true _ _ (b .0); second = leb-true _ _ (d .0); micros = leb-true _ _ (d .1) }
 
 -- and of a day; its parts are judged before what follows
@@ -85,8 +82,8 @@ day-in {y} {mo} {d} c = simp (le-leb y 9999 (c .year), le-leb mo 12 (c .month), 
 pub day-of : (y mo d : ℕ) → inDay y mo d ≡ true → Day y mo d
 unfolding inDay
 day-of y mo d e =
-    let a = and-true _ _ e in
-    let b = and-true _ _ (a .1) in
+    let a = both-true _ _ e in
+    let b = both-true _ _ (a .1) in
     record { year = leb-true _ _ (a .0); month = leb-true _ _ (b .0); day = leb-true _ _ (b .1) }
 
 -- where a date's own part is out of range, that part is the first

@@ -13,7 +13,7 @@ use lib.Dec.{leb, ltb, eqb}
 use Rattle.wire.specs.Outcome.{ok}
 use Rattle.wire.specs.Number.{Bytes, leValue, leBytes}
 use Rattle.wire.specs.Signed.{signedOf, twosOf}
-use Rattle.wire.proofs.Outcomes.{ok-not-refused}
+use Rattle.wire.proofs.Outcomes.{ok-not-refused, both-true}
 use Rattle.wire.proofs.Bytes.{leBytes-length}
 use Rattle.wire.proofs.Inverse.{le-back, le-sound, le-bound, bytes-take}
 use Rattle.wire.proofs.Signs.{signs-back, signs-sound, bytes-even}
@@ -24,11 +24,6 @@ use Rattle.value.specs.Data.{Datum, null, int, uint, float, double, year
 use Rattle.value.specs.Domains.{domain}
 use Rattle.value.specs.Shapes.{bytesOf, need, decode, fault, Sized}
 use Rattle.value.specs.Reading.{taken, placed, datumOf}
-
--- both of an `&&`
-pub both : (a b : Bool) → (a && b) ≡ true → (a ≡ true) × (b ≡ true)
-both true b e = (refl, e)
-both false b e = absurd (false≢true e)
 
 -- ---- a value by its sort: what it holds, put back
 abbrev pub made : ℕ → Datum → Datum
@@ -55,7 +50,7 @@ is-made (bytes b) = refl
 -- a value whose sort is known
 sorted : (d : Datum) (n : ℕ) (b : Bool) → (eqb (tag d) n && b) ≡ true → (made n d ≡ d) × (b ≡ true)
 sorted d n b e =
-    let w = both (eqb (tag d) n) b e in
+    let w = both-true (eqb (tag d) n) b e in
     (ap (λ (k : ℕ). made k d) (sym (eqb-true (tag d) n (w .0))) ∙ is-made d, w .1)
 
 -- ---- (1)
@@ -82,7 +77,7 @@ need-bytes (NotTaken n) d rest h = refl
 -- ---- (2), and no part of a value in the domain is out of range
 year-back : (n : ℕ) → (leb 1900 n && leb n 2155) ≡ true → 1900 + leValue (leBytes 1 (n - 1900)) ≡ n
 year-back n h =
-    let w = both (leb 1900 n) (leb n 2155) h in
+    let w = both-true (leb 1900 n) (leb n 2155) h in
     let a : 1900 ≤ n = leb-true 1900 n (w .0) in
     let b : n ≤ 2155 = leb-true n 2155 (w .1) in
     rw (le-back 1 (n - 1900) (omega arith)) (omega arith)

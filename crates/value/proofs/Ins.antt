@@ -15,6 +15,7 @@ use Rattle.wire.specs.Number.{leBytes}
 use Rattle.wire.specs.Signed.{twosOf, inHalves}
 use Rattle.wire.specs.Stored.{store}
 use Rattle.wire.proofs.Bytes.{leBytes-length}
+use Rattle.wire.proofs.Outcomes.{both-true}
 use Rattle.temporal.specs.declared.kind.Kind.{Kind}
 use Rattle.temporal.specs.Domains.{domain as timedDomain}
 use Rattle.temporal.specs.Reading.{writeTemporal}
@@ -28,7 +29,7 @@ use Rattle.value.specs.Shapes.{bytesOf, need}
 use Rattle.value.specs.Columns.{isTaken, refusalOf}
 use Rattle.value.specs.Reading.{taken, datumOf}
 use Rattle.value.specs.Storing.{startOf, lenOf, isLent, isIn, storedBytes, writeValue, sizeOf}
-use Rattle.value.proofs.Facts.{both, need-bytes}
+use Rattle.value.proofs.Facts.{need-bytes}
 use Rattle.value.proofs.Laws.{taken-at}
 use Rattle.value.proofs.Cases.{narrow}
 use Rattle.value.proofs.Signs.{halves-is}
@@ -153,7 +154,7 @@ lent-fits s v h = leb-true (startOf v + lenOf v) (length s) h
 -- a value that a column takes is lent, and in the domain
 pub is-in : (sh : Shape) (s : List ℕ) (v : Value) → isIn sh s v ≡ true → (isLent s v ≡ true) × (domain sh (datumOf s v) ≡ true)
 unfolding isIn
-is-in sh s v h = both (isLent s v) (domain sh (datumOf s v)) h
+is-in sh s v h = both-true (isLent s v) (domain sh (datumOf s v)) h
 
 -- a column that there is not takes none
 pub none-in : (n : ℕ) (s : List ℕ) (v : Value) → isIn (NotTaken n) s v ≡ true → ⊥
@@ -178,8 +179,8 @@ size-counted k s v h =
 pub signed-small : (k most : ℕ) (s : List ℕ) (v : Value) → most + 1 ≡ 256 ^ k → isIn (Signed k) s v ≡ true → magnitudeOf (intIn (datumOf [] v)) ≤ most
 unfolding isIn domain
 signed-small k most s v e h =
-    let w = both (isLent s v) _ h in
-    let d = both (eqb (tag (datumOf s v)) 1) _ (w .1) in
+    let w = both-true (isLent s v) _ h in
+    let d = both-true (eqb (tag (datumOf s v)) 1) _ (w .1) in
     let t : ltb (magnitudeOf (intIn (datumOf [] v))) ((most + 1) / 2) ≡ true =
     sym (halves-is (most + 1) (intIn (datumOf [] v))) ∙ ap (λ (m : ℕ). inHalves m (intIn (datumOf [] v))) e ∙ rw (int-any s v) at (d .1) in
     let l = ltb-true (magnitudeOf (intIn (datumOf [] v))) ((most + 1) / 2) t in
@@ -188,9 +189,9 @@ signed-small k most s v e h =
 pub year-least : (s : List ℕ) (v : Value) → isIn YearByte s v ≡ true → 1900 ≤ numberIn (datumOf [] v)
 unfolding isIn domain
 year-least s v h =
-    let w = both (isLent s v) _ h in
-    let d = both (eqb (tag (datumOf s v)) 5) _ (w .1) in
-    let t = both (leb 1900 (numberIn (datumOf s v))) _ (d .1) in
+    let w = both-true (isLent s v) _ h in
+    let d = both-true (eqb (tag (datumOf s v)) 5) _ (w .1) in
+    let t = both-true (leb 1900 (numberIn (datumOf s v))) _ (d .1) in
     rw (number-any s v) at (leb-true 1900 (numberIn (datumOf s v)) (t .0))
 
 -- ---- and which bytes these are
@@ -226,8 +227,8 @@ pub put-timed : (k : Kind) (s : List ℕ) (v : Value) (buf : List ℕ) (at : ℕ
     → store buf at (bytesOf (Timed k) (datumOf s v)) ≡ writeTemporal k 0 buf at (whenIn (datumOf [] v))
 unfolding isIn domain bytesOf writeTemporal
 put-timed k s v buf at h =
-    let w = both (isLent s v) _ h in
-    let d = both (eqb (tag (datumOf s v)) 6) _ (w .1) in
+    let w = both-true (isLent s v) _ h in
+    let d = both-true (eqb (tag (datumOf s v)) 6) _ (w .1) in
     let t : timedDomain k (whenIn (datumOf [] v)) ≡ true = rw (when-any s v) at (d .1) in
     rw (t, when-any s v)
 

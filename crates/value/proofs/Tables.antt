@@ -7,10 +7,7 @@ use mathlib.Core.Path.{_≡_, refl, sym, ap, _∙_}
 use borrow.Author.Tests.{ne-eqb}
 use native.Mathlib.Omega.{arith}
 use lib.Dec.{T, leb, ltb, eqb, eqb→eq, leb→le}
-use Rattle.temporal.specs.Reading.{sizeOf}
-use Rattle.temporal.specs.Kinds.{wholeBytes}
-use Rattle.temporal.specs.declared.kind.Kind.{Kind}
-use Rattle.temporal.specs.declared.kind.Kind.the-variants.{Timestamp as StoredTimestamp, OldTime, OldDatetime, Newdate, Timestamp2 as StoredTimestamp2, Datetime2 as StoredDatetime2, Time2 as StoredTime2}
+use Rattle.temporal.proofs.Forms.{size-least}
 use Rattle.value.specs.declared.shape.Shape.{Shape}
 use Rattle.value.specs.declared.shape.Shape.the-variants.{Unsigned, Signed, FloatBits, DoubleBits, YearByte, Timed, Fixed, Counted, NotTaken}
 use Rattle.value.specs.declared.column.Column.{Column}
@@ -151,16 +148,6 @@ pub sized : (c : Column) → Sized (shapeOf c)
 sized c = sized-of (shapeOf c) (fine c)
 
 -- every accepted column's value takes a byte at least
-timed-some : (k : Kind) → 0 < sizeOf k
-unfolding sizeOf wholeBytes
-timed-some StoredTimestamp = omega arith
-timed-some OldTime = omega arith
-timed-some OldDatetime = omega arith
-timed-some Newdate = omega arith
-timed-some (StoredTimestamp2 m0) = omega arith
-timed-some (StoredDatetime2 m0) = omega arith
-timed-some (StoredTime2 m0) = omega arith
-
 some-of : (sh : Shape) → Fine sh → isTaken sh ≡ true → (s : List ℕ) → 0 < need sh s
 unfolding isTaken need
 some-of (Unsigned k) h e s = h .0
@@ -168,7 +155,7 @@ some-of (Signed k) h e s = h .0
 some-of FloatBits h e s = omega arith
 some-of DoubleBits h e s = omega arith
 some-of YearByte h e s = omega arith
-some-of (Timed k) h e s = timed-some k
+some-of (Timed k) h e s = size-least k
 some-of (Fixed n) h e s = h
 some-of (Counted k) h e s = let l = h .0 in omega arith
 some-of (NotTaken n) h e s = absurd (true≢false (sym e))

@@ -26,7 +26,7 @@ pub data Tag : ℕ → ℕ → ℕ → Type 0 where
   three : Tag 253 3 65536
   eight : Tag 254 8 16777216
 
-tag-width : {first k least : ℕ} → Tag first k least → (2 ≤ k) × (k ≤ 8)
+pub tag-width : {first k least : ℕ} → Tag first k least → (2 ≤ k) × (k ≤ 8)
 tag-width two = (omega arith, omega arith)
 tag-width three = (omega arith, omega arith)
 tag-width eight = (omega arith, omega arith)

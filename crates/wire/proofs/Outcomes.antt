@@ -1,7 +1,7 @@
 -- Laws of answers and of chains of them. Assumes nothing.
 use Prim.Native.Nat.{ℕ}
 use mathlib.Core.Path.{_≡_, refl, sym, ap, _∙_}
-use mathlib.Core.Bool.{Bool, true, false, cond}
+use mathlib.Core.Bool.{Bool, true, false, cond, _&&_, and-eq-true-iff}
 use mathlib.Core.Logic.{_⊎_, inl, inr}
 use native.Mathlib.Omega.{arith}
 use Rattle.wire.specs.declared.refusal.Refusal.{Refusal}
@@ -49,6 +49,10 @@ test-refuses false a w v e = (refl, same-refused e)
 pub by-test : {A P : Type 0} (t : Bool) (x y z : A) → cond t x y ≡ z → (t ≡ true → x ≡ z → P) → (t ≡ false → y ≡ z → P) → P
 by-test true x y z e f g = f refl e
 by-test false x y z e f g = g refl e
+
+-- two tests that hold, each of them
+pub both-true : (a b : Bool) → (a && b) ≡ true → (a ≡ true) × (b ≡ true)
+both-true a b = and-eq-true-iff a b .0
 
 -- a view with a way back gives no two values the same look
 pub same-by-back : {A B : Type 0} (view : A → B) (back : B → A) → ((a : A) → back (view a) ≡ a) → (a b : A) → view a ≡ view b → a ≡ b
