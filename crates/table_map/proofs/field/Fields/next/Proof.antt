@@ -22,9 +22,8 @@ use Rattle.table_map.proofs.part.long_part.Reads as long-part-reads
 use Rattle.wire.proofs.refuse.Reads as refuse-reads
 
 -- where the value is known: the place is before the end, and the value stands behind the type byte
-met : (c : tie.After-cut)
-    → (c .before .before .before .before .before .before .args .self .at < length (c .before .before .before .before .before .before .args .optional .now))
-    × (longPart (c .before .before .before .before .before .before .args .optional .now) (c .before .before .before .before .before .before .args .self .at + 1) ≡ ok (c .cut .given .0 .0 .part, c .cut .given .0 .0 .next))
+met : (c : tie.After-cut) → let a = c .before .before .before .before .before .before .args in let v = c .cut .given .0 .0 in
+    (a .self .at < length (a .optional .now)) × (longPart (a .optional .now) (a .self .at + 1) ≡ ok (v .part, v .next))
 met c = (omega arith, sym (c .before .before .long-part .ensures) ∙ ap cutOf (c .cut .given .1))
 
 returns : tie.Need-returns
