@@ -6,6 +6,8 @@ use mathlib.Core.List.{List, [], _∷_}
 use types.Run.{OneOf, miss}
 use denote.Enum.Declared.{tagOf}
 use Rattle.value.proofs.datum.Value.{the-type}
+use Rattle.value.proofs.Ins.{tag-any}
+use Rattle.value.proofs.Sorts.{not-bytes}
 use Rattle.value.specs.declared.datum.Value.{Value}
 use Rattle.value.specs.declared.datum.Value.the-variants.{Null, Int, Uint, Float, Double, Year, When, Bytes}
 use Rattle.value.specs.Reading.{datumOf}
@@ -15,15 +17,8 @@ use Rattle.image.specs.Part.{valueBytes}
 
 -- NULL is NULL whatever bytes stand beside it
 pub null-anywhere : (s t : List ℕ) (v : Value) → isNull (datumOf s v) ≡ isNull (datumOf t v)
-unfolding isNull datumOf
-null-anywhere s t Null = refl
-null-anywhere s t (Int z) = refl
-null-anywhere s t (Uint n) = refl
-null-anywhere s t (Float n) = refl
-null-anywhere s t (Double n) = refl
-null-anywhere s t (Year n) = refl
-null-anywhere s t (When w) = refl
-null-anywhere s t (Bytes start len) = refl
+unfolding isNull
+null-anywhere s t v = rw (tag-any s v, tag-any t v)
 
 -- and no other value is
 pub others-not-null : (v : Value) → OneOf (1 ∷ 2 ∷ 3 ∷ 4 ∷ 5 ∷ 6 ∷ 7 ∷ []) (tagOf the-type v) → isNull (datumOf [] v) ≡ false
@@ -44,11 +39,4 @@ none-either-way false = refl
 -- a value that is not bytes names none
 pub no-bytes : (im : List ℕ) (v : Value) → OneOf (0 ∷ 1 ∷ 2 ∷ 3 ∷ 4 ∷ 5 ∷ 6 ∷ []) (tagOf the-type v) → valueBytes im v ≡ []
 unfolding valueBytes lenOf
-no-bytes im Null o = none-either-way (isLent im Null)
-no-bytes im (Int z) o = none-either-way (isLent im (Int z))
-no-bytes im (Uint n) o = none-either-way (isLent im (Uint n))
-no-bytes im (Float n) o = none-either-way (isLent im (Float n))
-no-bytes im (Double n) o = none-either-way (isLent im (Double n))
-no-bytes im (Year n) o = none-either-way (isLent im (Year n))
-no-bytes im (When w) o = none-either-way (isLent im (When w))
-no-bytes im (Bytes start len) o = absurd (miss (0 ∷ 1 ∷ 2 ∷ 3 ∷ 4 ∷ 5 ∷ 6 ∷ []) 7 tt o)
+no-bytes im v o = rw (not-bytes v o .1) (none-either-way (isLent im v))

@@ -13,11 +13,12 @@ use Rattle.wire.specs.Bits.{withDigit}
 use Rattle.wire.specs.Stored.{answerOf, leftOf}
 use Rattle.wire.proofs.Outcomes.{ok-not-refused, same-refused, both-true}
 use Rattle.value.specs.Columns.{shapeOf}
+use Rattle.value.proofs.Tables.{four-or-five}
 use Rattle.table_map.specs.Lists.{integerItem, pairItem, stringItem, groupItem}
 use Rattle.map_check.specs.Names.{listOf, columnName}
 use Rattle.promises.specs.Refusals.{Line, _at_, _below_, _upTo_, OneOf, just, under, most, later, numberOf, inTable, Only, EveryCall}
 use Rattle.promises.proofs.Only.{Listed, packed, room}
-use Rattle.promises.proofs.Values.{temporal-read, temporal-written, four-or-five, column-taken, value-read, value-written, value-sized}
+use Rattle.promises.proofs.Values.{temporal-read, temporal-written, column-taken, value-read, value-written, value-sized}
 use Rattle.promises.proofs.Maps.{long-part, event-read, event-written, event-sized, pair-item, group-item, stepped, field-stepped, checked, string-found}
 use Rattle.promises.proofs.Rows.{record-read, first-read, image-stepped, image-started, image-put}
 

@@ -16,22 +16,17 @@ use Rattle.wire.specs.Stored.{stored, store, leftOf}
 use Rattle.wire.proofs.Outcomes.{by-test, test-is-ok, ok-not-refused, same-refused, both-true}
 use Rattle.wire.proofs.Bytes.{leBytes-length}
 use Rattle.wire.proofs.Stores.{length-stored, stored-stored, store-fits, store-full}
-use Rattle.wire.proofs.Forms.{Tag, two, three, eight, Shortest, itself, behind, shortest}
+use Rattle.wire.proofs.Forms.{tag-width, Shortest, itself, behind, shortest}
 use Rattle.table_map.specs.Writes.{Parts, parts, nameBytes, eventBytes, isEvent, writeEvent, eventSize, headBytes, columnBytes, Put}
 
 -- ---- lengths
-tag-bound : {first k least : ℕ} → Tag first k least → k ≤ 8
-tag-bound two = omega arith
-tag-bound three = omega arith
-tag-bound eight = omega arith
-
 -- a packed integer has at most 9 bytes
 pub packed-narrow : (v : ℕ) → length (packedBytes v) ≤ 9
 packed-narrow v = go (shortest v)
   where
     go : {bs : List ℕ} → Shortest v bs → length bs ≤ 9
     go (itself b) = omega arith
-    go (behind first k least t g m) = omega (arith, leBytes-length k v, tag-bound t)
+    go (behind first k least t g m) = omega (arith, leBytes-length k v, tag-width t .1)
 
 pub name-length : (name : List ℕ) → length (nameBytes name) ≡ length name + 2
 unfolding nameBytes

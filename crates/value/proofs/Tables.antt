@@ -3,7 +3,8 @@
 use Prim.Native.Nat.{ℕ, _+_, _-_, _*_, _/_, _%_, _≤_, _<_}
 use mathlib.Core.Bool.{Bool, true, false, cond, _&&_, _||_, true≢false}
 use mathlib.Core.List.{List}
-use mathlib.Core.Path.{_≡_, refl, sym, ap, _∙_}
+use mathlib.Core.Logic.{_⊎_, inl, inr}
+use mathlib.Core.Path.{_≡_, refl, sym, ap, _∙_, subst}
 use borrow.Author.Tests.{ne-eqb}
 use native.Mathlib.Omega.{arith}
 use lib.Dec.{T, leb, ltb, eqb, eqb→eq, leb→le}
@@ -13,7 +14,7 @@ use Rattle.value.specs.declared.shape.Shape.the-variants.{Unsigned, Sign
 use Rattle.value.specs.declared.column.Column.{Column}
 use Rattle.value.specs.declared.column.Family.{Family}
 use Rattle.value.specs.declared.column.Family.the-variants.{Integer, Float, Double, Year, Timestamp, Date, Time, Datetime, Timestamp2, Datetime2, Time2, Varchar, Char, Blob, Json, Bit, Decimal, Enum, Set, Unknown}
-use Rattle.value.specs.Columns.{familyOf, shapeIn, shapeOf, isTaken, leftoverBytes, digitsBytes, decimalBytes, lengthBytes, charLength, or30}
+use Rattle.value.specs.Columns.{familyOf, shapeIn, shapeOf, isTaken, refusalOf, leftoverBytes, digitsBytes, decimalBytes, lengthBytes, charLength, or30}
 use Rattle.value.specs.Shapes.{Sized, need}
 use Rattle.value.proofs.Arms.{below, left, right}
 
@@ -46,7 +47,7 @@ Fine YearByte = Unit {0}
 Fine (Timed k) = Unit {0}
 Fine (Fixed n) = 0 < n
 Fine (Counted k) = (0 < k) × (k ≤ 4)
-Fine (NotTaken n) = Unit {0}
+Fine (NotTaken n) = (n ≡ 4) ⊎ (n ≡ 5)
 
 -- ---- the widths of integers, told by the shape of an unsigned column
 abbrev Width : Family → Type 0
@@ -59,8 +60,8 @@ width-of t =
     (pick Width (eqb t 1) (λ e. (omega arith, omega arith))
     (pick Width (eqb t 2) (λ e. (omega arith, omega arith))
     (pick Width (eqb t 3) (λ e. (omega arith, omega arith))
-    (pick Width (eqb t 4) (λ e. tt)
-    (pick Width (eqb t 5) (λ e. tt)
+    (pick Width (eqb t 4) (λ e. inr refl)
+    (pick Width (eqb t 5) (λ e. inr refl)
     (pick Width (eqb t 7) (λ e. tt)
     (pick Width (eqb t 8) (λ e. (omega arith, omega arith))
     (pick Width (eqb t 9) (λ e. (omega arith, omega arith))
@@ -70,22 +71,22 @@ width-of t =
     (pick Width (eqb t 13) (λ e. tt)
     (pick Width (eqb t 14) (λ e. tt)
     (pick Width (eqb t 15) (λ e. (omega arith, omega arith))
-    (pick Width (eqb t 16) (λ e. tt)
+    (pick Width (eqb t 16) (λ e. inr refl)
     (pick Width (eqb t 17) (λ e. tt)
     (pick Width (eqb t 18) (λ e. tt)
     (pick Width (eqb t 19) (λ e. tt)
-    (pick Width (eqb t 242) (λ e. tt)
-    (pick Width (eqb t 245) (λ e. tt)
-    (pick Width (eqb t 246) (λ e. tt)
-    (pick Width (eqb t 247) (λ e. tt)
-    (pick Width (eqb t 248) (λ e. tt)
-    (pick Width (eqb t 249) (λ e. tt)
-    (pick Width (eqb t 250) (λ e. tt)
-    (pick Width (eqb t 251) (λ e. tt)
-    (pick Width (eqb t 252) (λ e. tt)
+    (pick Width (eqb t 242) (λ e. inr refl)
+    (pick Width (eqb t 245) (λ e. inr refl)
+    (pick Width (eqb t 246) (λ e. inr refl)
+    (pick Width (eqb t 247) (λ e. inr refl)
+    (pick Width (eqb t 248) (λ e. inr refl)
+    (pick Width (eqb t 249) (λ e. inr refl)
+    (pick Width (eqb t 250) (λ e. inr refl)
+    (pick Width (eqb t 251) (λ e. inr refl)
+    (pick Width (eqb t 252) (λ e. inr refl)
     (pick Width (eqb t 253) (λ e. (omega arith, omega arith))
-    (pick Width (eqb t 254) (λ e. tt)
-    (pick Width (eqb t 255) (λ e. tt) tt))))))))))))))))))))))))))))))
+    (pick Width (eqb t 254) (λ e. inr refl)
+    (pick Width (eqb t 255) (λ e. inr refl) (inl refl)))))))))))))))))))))))))))))))
 
 -- ---- every column
 one-or-two : (declared : ℕ) → Fine (Counted (lengthBytes declared))
@@ -94,42 +95,42 @@ one-or-two declared =
 
 fine-in : (f : Family) (m0 m1 : ℕ) (u : Bool) → Width f → Fine (shapeIn f m0 m1 u)
 unfolding shapeIn
-fine-in (Integer k) m0 m1 u w = pick Fine (eqb m0 0 && eqb m1 0) (λ e. pick Fine u (λ e. w) w) tt
-fine-in Float m0 m1 u w = pick Fine (eqb m0 4 && eqb m1 0) (λ e. tt) tt
-fine-in Double m0 m1 u w = pick Fine (eqb m0 8 && eqb m1 0) (λ e. tt) tt
-fine-in Year m0 m1 u w = pick Fine (eqb m0 0 && eqb m1 0) (λ e. tt) tt
-fine-in Timestamp m0 m1 u w = pick Fine (eqb m0 0 && eqb m1 0) (λ e. tt) tt
-fine-in Date m0 m1 u w = pick Fine (eqb m0 0 && eqb m1 0) (λ e. tt) tt
-fine-in Time m0 m1 u w = pick Fine (eqb m0 0 && eqb m1 0) (λ e. tt) tt
-fine-in Datetime m0 m1 u w = pick Fine (eqb m0 0 && eqb m1 0) (λ e. tt) tt
-fine-in Timestamp2 m0 m1 u w = pick Fine (leb m0 6 && eqb m1 0) (λ e. tt) tt
-fine-in Datetime2 m0 m1 u w = pick Fine (leb m0 6 && eqb m1 0) (λ e. tt) tt
-fine-in Time2 m0 m1 u w = pick Fine (leb m0 6 && eqb m1 0) (λ e. tt) tt
+fine-in (Integer k) m0 m1 u w = pick Fine (eqb m0 0 && eqb m1 0) (λ e. pick Fine u (λ e. w) w) (inr refl)
+fine-in Float m0 m1 u w = pick Fine (eqb m0 4 && eqb m1 0) (λ e. tt) (inr refl)
+fine-in Double m0 m1 u w = pick Fine (eqb m0 8 && eqb m1 0) (λ e. tt) (inr refl)
+fine-in Year m0 m1 u w = pick Fine (eqb m0 0 && eqb m1 0) (λ e. tt) (inr refl)
+fine-in Timestamp m0 m1 u w = pick Fine (eqb m0 0 && eqb m1 0) (λ e. tt) (inr refl)
+fine-in Date m0 m1 u w = pick Fine (eqb m0 0 && eqb m1 0) (λ e. tt) (inr refl)
+fine-in Time m0 m1 u w = pick Fine (eqb m0 0 && eqb m1 0) (λ e. tt) (inr refl)
+fine-in Datetime m0 m1 u w = pick Fine (eqb m0 0 && eqb m1 0) (λ e. tt) (inr refl)
+fine-in Timestamp2 m0 m1 u w = pick Fine (leb m0 6 && eqb m1 0) (λ e. tt) (inr refl)
+fine-in Datetime2 m0 m1 u w = pick Fine (leb m0 6 && eqb m1 0) (λ e. tt) (inr refl)
+fine-in Time2 m0 m1 u w = pick Fine (leb m0 6 && eqb m1 0) (λ e. tt) (inr refl)
 fine-in Varchar m0 m1 u w = one-or-two (m0 + 256 * m1)
-fine-in Char m0 m1 u w = pick Fine (eqb (or30 m0) 254) (λ e. one-or-two (charLength m0 m1)) tt
+fine-in Char m0 m1 u w = pick Fine (eqb (or30 m0) 254) (λ e. one-or-two (charLength m0 m1)) (inr refl)
 fine-in Blob m0 m1 u w =
     pick Fine (leb 1 m0 && (leb m0 4 && eqb m1 0))
-    (λ e. (leb→le 1 m0 (left (leb 1 m0) _ e), leb→le m0 4 (left (leb m0 4) _ (right (leb 1 m0) _ e)))) tt
-fine-in Json m0 m1 u w = pick Fine (eqb m0 4 && eqb m1 0) (λ e. (omega arith, omega arith)) tt
+    (λ e. (leb→le 1 m0 (left (leb 1 m0) _ e), leb→le m0 4 (left (leb m0 4) _ (right (leb 1 m0) _ e)))) (inr refl)
+fine-in Json m0 m1 u w = pick Fine (eqb m0 4 && eqb m1 0) (λ e. (omega arith, omega arith)) (inr refl)
 fine-in Bit m0 m1 u w =
     pick Fine (leb m0 7 && (leb 1 (8 * m1 + m0) && leb (8 * m1 + m0) 64))
     (λ e. let h : 1 ≤ 8 * m1 + m0 = leb→le 1 (8 * m1 + m0) (left (leb 1 (8 * m1 + m0)) _ (right (leb m0 7) _ e)) in
-    omega arith) tt
+    omega arith) (inr refl)
 fine-in Decimal m0 m1 u w =
     pick Fine (leb 1 m0 && (leb m0 65 && (leb m1 30 && leb m1 m0)))
     (λ e. decimal-some m0 m1 (leb→le 1 m0 (left (leb 1 m0) _ e))
-    (leb→le m1 m0 (right (leb m1 30) _ (right (leb m0 65) _ (right (leb 1 m0) _ e))))) tt
+    (leb→le m1 m0 (right (leb m1 30) _ (right (leb m0 65) _ (right (leb 1 m0) _ e))))) (inr refl)
 fine-in Enum m0 m1 u w =
     pick Fine (leb 1 m1 && leb m1 2)
     (λ e. let l : m1 ≤ 2 = leb→le m1 2 (right (leb 1 m1) _ e) in
-    (leb→le 1 m1 (left (leb 1 m1) _ e), omega arith)) tt
-fine-in Set m0 m1 u w = pick Fine (leb 1 m1 && (leb m1 4 || eqb m1 8)) (λ e. leb→le 1 m1 (left (leb 1 m1) _ e)) tt
-fine-in Unknown m0 m1 u w = tt
+    (leb→le 1 m1 (left (leb 1 m1) _ e), omega arith)) (inr refl)
+fine-in Set m0 m1 u w = pick Fine (leb 1 m1 && (leb m1 4 || eqb m1 8)) (λ e. leb→le 1 m1 (left (leb 1 m1) _ e)) (inr refl)
+fine-in Unknown m0 m1 u w = inl refl
 
 fine : (c : Column) → Fine (shapeOf c)
 unfolding shapeOf
 fine c =
-    pick Fine (eqb (c .kind) 10) (λ e. tt)
+    pick Fine (eqb (c .kind) 10) (λ e. inl refl)
     (fine-in (familyOf (c .kind)) (c .m0) (c .m1) (c .unsigned) (width-of (c .kind)))
 
 -- every column's shape has a width that there is
@@ -171,3 +172,22 @@ unfolding shapeOf
 by-family c f h e =
     ap (λ (g : Family). shapeIn g (c .m0) (c .m1) (c .unsigned)) e
     ∙ sym (ap (λ (b : Bool). cond b (NotTaken 4) (shapeIn (familyOf (c .kind)) (c .m0) (c .m1) (c .unsigned))) (ne-eqb (c .kind) 10 h))
+
+-- a column that there is not is refused with 4 or 5
+number-of : (sh : Shape) → Fine sh → isTaken sh ≡ false → (refusalOf sh ≡ 4) ⊎ (refusalOf sh ≡ 5)
+unfolding isTaken refusalOf
+number-of (Unsigned k) h e = absurd (true≢false e)
+number-of (Signed k) h e = absurd (true≢false e)
+number-of FloatBits h e = absurd (true≢false e)
+number-of DoubleBits h e = absurd (true≢false e)
+number-of YearByte h e = absurd (true≢false e)
+number-of (Timed k) h e = absurd (true≢false e)
+number-of (Fixed n) h e = absurd (true≢false e)
+number-of (Counted k) h e = absurd (true≢false e)
+number-of (NotTaken n) h e = h
+
+pub refused-number : (c : Column) → isTaken (shapeOf c) ≡ false → (refusalOf (shapeOf c) ≡ 4) ⊎ (refusalOf (shapeOf c) ≡ 5)
+refused-number c e = number-of (shapeOf c) (fine c) e
+
+pub four-or-five : (c : Column) (n : ℕ) → shapeOf c ≡ NotTaken n → (n ≡ 4) ⊎ (n ≡ 5)
+four-or-five c n e = subst Fine e (fine c)
