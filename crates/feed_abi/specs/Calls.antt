@@ -8,7 +8,7 @@ use Rattle.wire.specs.Outcome.{Outcome, ok, refused, refuse, after}
 use Rattle.value.specs.declared.column.Dialect.{Dialect}
 use Rattle.value.specs.declared.column.Dialect.the-variants.{Document, Mysql, Mariadb}
 use Rattle.value.specs.declared.datum.Value.the-variants.{Null}
-use Rattle.table_map.specs.declared.event.Part.{Part}
+use Rattle.table_map.specs.declared.part.Part.{Part}
 use Rattle.table_map.specs.Events.{readEvent}
 use Rattle.record.specs.declared.entry.Entry.{Entry}
 use Rattle.record.specs.Records.{entryIn, readRecord}

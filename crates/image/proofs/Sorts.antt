@@ -3,6 +3,7 @@ use Prim.Native.Nat.{ℕ}
 use mathlib.Core.Path.{_≡_, refl}
 use mathlib.Core.Bool.{Bool, true, false, cond}
 use mathlib.Core.List.{List, [], _∷_}
+use lib.ListN.{take, drop}
 use types.Run.{OneOf, miss}
 use denote.Enum.Declared.{tagOf}
 use Rattle.value.proofs.datum.Value.{the-type}
@@ -11,7 +12,7 @@ use Rattle.value.proofs.Sorts.{not-bytes}
 use Rattle.value.specs.declared.datum.Value.{Value}
 use Rattle.value.specs.declared.datum.Value.the-variants.{Null, Int, Uint, Float, Double, Year, When, Bytes}
 use Rattle.value.specs.Reading.{datumOf}
-use Rattle.value.specs.Storing.{lenOf, isLent}
+use Rattle.value.specs.Storing.{startOf, lenOf, isLent}
 use Rattle.image.specs.Rows.{isNull}
 use Rattle.image.specs.Part.{valueBytes}
 
@@ -32,11 +33,11 @@ others-not-null (Year n) o = refl
 others-not-null (When w) o = refl
 others-not-null (Bytes start len) o = refl
 
-none-either-way : (b : Bool) → _≡_ {A = List ℕ} (cond b [] []) []
-none-either-way true = refl
-none-either-way false = refl
+none-of : (lent : Bool) (start len : ℕ) (im : List ℕ) → len ≡ 0 → cond lent (take len (drop start im)) [] ≡ []
+none-of true start len im e = rw e refl
+none-of false start len im e = refl
 
 -- a value that is not bytes names none
 pub no-bytes : (im : List ℕ) (v : Value) → OneOf (0 ∷ 1 ∷ 2 ∷ 3 ∷ 4 ∷ 5 ∷ 6 ∷ []) (tagOf the-type v) → valueBytes im v ≡ []
-unfolding valueBytes lenOf
-no-bytes im v o = rw (not-bytes v o .1) (none-either-way (isLent im v))
+unfolding valueBytes
+no-bytes im v o = none-of (isLent im v) (startOf v) (lenOf v) im (not-bytes v o .1)

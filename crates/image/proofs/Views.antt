@@ -1,8 +1,7 @@
 -- No two answers look the same on paper, so any two results that a contract allows are equal. Assumes nothing.
 use mathlib.Core.Path.{_≡_, refl}
-use Rattle.wire.specs.declared.refusal.Refusal.{Refusal}
 use Rattle.wire.specs.Outcome.{Outcome, ok, refused}
-use Rattle.wire.proofs.Outcomes.{same-by-back}
+use Rattle.wire.proofs.Outcomes.{back-read, same-by-back}
 use Rattle.image.specs.declared.cursor.First.{First}
 use Rattle.image.specs.declared.cursor.First.the-variants.{At, Refused}
 use Rattle.image.specs.declared.step.Step.{Step}
@@ -28,11 +27,6 @@ step-way (Refused₂ r) = refl
 -- of steps
 pub same-step : (a b : Step) → told a ≡ told b → a ≡ b
 same-step = same-by-back told back-step step-way
-
--- the way back from a cursor or a refusal
-abbrev back-read : {A S : Type 0} → (A → S) → (Refusal → S) → Outcome A → S
-back-read it refuse (ok a) = it a
-back-read it refuse (refused r) = refuse r
 
 first-way : (a : First) → back-read At Refused (firstTold a) ≡ a
 first-way (At c) = refl

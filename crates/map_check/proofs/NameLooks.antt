@@ -1,4 +1,4 @@
--- The names of columns: a turn of the loop over the list that is looked at, and that no two answers look the same on paper. Assumes nothing.
+-- The names of columns: a turn of the loop over the list that is looked at, and the bytes of the names field. Assumes nothing.
 use Prim.Native.Nat.{ℕ, zero, suc, _-_}
 use mathlib.Core.Path.{_≡_, refl}
 use mathlib.Core.List.{List}
@@ -6,17 +6,14 @@ use native.Mathlib.Omega.{arith}
 use borrow.Author.Tests.{le-leb}
 use lib.ListN.{length}
 use Rattle.wire.specs.declared.refusal.Refusal.{Refusal}
-use Rattle.wire.specs.Outcome.{Outcome, ok, refused, refuse}
-use Rattle.wire.proofs.Outcomes.{same-by-back}
-use Rattle.table_map.specs.declared.event.Part.{Part}
+use Rattle.wire.specs.Outcome.{ok, refused, refuse}
+use Rattle.table_map.specs.declared.part.Part.{Part}
 use Rattle.table_map.specs.Parts.{lentPart}
 use Rattle.table_map.specs.Lists.{end, item, step, stringItem}
 use Rattle.map_check.specs.declared.field.Found.{Found}
 use Rattle.map_check.specs.declared.field.Found.the-variants.{Value, Nothing}
-use Rattle.map_check.specs.declared.names.NameRead.{NameRead}
-use Rattle.map_check.specs.declared.names.NameRead.the-variants.{Name, Refused}
 use Rattle.map_check.specs.Fields.{valueIn}
-use Rattle.map_check.specs.Names.{stringAt, partFound, nameOf}
+use Rattle.map_check.specs.Names.{stringAt, partFound}
 
 -- ---- a string, `left` strings before the one asked
 pub looks-found : (left asked : ℕ) (s : List ℕ) (at : ℕ) (p : Part) (next : ℕ) → left ≡ 0 → step stringItem s at ≡ ok (item p next)
@@ -47,15 +44,3 @@ looks-broken (suc i) asked s at w e = rw e
 pub in-part : (s : List ℕ) (f : Found) → lentPart s (partFound f) ≡ valueIn s f
 in-part s (Value p) = refl
 in-part s Nothing = rw (le-leb 0 (length s) (omega arith))
-
--- ---- the answers
-abbrev back : Outcome Part → NameRead
-back (ok p) = Name p
-back (refused w) = Refused w
-
-way : (a : NameRead) → back (nameOf a) ≡ a
-way (Name p) = refl
-way (Refused w) = refl
-
-pub name-view : (a b : NameRead) → nameOf a ≡ nameOf b → a ≡ b
-name-view = same-by-back nameOf back way

@@ -8,7 +8,7 @@ use lib.Dec.{leb, ltb, eqb}
 use Rattle.wire.specs.Bits.{bitLsb0, bitMsb0}
 use Rattle.value.specs.Columns.{familyOf, isNumeric, isCharacter, isEnumOrSet}
 use Rattle.table_map.specs.Parts.{lentPart}
-use Rattle.table_map.specs.declared.event.Part.{Part}
+use Rattle.table_map.specs.declared.part.Part.{Part}
 use Rattle.table_map.specs.Lists.{integerItem}
 use Rattle.record.specs.Entries.{flagsHold, charsetHolds}
 use Rattle.map_check.specs.declared.column.Declared.{Declared}

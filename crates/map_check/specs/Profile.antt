@@ -11,7 +11,7 @@ use Rattle.wire.specs.Packed.{readPacked}
 use Rattle.wire.specs.Bits.{bitLsb0, bitMsb0}
 use Rattle.value.specs.declared.column.Dialect.{Dialect}
 use Rattle.value.specs.Columns.{familyOf, isNumeric, isCharacter, isEnumOrSet}
-use Rattle.table_map.specs.declared.event.Part.{Part}
+use Rattle.table_map.specs.declared.part.Part.{Part}
 use Rattle.table_map.specs.Parts.{lentPart}
 use Rattle.table_map.specs.Lists.{walk, walkSteps, integerItem, pairItem}
 use Rattle.record.specs.declared.entry.Entry.{Entry}

@@ -13,7 +13,7 @@ use Rattle.wire.proofs.Outcomes.{after-is-ok, same-ok}
 use Rattle.wire.proofs.Forms.{read-moves}
 use Rattle.value.specs.declared.column.Dialect.{Dialect}
 use Rattle.value.specs.Columns.{familyOf, isKnown}
-use Rattle.table_map.specs.declared.event.Part.{Part}
+use Rattle.table_map.specs.declared.part.Part.{Part}
 use Rattle.table_map.specs.declared.event.Event.{Event}
 use Rattle.table_map.specs.declared.field.Fields.{Fields}
 use Rattle.table_map.specs.Parts.{partOf, lentPart, within, shortPart, longPart}

@@ -17,7 +17,7 @@ use Rattle.wire.proofs.Outcomes.{same-ok}
 use Rattle.wire.proofs.Bytes.{leBytes-length, wider}
 use Rattle.wire.proofs.Inverse.{bytes-take, bytes-drop, le-sound, le-back, le-bound, le-join}
 use Rattle.wire.proofs.Forms.{read-moves, read-only, read-shortest}
-use Rattle.table_map.specs.declared.event.Part.{Part}
+use Rattle.table_map.specs.declared.part.Part.{Part}
 use Rattle.table_map.specs.declared.event.Event.{Event}
 use Rattle.table_map.specs.Parts.{partOf}
 use Rattle.table_map.specs.Events.{idBytes, readEvent}

@@ -13,7 +13,7 @@ use Rattle.wire.specs.Number.{leValue}
 use Rattle.wire.specs.Packed.{readPacked}
 use Rattle.wire.proofs.Outcomes.{test-is-ok, after-is-ok, same-ok}
 use Rattle.wire.proofs.Forms.{read-moves}
-use Rattle.table_map.specs.declared.event.Part.{Part}
+use Rattle.table_map.specs.declared.part.Part.{Part}
 use Rattle.table_map.specs.declared.event.Event.{Event}
 use Rattle.table_map.specs.Parts.{part, lentPart, within, shortPart, longPart}
 use Rattle.table_map.specs.Events.{idBytes, readNames, readColumns, readEvent, noEvent, orNone, partIn}

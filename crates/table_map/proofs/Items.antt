@@ -10,7 +10,7 @@ use Rattle.wire.specs.Outcome.{ok, refuse, after}
 use Rattle.wire.specs.Packed.{readPacked}
 use Rattle.wire.proofs.Outcomes.{after-is-ok, same-ok}
 use Rattle.wire.proofs.Forms.{read-moves}
-use Rattle.table_map.specs.declared.event.Part.{Part}
+use Rattle.table_map.specs.declared.part.Part.{Part}
 use Rattle.table_map.specs.Parts.{longPart}
 use Rattle.table_map.specs.Lists.{Rule, integerItem, pairItem, stringItem, strings, groupItem}
 use Rattle.table_map.proofs.Steps.{Early}

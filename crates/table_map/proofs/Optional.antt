@@ -15,7 +15,7 @@ use Rattle.wire.specs.Packed.{readPacked}
 use Rattle.wire.proofs.Outcomes.{by-test, after-after, after-is-ok, ok-not-refused, same-ok, same-refused}
 use Rattle.value.specs.declared.column.Dialect.{Dialect}
 use Rattle.value.specs.Columns.{hasSignBit}
-use Rattle.table_map.specs.declared.event.Part.{Part}
+use Rattle.table_map.specs.declared.part.Part.{Part}
 use Rattle.table_map.specs.declared.field.Fields.{Fields}
 use Rattle.table_map.specs.Parts.{partOf, lentPart, longPart}
 use Rattle.table_map.specs.Lists.{Stepped, end, item, step, defaultCharset}

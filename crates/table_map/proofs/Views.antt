@@ -2,7 +2,9 @@
 use mathlib.Core.Path.{_≡_, refl}
 use Rattle.wire.specs.declared.refusal.Refusal.{Refusal}
 use Rattle.wire.specs.Outcome.{Outcome, ok, refused}
-use Rattle.wire.proofs.Outcomes.{same-by-back}
+use Rattle.wire.proofs.Outcomes.{back-read, same-by-back}
+use Rattle.table_map.specs.declared.event.EventRead.{EventRead}
+use Rattle.table_map.specs.declared.event.EventRead.the-variants.{Read as Read₇, Refused as Refused₇}
 use Rattle.table_map.specs.declared.field.FieldStep.{FieldStep}
 use Rattle.table_map.specs.declared.field.FieldStep.the-variants.{Field, End as End₅, Refused as Refused₅}
 use Rattle.table_map.specs.declared.list.IntegerStep.{IntegerStep}
@@ -15,18 +17,15 @@ use Rattle.table_map.specs.declared.list.GroupStep.{GroupStep}
 use Rattle.table_map.specs.declared.list.GroupStep.the-variants.{Item as Item₄, End as End₄, Refused as Refused₄}
 use Rattle.table_map.specs.declared.list.DefaultCharset.{DefaultCharset}
 use Rattle.table_map.specs.declared.list.DefaultCharset.the-variants.{Read, Refused as Refused₆}
+use Rattle.table_map.specs.Events.{eventOf}
 use Rattle.table_map.specs.Lists.{Stepped, end, item, integerOf, pairOf, stringOf, groupOf, charsetOf}
 use Rattle.table_map.specs.Fields.{fieldOf}
 
--- the way back from what a step says, and from what a reader says
+-- the way back from what a step says
 abbrev back-step : {A C S : Type 0} → (A → C → S) → S → (Refusal → S) → Outcome (Stepped A C) → S
 back-step it ended refuse (ok end) = ended
 back-step it ended refuse (ok (item a next)) = it a next
 back-step it ended refuse (refused r) = refuse r
-
-abbrev back-read : {A S : Type 0} → (A → S) → (Refusal → S) → Outcome A → S
-back-read it refuse (ok a) = it a
-back-read it refuse (refused r) = refuse r
 
 integer-way : (a : IntegerStep) → back-step (λ value next. Item value (record { at = next })) End Refused (integerOf a) ≡ a
 integer-way (Item value next) = refl
@@ -80,3 +79,11 @@ charset-way (Refused₆ r) = refl
 -- of default charsets
 pub same-charset : (a b : DefaultCharset) → charsetOf a ≡ charsetOf b → a ≡ b
 same-charset = same-by-back charsetOf (back-read (λ x. Read (x .0) (record { at = x .1 })) Refused₆) charset-way
+
+event-way : (a : EventRead) → back-read Read₇ Refused₇ (eventOf a) ≡ a
+event-way (Read₇ e) = refl
+event-way (Refused₇ r) = refl
+
+-- of the event's reader
+pub same-event-read : (a b : EventRead) → eventOf a ≡ eventOf b → a ≡ b
+same-event-read = same-by-back eventOf (back-read Read₇ Refused₇) event-way

@@ -10,7 +10,7 @@ use Rattle.wire.specs.Bits.{bytesFor}
 use Rattle.wire.specs.Outcome.{Outcome, ok, refused, after}
 use Rattle.wire.specs.Number.{leValue}
 use Rattle.wire.specs.Packed.{readPacked}
-use Rattle.table_map.specs.declared.event.Part.{Part}
+use Rattle.table_map.specs.declared.part.Part.{Part}
 use Rattle.table_map.specs.declared.event.Event.{Event}
 use Rattle.table_map.specs.declared.event.EventRead.{EventRead}
 use Rattle.table_map.specs.declared.event.EventRead.the-variants.{Read, Refused}

@@ -10,7 +10,7 @@ use Rattle.wire.specs.Outcome.{Outcome, ok, refused, refuse, after}
 use Rattle.wire.specs.Packed.{readPacked}
 use Rattle.value.specs.declared.column.Dialect.{Dialect}
 use Rattle.value.specs.Columns.{hasSignBit}
-use Rattle.table_map.specs.declared.event.Part.{Part}
+use Rattle.table_map.specs.declared.part.Part.{Part}
 use Rattle.table_map.specs.declared.field.Fields.{Fields}
 use Rattle.table_map.specs.declared.field.FieldStep.{FieldStep}
 use Rattle.table_map.specs.declared.field.FieldStep.the-variants.{Field, End, Refused}

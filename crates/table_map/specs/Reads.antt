@@ -1,7 +1,7 @@
 -- What the answers of the inner readers say. Assumes nothing.
 use Prim.Native.Nat.{ℕ}
 use Rattle.wire.specs.Outcome.{Outcome, ok, refused}
-use Rattle.table_map.specs.declared.event.Part.{Part}
+use Rattle.table_map.specs.declared.part.Part.{Part}
 use Rattle.table_map.specs.declared.part.Place.{Place}
 use Rattle.table_map.specs.declared.part.Place.the-variants.{At, Refused as Refused₁}
 use Rattle.table_map.specs.declared.part.Announced.{Announced}

@@ -1,25 +1,20 @@
 // The event's parts, as places in the lent bytes (table_map_event.rs: TableMapEvent).
 use crate::part::Announced;
+use crate::part::Part;
 use crate::part::PartRead;
 use crate::part::Place;
 use crate::part::long_part;
+use crate::part::part_of;
 use crate::part::read_length;
 use crate::part::short_part;
 use crate::part::within;
 use wire::Refusal;
 ghost use mathlib.Core.Path.{_≡_};
-ghost use Rattle.table_map.specs.Parts.{lentPart};
 ghost use Rattle.table_map.specs.Events.{idBytes, readNames, readColumns, readEvent, eventOf, orNone, partIn};
 ghost use Rattle.table_map.specs.Reads.{namesOf, columnsOf};
 
 // The post-header length of events whose table id has 4 bytes.
 const SHORT_POST_HEADER: u8 = 6;
-
-// A part of the lent bytes.
-pub struct Part {
-    pub start: usize,
-    pub len: usize,
-}
 
 pub struct Event {
     pub id: u64,
@@ -175,18 +170,6 @@ pub fn read_event(event: &[u8], post_header: u8) -> EventRead
         bits,
         optional,
     })
-}
-
-// The bytes of a part, none where it runs past those lent.
-pub fn part_of(s: &[u8], part: Part) -> &[u8]
-    ensures { λ r. ⌜ now r ≡ lentPart (now (s .entry)) part ⌝ }
-{
-    let start = part.start;
-    if wire::has_room(s.len(), start, part.len) {
-        let end = start + part.len;
-        return &s[start..end];
-    }
-    &s[0..0]
 }
 
 // ---- the parts of an event, uncopied: empty where it is refused

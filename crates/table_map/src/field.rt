@@ -1,8 +1,8 @@
 // The optional fields, one after the other (table_map_event.rs: OptionalMetadataIter).
-use crate::event::Part;
-use crate::event::part_of;
+use crate::part::Part;
 use crate::part::PartRead;
 use crate::part::long_part;
+use crate::part::part_of;
 use value::Dialect;
 use wire::Packed;
 use wire::Refusal;

@@ -1,6 +1,6 @@
 // What stands in optional fields: integers, pairs, strings and groups of strings (table_map_event.rs: IterCharsets, IterNonDefault, IterNames, IterSetStrValues and their like), and bits.
 // A cursor is an offset: at the length the list has ended; past it there is no first byte, and the reader of that refuses.
-use crate::event::Part;
+use crate::part::Part;
 use crate::part::PartRead;
 use crate::part::Place;
 use crate::part::long_part;

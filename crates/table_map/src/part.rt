@@ -1,12 +1,17 @@
-// Parts of the lent bytes, read behind their lengths (io.rs: checked_eat_u8_str, checked_eat_lenenc_str).
-use crate::event::Part;
+// Parts of the lent bytes: where they stand, and how they are read behind their lengths (io.rs: checked_eat_u8_str, checked_eat_lenenc_str).
 use wire::Packed;
 use wire::Refusal;
 use wire::refusal::SHORT;
 ghost use mathlib.Core.Path.{_≡_};
 ghost use Rattle.wire.specs.Packed.{readPacked};
-ghost use Rattle.table_map.specs.Parts.{within, shortPart, longPart};
+ghost use Rattle.table_map.specs.Parts.{lentPart, within, shortPart, longPart};
 ghost use Rattle.table_map.specs.Reads.{placeOf, announcedOf, cutOf};
+
+// A part of the lent bytes.
+pub struct Part {
+    pub start: usize,
+    pub len: usize,
+}
 
 // The place after some bytes, or why they are not all there.
 pub(crate) enum Place {
@@ -29,6 +34,18 @@ pub(crate) struct Cut {
 pub(crate) enum PartRead {
     Read(Cut),
     Refused(Refusal),
+}
+
+// The bytes of a part, none where it runs past those lent.
+pub fn part_of(s: &[u8], part: Part) -> &[u8]
+    ensures { λ r. ⌜ now r ≡ lentPart (now (s .entry)) part ⌝ }
+{
+    let start = part.start;
+    if wire::has_room(s.len(), start, part.len) {
+        let end = start + part.len;
+        return &s[start..end];
+    }
+    &s[0..0]
 }
 
 // The place after the n bytes from at on; if they end early, the refusal is placed at `place`.

@@ -54,6 +54,11 @@ by-test false x y z e f g = g refl e
 pub both-true : (a b : Bool) → (a && b) ≡ true → (a ≡ true) × (b ≡ true)
 both-true a b = and-eq-true-iff a b .0
 
+-- the way back from what a reader says, given those from what it read and from its refusal
+abbrev pub back-read : {A S : Type 0} → (A → S) → (Refusal → S) → Outcome A → S
+back-read it refuse (ok a) = it a
+back-read it refuse (refused w) = refuse w
+
 -- a view with a way back gives no two values the same look
 pub same-by-back : {A B : Type 0} (view : A → B) (back : B → A) → ((a : A) → back (view a) ≡ a) → (a b : A) → view a ≡ view b → a ≡ b
 same-by-back view back way a b e = sym (way a) ∙ ap back e ∙ way b

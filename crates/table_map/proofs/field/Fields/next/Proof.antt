@@ -15,7 +15,7 @@ use Rattle.table_map.proofs.field.Fields.next.Statement.{statement}
 use Rattle.table_map.proofs.field.Fields.next.Tie as tie
 use Rattle.table_map.proofs.field.Fields.next.Reads as reads
 use Rattle.table_map.proofs.field.Fields.next.Lts as lts
-use Rattle.table_map.proofs.event.part_of.Reads as part-of-reads
+use Rattle.table_map.proofs.part.part_of.Reads as part-of-reads
 use Rattle.table_map.proofs.field.contents_hold.Reads as contents-hold-reads
 use Rattle.table_map.proofs.field.is_field.Reads as is-field-reads
 use Rattle.table_map.proofs.part.long_part.Reads as long-part-reads

@@ -1,14 +1,14 @@
--- `table_map::event::part_of` meets its contract. Assumes nothing.
+-- `table_map::part::part_of` meets its contract. Assumes nothing.
 use Prim.Native.Nat.{_+_, _-_, _≤_}
 use mathlib.Core.Path.{_≡_, sym, _∙_}
 use native.Mathlib.Omega.{arith}
 use lib.ListN.{length}
 use Rattle.wire.proofs.Stores.{room}
 use borrow.Author.Needs.{needs}
-use Rattle.table_map.proofs.event.part_of.Statement.{statement}
-use Rattle.table_map.proofs.event.part_of.Tie as tie
-use Rattle.table_map.proofs.event.part_of.Reads as reads
-use Rattle.table_map.proofs.event.part_of.Lts as lts
+use Rattle.table_map.proofs.part.part_of.Statement.{statement}
+use Rattle.table_map.proofs.part.part_of.Tie as tie
+use Rattle.table_map.proofs.part.part_of.Reads as reads
+use Rattle.table_map.proofs.part.part_of.Lts as lts
 use Rattle.wire.proofs.has_room.Reads as has-room-reads
 
 has-room-requires : tie.Need-has-room-requires

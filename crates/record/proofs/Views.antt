@@ -1,0 +1,14 @@
+-- No two answers look the same on paper, so any two results that a contract allows are equal. Assumes nothing.
+use mathlib.Core.Path.{_≡_, refl}
+use Rattle.wire.proofs.Outcomes.{back-read, same-by-back}
+use Rattle.record.specs.declared.profile.RecordRead.{RecordRead}
+use Rattle.record.specs.declared.profile.RecordRead.the-variants.{Valid, Refused}
+use Rattle.record.specs.Records.{recordOf}
+
+record-way : (a : RecordRead) → back-read Valid Refused (recordOf a) ≡ a
+record-way (Valid n) = refl
+record-way (Refused r) = refl
+
+-- of the record's reader
+pub same-record : (a b : RecordRead) → recordOf a ≡ recordOf b → a ≡ b
+same-record = same-by-back recordOf (back-read Valid Refused) record-way
