@@ -7,7 +7,7 @@ use lib.ListN.{take, drop}
 use types.Run.{OneOf, miss}
 use denote.Enum.Declared.{tagOf}
 use Rattle.value.proofs.datum.Value.{the-type}
-use Rattle.value.proofs.Ins.{tag-any}
+use Rattle.value.proofs.Writers.{tag-any}
 use Rattle.value.proofs.Sorts.{not-bytes}
 use Rattle.value.specs.declared.datum.Value.{Value}
 use Rattle.value.specs.declared.datum.Value.the-variants.{Null, Int, Uint, Float, Double, Year, When, Bytes}

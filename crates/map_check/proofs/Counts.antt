@@ -9,7 +9,7 @@ use lib.Dec.{eqb}
 use Rattle.wire.specs.Outcome.{ok}
 use Rattle.value.specs.declared.column.Dialect.{Dialect}
 use Rattle.value.specs.Columns.{hasSignBit, hasCharset, isEnumOrSet}
-use Rattle.table_map.specs.Fields.{signBits, countSigned}
+use Rattle.table_map.specs.Fields.{signBits, countSignBits}
 use Rattle.map_check.specs.declared.column.Declared.{Declared}
 use Rattle.map_check.specs.declared.rank.Rank.{Rank}
 use Rattle.map_check.specs.declared.rank.Ranks.{Ranks}
@@ -62,15 +62,15 @@ at-most-after {n} d c b = record {
 }
 
 -- ---- signedness
-signs-from : (d : Dialect) (k : Ranks) (types meta : List ℕ) → ranksFrom d k (declareAll types meta) .sign .0 ≡ k .sign .0 + countSigned d types
-unfolding ranksFrom ranksAfter declareAll declared countSigned signBits
+signs-from : (d : Dialect) (k : Ranks) (types meta : List ℕ) → ranksFrom d k (declareAll types meta) .sign .0 ≡ k .sign .0 + countSignBits d types
+unfolding ranksFrom ranksAfter declareAll declared countSignBits signBits
 signs-from d k [] meta = omega arith
 signs-from d k (t ∷ types) meta =
     let e = signs-from d (ranksAfter d k (declared t meta)) types (drop (metaBytes t) meta) in
     omega (arith, e)
 
 -- as many columns have a rank of signedness as the field walk counts
-pub sizes-signs : (d : Dialect) (types meta : List ℕ) (p : ℕ) (cs : List Declared) → takeColumns types meta p ≡ ok cs → sizesOf d cs .sign .0 ≡ countSigned d types
+pub sizes-signs : (d : Dialect) (types meta : List ℕ) (p : ℕ) (cs : List Declared) → takeColumns types meta p ≡ ok cs → sizesOf d cs .sign .0 ≡ countSignBits d types
 sizes-signs d types meta p cs e =
-    let z : 0 + countSigned d types ≡ countSigned d types = omega arith in
+    let z : 0 + countSignBits d types ≡ countSignBits d types = omega arith in
     ap (λ (l : List Declared). sizesOf d l .sign .0) (taken-all types meta p cs e) ∙ signs-from d noRanks types meta ∙ z

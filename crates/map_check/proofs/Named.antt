@@ -11,7 +11,7 @@ use Rattle.table_map.specs.declared.field.Fields.{Fields as FieldCursor}
 use Rattle.table_map.specs.Parts.{part, within, shortPart, longPart}
 use Rattle.table_map.specs.Events.{readNames, readColumns, readEvent}
 use Rattle.table_map.specs.Lists.{step, walkSteps}
-use Rattle.table_map.specs.Fields.{signBits, countSigned, contentsHold, fieldItem}
+use Rattle.table_map.specs.Fields.{signBits, countSignBits, contentsHold, fieldItem}
 use Rattle.map_check.specs.Ranks.{place, noRanks}
 use Rattle.map_check.specs.Contents.{every, listHolds, exactly, keyItem, contentsFull}
 use Rattle.map_check.specs.Fields.{stood, rivalOf, isKept, keepSteps, keepFields, firstOf}
@@ -70,12 +70,12 @@ abbrev event : List ℕ → List ℕ
 event optional = 1 ∷ 0 ∷ 0 ∷ 0 ∷ 0 ∷ 0 ∷ 1 ∷ 0 ∷ 1 ∷ 0x74 ∷ 0 ∷ 1 ∷ 0x72 ∷ 0 ∷ 1 ∷ 1 ∷ 0 ∷ 0 ∷ optional
 
 of-map : namesBytes Document (event (1 ∷ 1 ∷ 128 ∷ 4 ∷ 2 ∷ 1 ∷ 97 ∷ [])) (readEvent (event (1 ∷ 1 ∷ 128 ∷ 4 ∷ 2 ∷ 1 ∷ 97 ∷ [])) 8) ≡ 1 ∷ 97 ∷ []
-unfolding readEvent readNames readColumns leValue readPacked formOf within shortPart longPart step walkSteps signBits countSigned hasSignBit isNumeric familyOf contentsHold fieldItem firstOf
+unfolding readEvent readNames readColumns leValue readPacked formOf within shortPart longPart step walkSteps signBits countSignBits hasSignBit isNumeric familyOf contentsHold fieldItem firstOf
 of-map = refl
 
 -- none behind a field that is refused
 behind-a-refusal : namesBytes Document (event (14 ∷ 0 ∷ 4 ∷ 2 ∷ 1 ∷ 97 ∷ [])) (readEvent (event (14 ∷ 0 ∷ 4 ∷ 2 ∷ 1 ∷ 97 ∷ [])) 8) ≡ []
-unfolding readEvent readNames readColumns leValue readPacked formOf within shortPart longPart step walkSteps signBits countSigned hasSignBit isNumeric familyOf contentsHold fieldItem firstOf
+unfolding readEvent readNames readColumns leValue readPacked formOf within shortPart longPart step walkSteps signBits countSignBits hasSignBit isNumeric familyOf contentsHold fieldItem firstOf
 behind-a-refusal = refl
 
 -- ---- fields of a map with no columns: two that may stand side by side, one that stands twice, and one beside its rival

@@ -13,7 +13,7 @@ use Rattle.value.specs.declared.column.Dialect.{Dialect}
 use Rattle.table_map.specs.declared.event.Event.{Event}
 use Rattle.table_map.specs.Parts.{lentPart}
 use Rattle.record.specs.declared.entry.Entry.{Entry}
-use Rattle.record.specs.Entries.{isUnsigned, entryHolds}
+use Rattle.record.specs.Entries.{unsignedFlag, entryHolds}
 use Rattle.record.specs.Records.{recordBytes, recordValid}
 use Rattle.record.proofs.Made.{Kept, made-valid}
 use Rattle.map_check.specs.declared.column.Declared.{Declared}
@@ -78,7 +78,7 @@ unfolding entryHolds
 entry-kept s x kind meta j k h g a =
     let c = declared kind meta in
     record {
-      holds = rw (accepted-taken c (isUnsigned (flagsOf s x c j k)) a, flags-hold s x c j k (accepted-numeric kind meta a), charset-holds s x c j k) refl;
+      holds = rw (accepted-taken c (unsignedFlag (flagsOf s x c j k)) a, flags-hold s x c j k (accepted-numeric kind meta a), charset-holds s x c j k) refl;
       charset-fits = column-narrow s x c k h g;
     }
 

@@ -11,7 +11,7 @@ use Rattle.value.specs.Columns.{familyOf, isKnown, metadataBytes, realType, lef
 use Rattle.table_map.specs.Parts.{within, shortPart, longPart}
 use Rattle.table_map.specs.Events.{readNames, readColumns, readEvent}
 use Rattle.table_map.specs.Lists.{step, walkSteps, pairItem, strings, groupItem}
-use Rattle.table_map.specs.Fields.{signBits, countSigned, contentsHold, fieldItem, fieldStep}
+use Rattle.table_map.specs.Fields.{signBits, countSignBits, contentsHold, fieldItem, fieldStep}
 use Rattle.record.specs.Entries.{entryBytes}
 use Rattle.record.specs.Records.{headBytes, entriesBytes, recordBytes}
 use Rattle.map_check.specs.Columns.{metaByte, declared, isReal, isAccepted, takeColumn, takeColumns}
@@ -30,5 +30,5 @@ event =
 worked :
     after (checkMap Document event 8) (λ es. ok (recordBytes es))
     ≡ ok (0x18 ∷ 0 ∷ 1 ∷ 0 ∷ 3 ∷ 0 ∷ 3 ∷ 0x0c ∷ 0 ∷ 0 ∷ 0 ∷ 0 ∷ 0x0f ∷ 0x0a ∷ 0x14 ∷ 0 ∷ 0 ∷ 0 ∷ 1 ∷ 0x0d ∷ 0 ∷ 0 ∷ 0 ∷ 0 ∷ [])
-unfolding leValue leBytes readPacked formOf longForm digit bitLsb0 bitMsb0 familyOf isKnown metadataBytes realType leftoverBytes decimalBytes shapeIn shapeOf isTaken isNumeric hasSignBit isCharacter hasCharset isEnumOrSet within shortPart longPart readNames readColumns readEvent step walkSteps pairItem strings groupItem signBits countSigned contentsHold fieldItem fieldStep entryBytes headBytes entriesBytes recordBytes metaByte declared isReal isAccepted takeColumn takeColumns ranksAfter ranksFrom every listHolds exactly isCharset integerHolds pairsHold pairsWhole defaultHolds keyItem contentsFull stood rivalOf isKept keepSteps firstOf withPlace keysOnce keysHold pairOr charsetBy charsetFor flagsOf entriesFrom fewEnough checkEvent checkMap
+unfolding leValue leBytes readPacked formOf longForm digit bitLsb0 bitMsb0 familyOf isKnown metadataBytes realType leftoverBytes decimalBytes shapeIn shapeOf isTaken isNumeric hasSignBit isCharacter hasCharset isEnumOrSet within shortPart longPart readNames readColumns readEvent step walkSteps pairItem strings groupItem signBits countSignBits contentsHold fieldItem fieldStep entryBytes headBytes entriesBytes recordBytes metaByte declared isReal isAccepted takeColumn takeColumns ranksAfter ranksFrom every listHolds exactly isCharset integerHolds pairsHold pairsWhole defaultHolds keyItem contentsFull stood rivalOf isKept keepSteps firstOf withPlace keysOnce keysHold pairOr charsetBy charsetFor flagsOf entriesFrom fewEnough checkEvent checkMap
 worked = refl

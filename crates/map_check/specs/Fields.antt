@@ -10,7 +10,7 @@ use Rattle.table_map.specs.declared.part.Part.{Part}
 use Rattle.table_map.specs.declared.field.Fields.{Fields as FieldCursor}
 use Rattle.table_map.specs.Parts.{lentPart}
 use Rattle.table_map.specs.Lists.{Stepped, end, item, step, walk}
-use Rattle.table_map.specs.Fields.{fieldItem, countSigned}
+use Rattle.table_map.specs.Fields.{fieldItem, countSignBits}
 use Rattle.map_check.specs.declared.rank.Ranks.{Ranks}
 use Rattle.map_check.specs.declared.field.Found.{Found}
 use Rattle.map_check.specs.declared.field.Found.the-variants.{Value, Nothing}
@@ -63,7 +63,7 @@ valueIn s Nothing = []
 
 -- the cursor at the first optional field of a map with these types
 abbrev pub fieldsAt : Dialect → List ℕ → ℕ → FieldCursor
-fieldsAt d types at = record { at = at; numeric = countSigned d types; columns = length types }
+fieldsAt d types at = record { at = at; numeric = countSignBits d types; columns = length types }
 
 -- the fields of a walk, up to its end or to a refusal
 abbrev pub fieldsFrom : FieldCursor → List ℕ → List (ℕ × Part)

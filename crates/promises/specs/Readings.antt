@@ -21,7 +21,7 @@ use Rattle.wire.specs.Bits.{digit, bitLsb0, bitMsb0}
 use Rattle.table_map.specs.Parts.{within, shortPart, longPart}
 use Rattle.table_map.specs.Events.{readNames, readColumns, readEvent}
 use Rattle.table_map.specs.Lists.{step, walkSteps, pairItem, strings, groupItem}
-use Rattle.table_map.specs.Fields.{signBits, countSigned, contentsHold, fieldItem, fieldStep}
+use Rattle.table_map.specs.Fields.{signBits, countSignBits, contentsHold, fieldItem, fieldStep}
 use Rattle.record.specs.Entries.{entryBytes, flagsHold, charsetHolds, entryHolds, entryOf}
 use Rattle.record.specs.Records.{headBytes, entriesBytes, recordBytes, entryIn, entriesHold, headHolds, recordValid, readRecord}
 use Rattle.map_check.specs.Columns.{metaByte, declared, isReal, isAccepted, takeColumn, takeColumns}
@@ -99,5 +99,5 @@ table =
     ∷ []
 
 pub readings : Each Holds table
-unfolding table packedBytes leBytes readPacked formOf longForm leValue readTemporal clockFault dayFault shapeOf digit bitLsb0 bitMsb0 familyOf isKnown metadataBytes realType leftoverBytes decimalBytes shapeIn isTaken isNumeric hasSignBit isCharacter hasCharset isEnumOrSet within shortPart longPart readNames readColumns readEvent step walkSteps pairItem strings groupItem signBits countSigned contentsHold fieldItem fieldStep entryBytes headBytes entriesBytes recordBytes metaByte declared isReal isAccepted takeColumn takeColumns ranksAfter ranksFrom every listHolds exactly isCharset integerHolds pairsHold pairsWhole defaultHolds keyItem contentsFull stood rivalOf isKept keepSteps firstOf withPlace keysOnce keysHold pairOr charsetBy charsetFor flagsOf entriesFrom fewEnough checkEvent checkMap signedOf need decode fault taken cut judged readDatum readValue datumOf flagsHold charsetHolds entryHolds entryOf entryIn entriesHold headHolds recordValid readRecord countBits shapeAt presentFrom slots slotsAt headOf firstCursor stepOver stepFrom imageSteps walkImage
+unfolding table packedBytes leBytes readPacked formOf longForm leValue readTemporal clockFault dayFault shapeOf digit bitLsb0 bitMsb0 familyOf isKnown metadataBytes realType leftoverBytes decimalBytes shapeIn isTaken isNumeric hasSignBit isCharacter hasCharset isEnumOrSet within shortPart longPart readNames readColumns readEvent step walkSteps pairItem strings groupItem signBits countSignBits contentsHold fieldItem fieldStep entryBytes headBytes entriesBytes recordBytes metaByte declared isReal isAccepted takeColumn takeColumns ranksAfter ranksFrom every listHolds exactly isCharset integerHolds pairsHold pairsWhole defaultHolds keyItem contentsFull stood rivalOf isKept keepSteps firstOf withPlace keysOnce keysHold pairOr charsetBy charsetFor flagsOf entriesFrom fewEnough checkEvent checkMap signedOf need decode fault taken cut judged readDatum readValue datumOf flagsHold charsetHolds entryHolds entryOf entryIn entriesHold headHolds recordValid readRecord countBits shapeAt presentFrom slots slotsAt headOf firstCursor stepOver stepFrom imageSteps walkImage
 readings = ((refl, refl), ((refl, refl), ((refl, refl), (refl, (refl, (refl, (refl, ((refl, refl), ((refl, refl), (refl, (refl, tt)))))))))))

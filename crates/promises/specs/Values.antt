@@ -28,7 +28,7 @@ use Rattle.value.specs.Reading.{taken, readDatum, readValue, placed, datumOf, F
 use Rattle.value.specs.Storing.{isIn, storedBytes, writeValue}
 use Rattle.value.proofs.Tables.{sized}
 use Rattle.value.proofs.Laws.{back, sound, said-read, fails, taken-same}
-use Rattle.value.proofs.Ins.{is-in}
+use Rattle.value.proofs.Writers.{is-in}
 
 -- every value of a column's domain is read back from its bytes, wherever they stand and whatever stands behind them
 pub read-back : (c : Column) (d : Datum) (p : ℕ) (pre rest : List ℕ) → domain (shapeOf c) d ≡ true

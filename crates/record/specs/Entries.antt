@@ -11,12 +11,12 @@ use Rattle.value.specs.Columns.{familyOf, isNumeric, isCharacter, isEnumOrSet, 
 use Rattle.record.specs.declared.entry.Entry.{Entry}
 
 -- flag 1
-abbrev pub isUnsigned : ℕ → Bool
-isUnsigned flags = eqb (flags % 2) 1
+abbrev pub unsignedFlag : ℕ → Bool
+unsignedFlag flags = eqb (flags % 2) 1
 
 -- the column, as its values are stored
 abbrev pub columnOf : Entry → Column
-columnOf e = record { kind = e .kind; m0 = e .m0; m1 = e .m1; unsigned = isUnsigned (e .flags) }
+columnOf e = record { kind = e .kind; m0 = e .m0; m1 = e .m1; unsigned = unsignedFlag (e .flags) }
 
 -- no flag above 8; 1 needs 4 on a numeric column, and neither stands on another
 unfoldable pub flagsHold : Entry → Bool

@@ -8,7 +8,7 @@ use Rattle.value.specs.Columns.{familyOf, isNumeric, hasSignBit}
 use Rattle.value.specs.declared.column.Dialect.the-variants.{Document, Mysql}
 use Rattle.table_map.specs.Parts.{part, within, longPart}
 use Rattle.table_map.specs.Lists.{whole, broken, step, walkSteps, walk, integerItem, pairItem, strings, groupItem}
-use Rattle.table_map.specs.Fields.{signBits, countSigned, contentsHold, fieldItem}
+use Rattle.table_map.specs.Fields.{signBits, countSignBits, contentsHold, fieldItem}
 
 -- 1 and 251, the latter in its three bytes
 integers : walk integerItem (1 ∷ 252 ∷ 251 ∷ 0 ∷ []) 0 ≡ record { items = 1 ∷ 251 ∷ []; how = whole }
@@ -36,12 +36,12 @@ unfolding groupItem strings longPart within readPacked formOf longForm leValue
 many = refl
 
 -- an INT, a YEAR and a VARCHAR column: which have a signedness bit
-counted : countSigned Document (3 ∷ 13 ∷ 15 ∷ []) ≡ 1
-unfolding countSigned signBits hasSignBit isNumeric familyOf
+counted : countSignBits Document (3 ∷ 13 ∷ 15 ∷ []) ≡ 1
+unfolding countSignBits signBits hasSignBit isNumeric familyOf
 counted = refl
 
-counted-mysql : countSigned Mysql (3 ∷ 13 ∷ 15 ∷ []) ≡ 2
-unfolding countSigned signBits hasSignBit isNumeric familyOf
+counted-mysql : countSignBits Mysql (3 ∷ 13 ∷ 15 ∷ []) ≡ 2
+unfolding countSignBits signBits hasSignBit isNumeric familyOf
 counted-mysql = refl
 
 -- signedness of one column, a field of type 14, and signedness of nine columns in one byte

@@ -19,7 +19,7 @@ use Rattle.table_map.specs.declared.part.Part.{Part}
 use Rattle.table_map.specs.declared.field.Fields.{Fields}
 use Rattle.table_map.specs.Parts.{partOf, lentPart, longPart}
 use Rattle.table_map.specs.Lists.{Stepped, end, item, step, defaultCharset}
-use Rattle.table_map.specs.Fields.{signBits, countSigned, isField, isRead, contentsHold, fieldItem, withCursor, fieldStep}
+use Rattle.table_map.specs.Fields.{signBits, countSignBits, isField, isRead, contentsHold, fieldItem, withCursor, fieldStep}
 use Rattle.table_map.proofs.Steps.{step-before}
 use Rattle.table_map.proofs.Items.{Moves, long-moves}
 
@@ -33,21 +33,21 @@ unfolding signBits
 sign-bits-most d t = one-at-most (hasSignBit d t)
 
 -- no more columns have one than there are
-pub signed-within : (d : Dialect) (types : List ℕ) → countSigned d types ≤ length types
-unfolding countSigned
+pub signed-within : (d : Dialect) (types : List ℕ) → countSignBits d types ≤ length types
+unfolding countSignBits
 signed-within d [] = omega arith
 signed-within d (t ∷ types) = omega (arith, sign-bits-most d t, signed-within d types)
 
 -- a turn of the loop, and its end
 pub signed-turn : (d : Dialect) (types : List ℕ) (i : ℕ) → i < length types
-    → countSigned d (drop i types) ≡ signBits d (getD types i 0) + countSigned d (drop (i + 1) types)
-unfolding countSigned
+    → countSignBits d (drop i types) ≡ signBits d (getD types i 0) + countSignBits d (drop (i + 1) types)
+unfolding countSignBits
 signed-turn d types i h =
     let e : i + 1 ≡ suc i = omega arith in
     rw (e, drop-cons types i 0 h)
 
-pub signed-none : (d : Dialect) → countSigned d [] ≡ 0
-unfolding countSigned
+pub signed-none : (d : Dialect) → countSignBits d [] ≡ 0
+unfolding countSignBits
 signed-none d = refl
 
 -- ---- a step, before the end, by what stands at the place

@@ -17,7 +17,7 @@ use Rattle.wire.proofs.Outcomes.{by-test, test-is-ok, ok-not-refused, same-refu
 use Rattle.wire.proofs.Bytes.{leBytes-length}
 use Rattle.wire.proofs.Stores.{length-stored, stored-stored, store-fits, store-full}
 use Rattle.wire.proofs.Forms.{tag-width, Shortest, itself, behind, shortest}
-use Rattle.table_map.specs.Writes.{Parts, parts, nameBytes, eventBytes, isEvent, writeEvent, eventSize, headBytes, columnBytes, Put}
+use Rattle.table_map.specs.Writes.{Parts, parts, nameBytes, eventBytes, isEvent, writeEvent, eventSize, eventHead, columnBytes, Put}
 
 -- ---- lengths
 -- a packed integer has at most 9 bytes
@@ -32,7 +32,7 @@ pub name-length : (name : List ℕ) → length (nameBytes name) ≡ length name 
 unfolding nameBytes
 name-length name = simp length-append (omega arith)
 
-pub head-length : (id flags : ℕ) (database table : List ℕ) → length (headBytes id flags database table) ≡ 12 + length database + length table
+pub head-length : (id flags : ℕ) (database table : List ℕ) → length (eventHead id flags database table) ≡ 12 + length database + length table
 head-length id flags database table =
     let a = length-append (leBytes 6 id) (leBytes 2 flags ++ (nameBytes database ++ nameBytes table)) in
     let b = length-append (leBytes 2 flags) (nameBytes database ++ nameBytes table) in
@@ -50,7 +50,7 @@ column-length types metadata bits optional =
     omega arith
 
 -- the event is its head and its columns
-pub event-split : (p : Parts) → headBytes (p .id) (p .flags) (p .database) (p .table) ++ columnBytes (p .types) (p .metadata) (p .bits) (p .optional) ≡ eventBytes p
+pub event-split : (p : Parts) → eventHead (p .id) (p .flags) (p .database) (p .table) ++ columnBytes (p .types) (p .metadata) (p .bits) (p .optional) ≡ eventBytes p
 unfolding eventBytes
 event-split p =
     let i = leBytes 6 (p .id) in
@@ -64,7 +64,7 @@ pub event-length : (p : Parts) → length (eventBytes p)
     ≡ 12 + length (p .database) + length (p .table)
     + (length (packedBytes (length (p .types))) + (length (p .types) + (length (packedBytes (length (p .metadata))) + (length (p .metadata) + (length (p .bits) + length (p .optional))))))
 event-length p =
-    let h = headBytes (p .id) (p .flags) (p .database) (p .table) in
+    let h = eventHead (p .id) (p .flags) (p .database) (p .table) in
     let r = columnBytes (p .types) (p .metadata) (p .bits) (p .optional) in
     ap length (sym (event-split p)) ∙ length-append h r
     ∙ omega (arith, head-length (p .id) (p .flags) (p .database) (p .table), column-length (p .types) (p .metadata) (p .bits) (p .optional))
@@ -175,7 +175,7 @@ no-room-for p d n h e =
     rw (s .0) (store-full d (eventBytes p) 0 (omega arith))
 
 pub event-put : (p : Parts) (d x : List ℕ) (n next : ℕ) → eventSize p ≡ ok n
-    → Put d 0 (headBytes (p .id) (p .flags) (p .database) (p .table) ++ columnBytes (p .types) (p .metadata) (p .bits) (p .optional)) x next
+    → Put d 0 (eventHead (p .id) (p .flags) (p .database) (p .table) ++ columnBytes (p .types) (p .metadata) (p .bits) (p .optional)) x next
     → writeEvent p d ≡ ok (next, x)
 unfolding writeEvent
 event-put p d x n next e q =

@@ -23,10 +23,10 @@ unfolding hasSignBit
 signBits d t = cond (hasSignBit d t) 1 0
 
 -- how many of the types have one
-unfoldable pub countSigned : Dialect → List ℕ → ℕ
+unfoldable pub countSignBits : Dialect → List ℕ → ℕ
 unfolding signBits
-countSigned d [] = 0
-countSigned d (t ∷ types) = signBits d t + countSigned d types
+countSignBits d [] = 0
+countSignBits d (t ∷ types) = signBits d t + countSignBits d types
 
 -- "Types: 1 signedness .. 13 vector dimensions"
 abbrev pub isField : ℕ → Bool

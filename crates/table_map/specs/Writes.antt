@@ -77,8 +77,8 @@ eventSize p =
     (refuse 13 0)
 
 -- what the inner writers write: the head, and the columns with what is behind them
-abbrev pub headBytes : ℕ → ℕ → List ℕ → List ℕ → List ℕ
-headBytes id flags database table = leBytes 6 id ++ (leBytes 2 flags ++ (nameBytes database ++ nameBytes table))
+abbrev pub eventHead : ℕ → ℕ → List ℕ → List ℕ → List ℕ
+eventHead id flags database table = leBytes 6 id ++ (leBytes 2 flags ++ (nameBytes database ++ nameBytes table))
 
 abbrev pub columnBytes : List ℕ → List ℕ → List ℕ → List ℕ → List ℕ
 columnBytes types metadata bits optional = packedBytes (length types) ++ (types ++ (packedBytes (length metadata) ++ (metadata ++ (bits ++ optional))))

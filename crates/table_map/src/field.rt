@@ -13,7 +13,7 @@ ghost use mathlib.Core.Path.{_≡_};
 ghost use Prim.Native.Nat.{_≤_};
 ghost use lib.ListN.{length};
 ghost use Rattle.wire.specs.Packed.{readPacked};
-ghost use Rattle.table_map.specs.Fields.{signBits, countSigned, isField, isRead, contentsHold, fieldStep, fieldOf};
+ghost use Rattle.table_map.specs.Fields.{signBits, countSignBits, isField, isRead, contentsHold, fieldStep, fieldOf};
 
 // Where a walk over the optional bytes stands, with what it needs of the map, counted once.
 pub struct Fields {
@@ -33,9 +33,9 @@ pub enum FieldStep {
 impl Fields {
     // At a place of the optional bytes of a map with these type bytes.
     pub fn new(dialect: Dialect, types: &[u8], at: usize) -> Fields
-        ensures { λ r. ⌜ r ≡ record { at = at; numeric = countSigned dialect (now (types .entry)); columns = length (now (types .entry)) } ⌝ }
+        ensures { λ r. ⌜ r ≡ record { at = at; numeric = countSignBits dialect (now (types .entry)); columns = length (now (types .entry)) } ⌝ }
     {
-        let numeric = count_signed(dialect, types);
+        let numeric = count_sign_bits(dialect, types);
         let columns = types.len();
         Fields {
             at,
@@ -80,8 +80,8 @@ impl Fields {
 }
 
 // How many of the columns have a signedness bit.
-fn count_signed(dialect: Dialect, types: &[u8]) -> usize
-    ensures { λ r. ⌜ r ≡ countSigned dialect (now (types .entry)) ⌝ }
+fn count_sign_bits(dialect: Dialect, types: &[u8]) -> usize
+    ensures { λ r. ⌜ r ≡ countSignBits dialect (now (types .entry)) ⌝ }
 {
     let mut n: usize = 0;
     let mut i: usize = 0;

@@ -11,7 +11,7 @@ ghost use Rattle.wire.specs.Number.{leBytes};
 ghost use Rattle.wire.specs.Packed.{packedBytes};
 ghost use Rattle.wire.specs.Stored.{answerOf, leftOf, writtenOf};
 ghost use Rattle.value.specs.Storing.{sizeSaid};
-ghost use Rattle.table_map.specs.Writes.{parts, nameBytes, headBytes, columnBytes, isEvent, writeEvent, eventSize, Put};
+ghost use Rattle.table_map.specs.Writes.{parts, nameBytes, eventHead, columnBytes, isEvent, writeEvent, eventSize, Put};
 
 // Ids are below this.
 const ID_END: u64 = 281474976710656;
@@ -134,7 +134,7 @@ fn put_name(buf: &mut [u8], at: usize, name: &[u8]) -> usize
 
 fn put_head(buf: &mut [u8], id: u64, flags: u16, database: &[u8], table: &[u8]) -> usize
     requires { ⌜ (length (now database) ≤ 255) × (length (now table) ≤ 255) × (12 + length (now database) + length (now table) ≤ length (now buf)) ⌝ }
-    ensures { λ r. ⌜ Put (now (buf .entry)) 0 (headBytes id flags (now (database .entry)) (now (table .entry))) (now (buf .exit)) r ⌝ }
+    ensures { λ r. ⌜ Put (now (buf .entry)) 0 (eventHead id flags (now (database .entry)) (now (table .entry))) (now (buf .exit)) r ⌝ }
 {
     let a = put_le(buf, 0, 6, id);
     let b = put_le(buf, a, 2, flags as u64);

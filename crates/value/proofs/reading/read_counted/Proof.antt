@@ -8,7 +8,7 @@ use Rattle.value.specs.declared.shape.Shape.the-variants.{Counted}
 use Rattle.value.specs.Columns.{isTaken}
 use Rattle.value.specs.Shapes.{need, decode, fault}
 use Rattle.value.specs.Reading.{readOf, placed}
-use Rattle.value.proofs.Cases.{got, ends-early, narrow, behind-length}
+use Rattle.value.proofs.Readers.{got, ends-early, narrow, behind-length}
 use borrow.Author.Needs.{needs}
 use Rattle.value.proofs.reading.read_counted.Statement.{statement}
 use Rattle.value.proofs.reading.read_counted.Tie as tie

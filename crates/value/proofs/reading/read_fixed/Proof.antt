@@ -7,7 +7,7 @@ use Rattle.value.specs.declared.shape.Shape.the-variants.{Fixed}
 use Rattle.value.specs.Columns.{isTaken}
 use Rattle.value.specs.Shapes.{need, decode, fault}
 use Rattle.value.specs.Reading.{readOf, placed}
-use Rattle.value.proofs.Cases.{got, ends-early, part-length}
+use Rattle.value.proofs.Readers.{got, ends-early, part-length}
 use borrow.Author.Needs.{needs}
 use Rattle.value.proofs.reading.read_fixed.Statement.{statement}
 use Rattle.value.proofs.reading.read_fixed.Tie as tie

@@ -6,7 +6,7 @@ use Rattle.value.specs.declared.datum.Value.the-variants.{Float}
 use Rattle.value.specs.Columns.{isTaken}
 use Rattle.value.specs.Shapes.{need, decode, fault}
 use Rattle.value.specs.Reading.{readOf, placed}
-use Rattle.value.proofs.Cases.{got, ends-early}
+use Rattle.value.proofs.Readers.{got, ends-early}
 use borrow.Author.Needs.{needs}
 use Rattle.value.proofs.reading.read_float.Statement.{statement}
 use Rattle.value.proofs.reading.read_float.Tie as tie

@@ -4,7 +4,7 @@ use Rattle.value.specs.declared.shape.Shape.{Shape}
 use Rattle.value.specs.Shapes.{Sized}
 use Rattle.value.specs.Reading.{readValue}
 use Rattle.wire.specs.Outcome.{refused}
-use Rattle.value.proofs.Cases.{no-column}
+use Rattle.value.proofs.Readers.{no-column}
 use borrow.Author.Needs.{needs}
 use Rattle.value.proofs.reading.read_shape.Statement.{statement}
 use Rattle.value.proofs.reading.read_shape.Tie as tie

@@ -12,7 +12,7 @@ use Rattle.wire.specs.Number.{leValue}
 use Rattle.wire.specs.Signed.{signedOf}
 use Rattle.value.specs.declared.datum.Value.the-variants.{Int}
 use Rattle.value.specs.Columns.{isTaken}
-use Rattle.value.proofs.Cases.{got, ends-early, narrow}
+use Rattle.value.proofs.Readers.{got, ends-early, narrow}
 use borrow.Author.Needs.{needs}
 use Rattle.value.proofs.reading.read_signed.Statement.{statement}
 use Rattle.value.proofs.reading.read_signed.Tie as tie

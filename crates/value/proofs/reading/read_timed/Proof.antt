@@ -1,7 +1,7 @@
 -- `value::reading::read_timed` meets its contract. Assumes nothing.
 use mathlib.Core.Path.{sym, ap, _∙_}
 use Rattle.temporal.specs.Reading.{temporalOf}
-use Rattle.value.proofs.Cases.{timed}
+use Rattle.value.proofs.Readers.{timed}
 use borrow.Author.Needs.{needs}
 use Rattle.value.proofs.reading.read_timed.Statement.{statement}
 use Rattle.value.proofs.reading.read_timed.Tie as tie

@@ -9,7 +9,7 @@ use Rattle.value.specs.declared.datum.Value.the-variants.{Uint}
 use Rattle.value.specs.Columns.{isTaken}
 use Rattle.value.specs.Shapes.{need, decode, fault}
 use Rattle.value.specs.Reading.{readOf, placed}
-use Rattle.value.proofs.Cases.{got, ends-early, narrow}
+use Rattle.value.proofs.Readers.{got, ends-early, narrow}
 use borrow.Author.Needs.{needs}
 use Rattle.value.proofs.reading.read_unsigned.Statement.{statement}
 use Rattle.value.proofs.reading.read_unsigned.Tie as tie

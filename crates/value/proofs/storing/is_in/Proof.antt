@@ -7,7 +7,7 @@ use Rattle.value.specs.declared.shape.Shape.{Shape}
 use Rattle.value.specs.declared.shape.Shape.the-variants.{Unsigned, FloatBits, DoubleBits}
 use Rattle.value.specs.Shapes.{Sized}
 use Rattle.value.specs.Storing.{isIn}
-use Rattle.value.proofs.Ins.{not-in, in-plain, unsigned-domain, float-domain, double-domain, in-year, in-signed, in-timed, in-fixed, in-counted, in-none}
+use Rattle.value.proofs.Writers.{not-in, in-plain, unsigned-domain, float-domain, double-domain, in-year, in-signed, in-timed, in-fixed, in-counted, in-none}
 use borrow.Author.Needs.{needs}
 use Rattle.value.proofs.storing.is_in.Statement.{statement}
 use Rattle.value.proofs.storing.is_in.Tie as tie

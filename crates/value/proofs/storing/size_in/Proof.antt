@@ -9,7 +9,7 @@ use Rattle.value.specs.declared.shape.Shape.the-variants.{Unsigned, Sign
 use Rattle.value.specs.Shapes.{Sized, need, bytesOf}
 use Rattle.value.specs.Reading.{datumOf}
 use Rattle.value.specs.Storing.{isIn, lenOf, startOf}
-use Rattle.value.proofs.Ins.{lent-fits, size-at, size-counted, is-in, none-in}
+use Rattle.value.proofs.Writers.{lent-fits, size-at, size-counted, is-in, none-in}
 use borrow.Author.Needs.{needs}
 use Rattle.value.proofs.storing.size_in.Statement.{statement}
 use Rattle.value.proofs.storing.size_in.Tie as tie

@@ -1,7 +1,7 @@
 -- `value::storing::size_shape` meets its contract. Assumes nothing.
 use mathlib.Core.Path.{sym, _∙_}
 use borrow.Author.Tests.{not-true, not-false}
-use Rattle.value.proofs.Ins.{sizes-not, sizes-out, sizes-in}
+use Rattle.value.proofs.Writers.{sizes-not, sizes-out, sizes-in}
 use borrow.Author.Needs.{needs}
 use Rattle.value.proofs.storing.size_shape.Statement.{statement}
 use Rattle.value.proofs.storing.size_shape.Tie as tie

@@ -6,7 +6,7 @@ use Rattle.value.specs.Shapes.{Sized}
 use Rattle.value.specs.Storing.{isIn}
 use mir.Syntax.{w64}
 use mir.ValLaws.{toZ-ofZ}
-use Rattle.value.proofs.Ins.{is-in, none-in, put-unsigned, put-signed, put-float, put-double, put-year, put-fixed, put-counted, put-timed, signed-small, year-least}
+use Rattle.value.proofs.Writers.{is-in, none-in, put-unsigned, put-signed, put-float, put-double, put-year, put-fixed, put-counted, put-timed, signed-small, year-least}
 use borrow.Author.Needs.{needs}
 use Rattle.value.proofs.storing.store_shape.Statement.{statement}
 use Rattle.value.proofs.storing.store_shape.Tie as tie

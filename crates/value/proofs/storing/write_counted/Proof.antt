@@ -8,7 +8,7 @@ use Rattle.wire.specs.Stored.{store, leftOf}
 use Rattle.wire.specs.Number.{leBytes}
 use Rattle.wire.proofs.Bytes.{leBytes-length}
 use Rattle.wire.proofs.Stores.{room, no-room, not-wrote, wrote-two}
-use Rattle.value.proofs.Cases.{narrow}
+use Rattle.value.proofs.Readers.{narrow}
 use borrow.Author.Needs.{needs}
 use Rattle.value.proofs.storing.write_counted.Statement.{statement}
 use Rattle.value.proofs.storing.write_counted.Tie as tie

@@ -3,7 +3,7 @@ use Prim.Native.Nat.{_+_, _≤_}
 use native.Mathlib.Omega.{arith}
 use lib.ListN.{length}
 use Rattle.value.specs.Storing.{lenOf, startOf}
-use Rattle.value.proofs.Ins.{lent-fits, lent-part}
+use Rattle.value.proofs.Writers.{lent-fits, lent-part}
 use borrow.Author.Needs.{needs}
 use Rattle.value.proofs.storing.write_part.Statement.{statement}
 use Rattle.value.proofs.storing.write_part.Tie as tie

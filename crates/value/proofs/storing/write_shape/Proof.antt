@@ -1,7 +1,7 @@
 -- `value::storing::write_shape` meets its contract. Assumes nothing.
 use mathlib.Core.Path.{refl, sym, _∙_}
 use borrow.Author.Tests.{not-true, not-false}
-use Rattle.value.proofs.Ins.{writes-not, writes-out, writes-in}
+use Rattle.value.proofs.Writers.{writes-not, writes-out, writes-in}
 use borrow.Author.Needs.{needs}
 use Rattle.value.proofs.storing.write_shape.Statement.{statement}
 use Rattle.value.proofs.storing.write_shape.Tie as tie

@@ -4,13 +4,13 @@ use Rattle.table_map.proofs.field.Fields.new.Statement.{statement}
 use Rattle.table_map.proofs.field.Fields.new.Tie as tie
 use Rattle.table_map.proofs.field.Fields.new.Reads as reads
 use Rattle.table_map.proofs.field.Fields.new.Lts as lts
-use Rattle.table_map.proofs.field.count_signed.Reads as count-signed-reads
+use Rattle.table_map.proofs.field.count_sign_bits.Reads as count-sign-bits-reads
 
-count-signed-requires : tie.Need-count-signed-requires
-count-signed-requires c κs = search needs
+count-sign-bits-requires : tie.Need-count-sign-bits-requires
+count-sign-bits-requires c κs = search needs
 
 returns : tie.Need-returns
-returns c = rw (c .count-signed .ensures)
+returns c = rw (c .count-sign-bits .ensures)
 
 pub new-spec : {M : Type 1} → statement M
-new-spec = tie.close (tie.spec count-signed-requires returns)
+new-spec = tie.close (tie.spec count-sign-bits-requires returns)

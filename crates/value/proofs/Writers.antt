@@ -31,7 +31,7 @@ use Rattle.value.specs.Reading.{taken, datumOf}
 use Rattle.value.specs.Storing.{startOf, lenOf, isLent, isIn, storedBytes, writeValue, sizeOf}
 use Rattle.value.proofs.Facts.{need-bytes}
 use Rattle.value.proofs.Laws.{taken-at}
-use Rattle.value.proofs.Cases.{narrow}
+use Rattle.value.proofs.Readers.{narrow}
 use Rattle.value.proofs.Signs.{halves-is}
 
 -- ---- all but its bytes a value says whatever is lent

@@ -1,4 +1,4 @@
--- What the readers and writers of the code use: a reading at a place that goes well, or ends early. Assumes nothing.
+-- What the readers of the code use: a reading at a place that goes well, or ends early; and a width that writers share. Assumes nothing.
 use Prim.Native.Nat.{ℕ, _+_, _-_, _≤_, _<_, min}
 use mathlib.Core.Path.{_≡_, refl, _∙_}
 use mathlib.Core.Bool.{Bool, true, false, cond}

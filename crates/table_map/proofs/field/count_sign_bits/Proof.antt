@@ -1,20 +1,20 @@
--- `table_map::field::count_signed` meets its contract. The loop's invariant: what is counted and what is left to count make the whole. Assumes nothing.
+-- `table_map::field::count_sign_bits` meets its contract. The loop's invariant: what is counted and what is left to count make the whole. Assumes nothing.
 use mathlib.Core.List.{[]}
 use Prim.Native.Nat.{_+_, _-_, _≤_}
 use mathlib.Core.Path.{_≡_}
 use native.Mathlib.Omega.{arith}
 use lib.ListN.{length, drop, drop-of-length-le}
-use Rattle.table_map.specs.Fields.{countSigned}
+use Rattle.table_map.specs.Fields.{countSignBits}
 use Rattle.table_map.proofs.Optional.{signed-turn, signed-none}
 use borrow.Author.Needs.{needs}
-use Rattle.table_map.proofs.field.count_signed.Statement.{statement}
-use Rattle.table_map.proofs.field.count_signed.Tie as tie
-use Rattle.table_map.proofs.field.count_signed.Reads as reads
-use Rattle.table_map.proofs.field.count_signed.Lts as lts
+use Rattle.table_map.proofs.field.count_sign_bits.Statement.{statement}
+use Rattle.table_map.proofs.field.count_sign_bits.Tie as tie
+use Rattle.table_map.proofs.field.count_sign_bits.Reads as reads
+use Rattle.table_map.proofs.field.count_sign_bits.Lts as lts
 use Rattle.table_map.proofs.field.sign_bits.Reads as sign-bits-reads
 
 abbrev Inv-loop : tie.InvT-loop
-Inv-loop dialect types n₀ i₀ n i = (i ≤ length types) × (n ≤ i) × (n + countSigned dialect (drop i types) ≡ countSigned dialect types)
+Inv-loop dialect types n₀ i₀ n i = (i ≤ length types) × (n ≤ i) × (n + countSignBits dialect (drop i types) ≡ countSignBits dialect types)
 
 abbrev μ-loop : tie.MeasureT-loop
 μ-loop dialect types n₀ i₀ n i = length types - i
@@ -51,8 +51,8 @@ returns c =
     let e = rw k at (c .before .loop .inv .2) in
     omega (arith, signed-none (a .dialect))
 
-pub count-signed-spec : {M : Type 1} → statement M
-count-signed-spec =
+pub count-sign-bits-spec : {M : Type 1} → statement M
+count-sign-bits-spec =
     tie.close
     (tie.spec
     Inv-loop
