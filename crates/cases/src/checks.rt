@@ -12,8 +12,11 @@ use crate::room::put_written;
 use crate::slices::part;
 use crate::words::Bytes;
 use crate::words::Bytes2;
+use crate::words::Decimal;
+use crate::words::Decoded;
 use crate::words::Number;
-use crate::words::is_last;
+use crate::words::last_bytes;
+use crate::words::last_number;
 use crate::words::read_bytes;
 use crate::words::read_bytes2;
 use crate::words::read_number;
@@ -55,12 +58,9 @@ pub(crate) fn check_case(
     let Bytes::Found(end, next) = read_bytes(line, next, arena, 0) else {
         return put_bad(out, used);
     };
-    let Number::Found(size, next) = read_number(line, next) else {
+    let Decimal::Value(size) = last_number(line, next) else {
         return put_bad(out, used);
     };
-    if !is_last(next) {
-        return put_bad(out, used);
-    }
     let size = size as usize;
     if size > room.len() {
         return put_bad(out, used);
@@ -98,12 +98,9 @@ pub(crate) fn record_case(
     out: &mut [u8],
     used: usize,
 ) -> usize {
-    let Bytes::Found(end, next) = read_bytes(line, at, arena, 0) else {
+    let Decoded::To(end) = last_bytes(line, at, arena, 0) else {
         return put_bad(out, used);
     };
-    if !is_last(next) {
-        return put_bad(out, used);
-    }
     match record::read_record(part(arena, 0, end)) {
         RecordRead::Valid { columns } => put_named(out, used, b"ok ", columns as u64),
         RecordRead::Refused(refusal) => put_refused(out, used, refusal),
@@ -138,12 +135,9 @@ pub(crate) fn name_case(
     let Bytes2::Found(split, end, next) = read_bytes2(line, at, arena, 0) else {
         return put_bad(out, used);
     };
-    let Number::Found(asked, next) = read_number(line, next) else {
+    let Decimal::Value(asked) = last_number(line, next) else {
         return put_bad(out, used);
     };
-    if !is_last(next) {
-        return put_bad(out, used);
-    }
     put_name(
         out,
         used,

@@ -8,13 +8,16 @@ use crate::output::put_text;
 use crate::printing::put_named;
 use crate::slices::part;
 use crate::slices::same;
+use crate::words::Bytes;
 use crate::words::Bytes2;
-use crate::words::Number;
+use crate::words::Decimal;
+use crate::words::Decoded;
 use crate::words::Word;
 use crate::words::find_word;
-use crate::words::is_last;
+use crate::words::last_bytes;
+use crate::words::last_number;
+use crate::words::read_bytes;
 use crate::words::read_bytes2;
-use crate::words::read_number;
 use table_map::FieldStep;
 use table_map::Fields;
 use table_map::Part;
@@ -94,12 +97,12 @@ pub(crate) fn fields_case(
     out: &mut [u8],
     used: usize,
 ) -> usize {
-    let Bytes2::Found(split, end, next) = read_bytes2(line, at, arena, 0) else {
+    let Bytes::Found(split, next) = read_bytes(line, at, arena, 0) else {
         return put_bad(out, used);
     };
-    if !is_last(next) {
+    let Decoded::To(end) = last_bytes(line, next, arena, split) else {
         return put_bad(out, used);
-    }
+    };
     let fields = Fields::new(dialect, part(arena, 0, split), 0);
     put_fields(out, used, fields, part(arena, split, end))
 }
@@ -146,12 +149,9 @@ pub(crate) fn field_case(
     let Bytes2::Found(split, end, next) = read_bytes2(line, next, arena, 0) else {
         return put_bad(out, used);
     };
-    let Number::Found(offset, next) = read_number(line, next) else {
+    let Decimal::Value(offset) = last_number(line, next) else {
         return put_bad(out, used);
     };
-    if !is_last(next) {
-        return put_bad(out, used);
-    }
     let fields = Fields::new(dialect, part(arena, 0, split), offset as usize);
     let step = fields.next(part(arena, split, end));
     put_step(out, used, step)

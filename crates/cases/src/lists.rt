@@ -11,12 +11,13 @@ use crate::slices::cut;
 use crate::slices::part;
 use crate::slices::same;
 use crate::words::Bytes;
-use crate::words::Number;
+use crate::words::Decimal;
+use crate::words::Decoded;
 use crate::words::Word;
 use crate::words::find_word;
-use crate::words::is_last;
+use crate::words::last_bytes;
+use crate::words::last_number;
 use crate::words::read_bytes;
-use crate::words::read_number;
 use table_map::DefaultCharset;
 use table_map::GroupStep;
 use table_map::Groups;
@@ -206,12 +207,9 @@ pub(crate) fn list_case(
     let KindWord::Found(kind, next) = read_kind(line, at) else {
         return put_bad(out, used);
     };
-    let Bytes::Found(end, next) = read_bytes(line, next, arena, 0) else {
+    let Decoded::To(end) = last_bytes(line, next, arena, 0) else {
         return put_bad(out, used);
     };
-    if !is_last(next) {
-        return put_bad(out, used);
-    }
     match kind {
         Kind::Charsets => put_charsets(out, used, part(arena, 0, end)),
         _ => put_list(out, used, kind, part(arena, 0, end), 0),
@@ -245,12 +243,9 @@ pub(crate) fn item_case(
     let Bytes::Found(end, next) = read_bytes(line, next, arena, 0) else {
         return put_bad(out, used);
     };
-    let Number::Found(offset, next) = read_number(line, next) else {
+    let Decimal::Value(offset) = last_number(line, next) else {
         return put_bad(out, used);
     };
-    if !is_last(next) {
-        return put_bad(out, used);
-    }
     match kind {
         Kind::Charsets => put_bad(out, used),
         _ => {

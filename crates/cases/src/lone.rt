@@ -10,12 +10,11 @@ use crate::room::put_written;
 use crate::slices::part;
 use crate::values::ValueWord;
 use crate::values::read_value_word;
-use crate::words::Bytes;
-use crate::words::Number;
+use crate::words::Decimal;
+use crate::words::Decoded;
 use crate::words::Number8;
-use crate::words::is_last;
-use crate::words::read_bytes;
-use crate::words::read_number;
+use crate::words::last_bytes;
+use crate::words::last_number;
 use crate::words::read_number8;
 use value::Column;
 use value::Read;
@@ -80,12 +79,9 @@ pub(crate) fn value_case(
     let ColumnWords::Found(column, next) = read_column(line, at) else {
         return put_bad(out, used);
     };
-    let Bytes::Found(end, next) = read_bytes(line, next, arena, 0) else {
+    let Decoded::To(end) = last_bytes(line, next, arena, 0) else {
         return put_bad(out, used);
     };
-    if !is_last(next) {
-        return put_bad(out, used);
-    }
     let read = value::read_lone(column, part(arena, 0, end));
     put_read(out, used, read, part(arena, 0, end))
 }
@@ -121,12 +117,9 @@ pub(crate) fn store_case(
     let ValueWord::Found(value, end, next) = read_value_word(line, next, arena, 0) else {
         return put_bad(out, used);
     };
-    let Number::Found(size, next) = read_number(line, next) else {
+    let Decimal::Value(size) = last_number(line, next) else {
         return put_bad(out, used);
     };
-    if !is_last(next) {
-        return put_bad(out, used);
-    }
     let size = size as usize;
     if size > room.len() {
         return put_bad(out, used);

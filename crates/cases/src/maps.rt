@@ -7,10 +7,9 @@ use crate::output::put_spaced_number;
 use crate::printing::put_named;
 use crate::slices::cut;
 use crate::slices::part;
-use crate::words::Bytes;
+use crate::words::Decoded;
 use crate::words::Number;
-use crate::words::is_last;
-use crate::words::read_bytes;
+use crate::words::last_bytes;
 use crate::words::read_number;
 use table_map::Event;
 use table_map::EventRead;
@@ -64,12 +63,9 @@ pub(crate) fn event_case(
     let Number::Found(length, next) = read_number(line, at) else {
         return put_bad(out, used);
     };
-    let Bytes::Found(end, next) = read_bytes(line, next, arena, 0) else {
+    let Decoded::To(end) = last_bytes(line, next, arena, 0) else {
         return put_bad(out, used);
     };
-    if !is_last(next) {
-        return put_bad(out, used);
-    }
     let read = table_map::read_event(part(arena, 0, end), post_header(length));
     put_read(out, used, read, part(arena, 0, end))
 }

@@ -8,8 +8,9 @@ use crate::room::put_unwritten;
 use crate::room::put_written;
 use crate::slices::part;
 use crate::words::Bytes;
+use crate::words::Decimal;
 use crate::words::Number;
-use crate::words::is_last;
+use crate::words::last_number;
 use crate::words::read_bytes;
 use crate::words::read_number;
 use wire::Packed;
@@ -37,12 +38,9 @@ pub(crate) fn packed_case(
     let Bytes::Found(end, next) = read_bytes(line, at, arena, 0) else {
         return put_bad(out, used);
     };
-    let Number::Found(place, next) = read_number(line, next) else {
+    let Decimal::Value(place) = last_number(line, next) else {
         return put_bad(out, used);
     };
-    if !is_last(next) {
-        return put_bad(out, used);
-    }
     let read = wire::read_packed(part(arena, 0, end), place as usize);
     put_packed(out, used, read)
 }
@@ -67,12 +65,9 @@ pub(crate) fn pack_case(
     let Number::Found(value, next) = read_number(line, at) else {
         return put_bad(out, used);
     };
-    let Number::Found(size, next) = read_number(line, next) else {
+    let Decimal::Value(size) = last_number(line, next) else {
         return put_bad(out, used);
     };
-    if !is_last(next) {
-        return put_bad(out, used);
-    }
     let size = size as usize;
     if size > room.len() {
         return put_bad(out, used);

@@ -12,9 +12,11 @@ use crate::slices::part;
 use crate::values::ValueWord;
 use crate::values::read_value_word;
 use crate::words::Bytes3;
+use crate::words::Decimal;
 use crate::words::Number;
 use crate::words::Number2;
 use crate::words::is_last;
+use crate::words::last_number;
 use crate::words::read_bytes3;
 use crate::words::read_number;
 use crate::words::read_number2;
@@ -86,12 +88,9 @@ pub(crate) fn start_case(
     let Bytes3::Found(profile, presence, nulls, next) = read_bytes3(line, at, arena) else {
         return put_bad(out, used);
     };
-    let Number::Found(size, next) = read_number(line, next) else {
+    let Decimal::Value(size) = last_number(line, next) else {
         return put_bad(out, used);
     };
-    if !is_last(next) {
-        return put_bad(out, used);
-    }
     let size = size as usize;
     if size > room.len() {
         return put_bad(out, used);
@@ -132,15 +131,12 @@ fn read_placing(line: &[u8], at: usize) -> Placing {
     let Number2::Found(column, offset, next) = read_number2(line, at) else {
         return Placing::Bad;
     };
-    let Number::Found(size, next) = read_number(line, next) else {
+    let Decimal::Value(size) = last_number(line, next) else {
         return Placing::Bad;
     };
     let column = column as usize;
     let offset = offset as usize;
     let size = size as usize;
-    if !is_last(next) {
-        return Placing::Bad;
-    }
     Placing::Found(Cursor { column, offset }, size)
 }
 

@@ -163,6 +163,17 @@ pub(crate) fn read_number16(line: &[u8], at: usize) -> Number16 {
     Number16::Found(value as u16, next)
 }
 
+// A number that is the line's last word.
+pub(crate) fn last_number(line: &[u8], at: usize) -> Decimal {
+    let Number::Found(value, next) = read_number(line, at) else {
+        return Decimal::Bad;
+    };
+    if !is_last(next) {
+        return Decimal::Bad;
+    }
+    Decimal::Value(value)
+}
+
 // Two numbers.
 pub(crate) fn read_number2(line: &[u8], at: usize) -> Number2 {
     let Number::Found(first, next) = read_number(line, at) else {
@@ -240,6 +251,17 @@ pub(crate) fn read_bytes(line: &[u8], at: usize, arena: &mut [u8], from: usize) 
         return Bytes::Bad;
     };
     Bytes::Found(end, next)
+}
+
+// A byte string that is the line's last word, decoded into `arena` from `from` on.
+pub(crate) fn last_bytes(line: &[u8], at: usize, arena: &mut [u8], from: usize) -> Decoded {
+    let Bytes::Found(end, next) = read_bytes(line, at, arena, from) else {
+        return Decoded::Bad;
+    };
+    if !is_last(next) {
+        return Decoded::Bad;
+    }
+    Decoded::To(end)
 }
 
 // Two byte strings, decoded into `arena` from `from` on.

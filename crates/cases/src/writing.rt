@@ -5,9 +5,10 @@ use crate::room::put_unwritten;
 use crate::room::put_written;
 use crate::slices::part;
 use crate::words::Bytes2;
+use crate::words::Decimal;
 use crate::words::Number;
 use crate::words::Number16;
-use crate::words::is_last;
+use crate::words::last_number;
 use crate::words::read_bytes2;
 use crate::words::read_number;
 use crate::words::read_number16;
@@ -103,12 +104,9 @@ pub(crate) fn write_event_case(
     let Parts::Found(ends, next) = read_parts(line, next, arena) else {
         return put_bad(out, used);
     };
-    let Number::Found(size, next) = read_number(line, next) else {
+    let Decimal::Value(size) = last_number(line, next) else {
         return put_bad(out, used);
     };
-    if !is_last(next) {
-        return put_bad(out, used);
-    }
     let size = size as usize;
     if size > room.len() {
         return put_bad(out, used);
