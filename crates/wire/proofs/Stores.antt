@@ -1,6 +1,6 @@
 -- Buffers with bytes stored in them. Assumes nothing.
 use Prim.Native.Nat.{ℕ, _+_, _≤_, _<_, _^_}
-use mathlib.Core.Path.{_≡_, refl, sym, ap, _∙_}
+use mathlib.Core.Path.{_≡_, refl, sym, ap, _∙_, subst}
 use mathlib.Core.List.{List, [], _∷_, _++_, append-assoc}
 use mathlib.Core.Bool.{Bool, true, false}
 use native.Mathlib.Nat.{add-zero, add-assoc}
@@ -117,6 +117,19 @@ room b at n len e t = leb-true (at + n) len (sym e ∙ t)
 -- and what its failure says
 pub no-room : (b : Bool) (at n len : ℕ) → b ≡ leb (at + n) len → b ≡ false → len < at + n
 no-room b at n len e t = leb-false (at + n) len (sym e ∙ t)
+
+-- both for a writer of a number, in bytes of either order: w is the width that its code found, and k that of its contract
+pub wrote-number : (bytes : ℕ → ℕ → List ℕ) → ((k v : ℕ) → length (bytes k v) ≡ k) → (d x : List ℕ) (at w k v : ℕ) (t : Bool)
+    → w ≡ k → t ≡ leb (at + w) (length d) → t ≡ true → x ≡ stored d at (bytes w v) → Wrote d at (bytes k v) (Done (at + w)) x
+wrote-number bytes size d x at w k v t e f h q =
+    subst (λ (k : ℕ). Wrote d at (bytes k v) (Done (at + w)) x) e
+    (wrote d (bytes w v) x at w (at + w) (size w v) (room t at w (length d) f h) refl q)
+
+pub not-wrote-number : (bytes : ℕ → ℕ → List ℕ) → ((k v : ℕ) → length (bytes k v) ≡ k) → (d : List ℕ) (at w k v : ℕ) (t : Bool) (r : Refusal)
+    → w ≡ k → t ≡ leb (at + w) (length d) → t ≡ false → r ≡ why 8 0 → Wrote d at (bytes k v) (Refused r) d
+not-wrote-number bytes size d at w k v t r e f h q =
+    subst (λ (k : ℕ). Wrote d at (bytes k v) (Refused r) d) e
+    (not-wrote d (bytes w v) at w r (size w v) (no-room t at w (length d) f h) q)
 
 -- a write of a, m bytes long, in which there is room for b too, and then a write of b behind it: one write of both
 pub wrote-two : (d a b x₁ x : List ℕ) (at m : ℕ) (r : Written) → length a ≡ m → at + (m + length b) ≤ length d → x₁ ≡ leftOf d (store d at a)

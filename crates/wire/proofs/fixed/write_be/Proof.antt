@@ -1,11 +1,9 @@
 -- `wire::fixed::write_be` meets its contract. Assumes nothing.
-use Prim.Native.Nat.{_+_, _≤_}
-use mathlib.Core.Path.{refl}
 use native.Mathlib.Omega.{arith}
 use lib.ListN.{length}
 use Rattle.wire.specs.Number.{beBytes}
 use Rattle.wire.proofs.Bytes.{beBytes-length}
-use Rattle.wire.proofs.Stores.{wrote, not-wrote, room, no-room}
+use Rattle.wire.proofs.Stores.{room, wrote-number, not-wrote-number}
 use borrow.Author.Needs.{needs}
 use Rattle.wire.proofs.fixed.write_be.Statement.{statement}
 use Rattle.wire.proofs.fixed.write_be.Tie as tie
@@ -26,28 +24,26 @@ put-be-requires : tie.Need-put-be-requires
 put-be-requires c κs = room _ _ _ _ (c .before .before .has-room .ensures) (c .before .if1 .taken)
 
 add-next : tie.Need-add-next
-add-next c = let a = c .before .before .before .before .before .before .before .before .args in
-    let r : a .at + c .before .before .before .before .before .before .least .result ≤ length (a .buf .now) = room _ _ _ _ (c .before .before .before .before .before .has-room .ensures) (c .before .before .before .before .if1 .taken) in
-    omega arith
+add-next c =
+    let b = c .before .before .before .before in
+    let a = b .before .before .before .before .args in
+    omega (arith, room _ (a .at) (b .before .before .least .result) (length (a .buf .now)) (b .before .has-room .ensures) (b .if1 .taken))
 
 same-length : tie.Need-same-length
 same-length c = search needs
 
 returns : tie.Need-returns
-returns c = let a = c .before .before .before .before .before .before .before .before .args in
-    let w = c .before .before .before .before .before .before .least in
-    let r = room _ _ _ _ (c .before .before .before .before .before .has-room .ensures) (c .before .before .before .before .if1 .taken) in
-    rw (← w .ensures)
-    (wrote (a .buf .now) (beBytes (w .result) (a .v)) _ (a .at) (w .result) _ (beBytes-length (w .result) (a .v)) r refl (c .before .before .put-be .ensures))
+returns c =
+    let b = c .before .before .before .before in
+    wrote-number beBytes beBytes-length _ _ _ _ _ _ _ (b .before .before .least .ensures) (b .before .has-room .ensures) (b .if1 .taken) (c .before .before .put-be .ensures)
 
 refuse-requires : tie.Need-refuse-requires
 refuse-requires c κs = search needs
 
 returns-2 : tie.Need-returns-2
-returns-2 c = let a = c .before .before .before .before .before .args in
-    let w = c .before .before .before .least in
-    let r = no-room _ _ _ _ (c .before .before .has-room .ensures) (c .before .if1 .left) in
-    rw (← w .ensures) (not-wrote (a .buf .now) (beBytes (w .result) (a .v)) (a .at) (w .result) _ (beBytes-length (w .result) (a .v)) r (c .refuse .ensures))
+returns-2 c =
+    let b = c .before in
+    not-wrote-number beBytes beBytes-length _ _ _ _ _ _ _ (b .before .before .least .ensures) (b .before .has-room .ensures) (b .if1 .left) (c .refuse .ensures)
 
 pub write-be-spec : {M : Type 1} → statement M
 write-be-spec =
