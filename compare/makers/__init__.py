@@ -11,7 +11,7 @@ __all__ = ["MAKERS", "made"]
 def made(rng, kind, count):
     """so many lines of a kind: half of them edges, drawn from all if there are more; the others at random, one of 32 malformed"""
     edges, some = MAKERS[kind]
-    lines = list(edges(rng))
+    lines = list(dict.fromkeys(edges(rng)))
     taken = min(len(lines), (count + 1) // 2)
     for at in sorted(rng.sample(range(len(lines)), taken)):
         yield lines[at]

@@ -14,7 +14,7 @@ def value_edges(rng):
             stored += loose_stored(column) + [some_stored(rng, column) for _ in range(40)]
         for s in dict.fromkeys(stored):
             yield line("value", *column, s)
-        longest = max(stored, key=len)[:40]
+        longest = max(stored, key=len)[:12]
         for cut in cuts(longest):
             yield line("value", *column, cut)
         yield line("value", *column, longest + b"\xff")
