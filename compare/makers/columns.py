@@ -98,6 +98,20 @@ def edge_temporals(kind, m0):
                     yield (name, *sign, *parts[:-1], micros)
 
 
+def bound_temporals(kind, m0):
+    """each part at its bound and one past it, the others zero; fractions around their unit"""
+    name = temporal.KINDS[kind]
+    most = temporal.MOST[name]
+    k = temporal.fraction_bytes(kind, m0)
+    unit = temporal.UNITS[k] if k else 10 ** 6
+    for sign in (("+",), ("-",)) if name == "time" else ((),):
+        yield (name, *sign, *[0] * len(most))
+        for i, bound in enumerate(most):
+            at_bound = (bound, bound + 1) if name == "date" or i + 1 < len(most) else (10 ** 6 - unit, 10 ** 6, unit, unit // 2, 1)
+            for part in at_bound:
+                yield (name, *sign, *[part if j == i else 0 for j in range(len(most))])
+
+
 def edge_numbers(size, signed):
     most = 256 ** size // (2 if signed else 1)
     least = -most if signed else 0
@@ -135,6 +149,42 @@ def edge_values(column):
         for number in edge_numbers(size, signed):
             if -2 ** 63 <= number < 2 ** 63 if name == "int" else 0 <= number < 2 ** bits:
                 yield name, number
+
+
+# columns that together have every rule of a domain
+RULED = [
+    *(Column(kind, 0, 0, unsigned) for kind in values.INTEGERS for unsigned in (0, 1)), Column(4, 4, 0), Column(5, 8, 0), Column(13, 0, 0), Column(247, 247, 1), Column(247, 0, 2),
+    Column(248, 248, 1), Column(248, 0, 8), Column(16, 1, 0), Column(16, 0, 8), Column(16, 7, 1), Column(245, 4, 0), *(Column(252, m0, 0) for m0 in (1, 2, 3, 4)), Column(242, 1, 0), Column(255, 4, 0),
+    Column(15, 255, 0), Column(15, 0, 1), Column(253, 255, 0), Column(253, 0, 1), Column(254, 254, 255), Column(254, 238, 0), Column(254, 206, 255),
+    *(Column(246, digits, scale) for digits in range(1, 10) for scale in (0, digits)), Column(246, 65, 30), Column(246, 19, 9),
+    Column(7, 0, 0), Column(11, 0, 0), Column(12, 0, 0), Column(14, 0, 0), *(Column(kind, m0, 0) for kind in (17, 18, 19) for m0 in (0, 1, 2, 3, 4, 5, 6)),
+]
+
+
+def rule_values():
+    """columns with values at each bound of their domain and one past it"""
+    for column in RULED:
+        for value in bound_temporals(column.type, column.m0) if column.type in temporal.SIZES else edge_values(column):
+            if column.type in values.FIXED_BYTES and value[1][:1] not in (b"", b"\x80"):
+                continue
+            yield column, value
+    for size in (65535, 65536):
+        yield Column(15, 255, 255), ("bytes", b"a" * size)
+
+
+def rule_columns():
+    """metadata at each bound and one past it, and bytes of metadata that a type does not have"""
+    bounds = {
+        (4,): ((3, 0), (4, 0), (5, 0), (4, 1)), (5,): ((7, 0), (8, 0), (9, 0), (4, 0)), (17, 18, 19): ((0, 0), (6, 0), (7, 0), (0, 1)), (1, 3, 7, 9, 11, 12, 13, 14): ((0, 0), (1, 0), (0, 1)),
+        (242, 249, 250, 251, 252, 255): ((0, 0), (1, 0), (4, 0), (5, 0), (1, 1)), (245,): ((3, 0), (4, 0), (5, 0), (4, 1)), (15, 253): ((0, 0), (255, 0), (0, 1), (255, 255)),
+        (16,): ((0, 0), (1, 0), (7, 0), (8, 0), (0, 1), (7, 7), (0, 8), (1, 8), (8, 7), (0, 9)), (0, 6, 10, 20, 21, 241, 243, 244): ((0, 0), (4, 0), (1, 1)),
+        (246,): ((0, 0), (1, 0), (1, 1), (1, 2), (30, 30), (31, 30), (31, 31), (65, 0), (65, 30), (65, 31), (66, 0), (5, 6)), (247,): ((0, 0), (247, 1), (247, 2), (247, 3), (8, 1)),
+        (248,): tuple((248, m1) for m1 in (0, 1, 2, 3, 4, 5, 6, 7, 8, 9)), (254,): tuple((m0, 1) for m0 in (0, 199, 200, 205, 206, 207, 222, 223, 238, 247, 248, 253, 254, 255)),
+    }
+    for kinds, pairs in bounds.items():
+        for kind in kinds:
+            for m0, m1 in pairs:
+                yield Column(kind, m0, m1)
 
 
 @lru_cache(2000)
@@ -182,16 +232,17 @@ def some_bad_value(rng, column):
     return rng.choice(OTHERS)
 
 
+def loosely(column, value):
+    """bytes of a value that may be out of range; a part that its bits do not hold runs into the next"""
+    try:
+        return temporal.write(column.type, column.m0, value)
+    except OverflowError:
+        return b"\xff" * temporal.size(column.type, column.m0)
+
+
 @lru_cache(2000)
 def loose_stored(column):
-    """bytes of a temporal at the edges of its parts and one past them; a part that its bits do not hold runs into the next"""
-    found = []
-    for value in edge_values_of(column)[1]:
-        try:
-            found.append(temporal.write(column.type, column.m0, value))
-        except OverflowError:
-            pass
-    return found
+    return [loosely(column, value) for value in edge_values_of(column)[1]]
 
 
 def some_stored(rng, column):

@@ -38,7 +38,7 @@ def spoilt(rng, good):
 
 def bad_edges(rng):
     yield from ("", " ", "\r", "-", "\x00", "\xff\xfe")
-    goods = [some(rng) for kind, (_, some) in MAKERS.items() if kind != "bad" for _ in range(2)]
+    goods = [MAKERS[kind][2](rng) for kind in MAKERS if kind != "bad" for _ in range(2)]
     for good in goods:
         words = good.split(" ")
         if len(good) > 2000:
@@ -61,4 +61,5 @@ def bad(rng):
     if rng.randrange(20) == 0:
         return some_bytes(rng, rng.randrange(12)).decode("latin-1").replace("\n", " ")
     kind = rng.choice([kind for kind in MAKERS if kind != "bad"])
-    return spoilt(rng, spoilt(rng, MAKERS[kind][1](rng)) if rng.randrange(8) == 0 else MAKERS[kind][1](rng))
+    line = MAKERS[kind][2](rng)
+    return spoilt(rng, spoilt(rng, line) if rng.randrange(8) == 0 else line)

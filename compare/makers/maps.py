@@ -7,9 +7,9 @@ from document.lists import walk
 from document.packed import pack
 from document.refusal import Refused
 
-from .columns import TURNS, TYPES, some_metadata
+from .columns import TURNS, TYPES, rule_columns, some_metadata
 from .lists import some_group, some_string
-from .some import DIALECTS, HOSTILE, NUMBERS, changes, chance, cuts, damaged, line, longer, maker, near, some_bytes, some_number, some_pack, some_room
+from .some import DIALECTS, NUMBERS, changes, chance, cuts, damaged, line, longer, maker, near, some_bytes, some_number, some_pack, some_room
 
 # types that some field counts stand more often than others
 COUNTED = (1, 3, 4, 13, 15, 242, 246, 247, 248, 252, 253, 254, 255)
@@ -220,6 +220,27 @@ def edge_events(rng):
         yield "document", 8, s
 
 
+# the event that document 01 works through
+WORKED = bytes.fromhex("2a0000000000010001740001720003030f0102140002010140")
+
+
+def event_rules():
+    """(post-header length, event): each part cut short, and 251 and 255 at both packed integers"""
+    for post_header in (8, 6):
+        for cut in (*cuts(WORKED), WORKED):
+            yield post_header, cut
+    for at in (14, 18):
+        for first in range(250, 256):
+            yield 8, WORKED[:at] + bytes([first]) + WORKED[at + 1:]
+    for post_header in (0, 4, 5, 7, 10, 255, 256, 262, 2 ** 64 - 1):
+        yield post_header, WORKED
+
+
+def plain_event_rules(rng):
+    for given in event_rules():
+        yield line("event", *given)
+
+
 def event_edges(rng):
     for _, post_header, s in edge_events(rng):
         yield line("event", post_header, s)
@@ -227,9 +248,14 @@ def event_edges(rng):
         yield line("event", post_header, bytes(20))
 
 
-@maker("event", event_edges)
+@maker("event", event_edges, plain_event_rules)
 def event(rng):
     return line("event", *some_event(rng)[:2])
+
+
+def event_parts_rules(rng):
+    for given in event_rules():
+        yield line("event-parts", *given)
 
 
 def event_parts_edges(rng):
@@ -237,7 +263,7 @@ def event_parts_edges(rng):
         yield line("event-parts", post_header, s)
 
 
-@maker("event-parts", event_parts_edges)
+@maker("event-parts", event_parts_edges, event_parts_rules)
 def event_parts(rng):
     return line("event-parts", *some_event(rng)[:2])
 
@@ -247,7 +273,13 @@ def names_edges(rng):
         yield line("names", dialect, post_header, s)
 
 
-@maker("names", names_edges)
+def names_rules(rng):
+    for dialect in DIALECTS:
+        for s in rule_checks(dialect):
+            yield line("names", dialect, 8, s + b"\x04\x02\x01\x61")
+
+
+@maker("names", names_edges, names_rules)
 def names(rng):
     dialect = rng.choice(DIALECTS)
     found = some_spoilt_map(rng, dialect if rng.random() < 0.8 else None)
@@ -296,7 +328,16 @@ def write_event_edges(rng):
             yield line("write-event", *parts, room)
 
 
-@maker("write-event", write_event_edges)
+def write_event_rules(rng):
+    # which fault is told
+    for table_id in (1, 2 ** 48):
+        for database in (b"d", b"d" * 256):
+            for bits in (b"\x00", b""):
+                for room in (17, 500, 0):
+                    yield line("write-event", table_id, 1, database, b"t", b"\x03", b"", bits, b"", room)
+
+
+@maker("write-event", write_event_edges, write_event_rules)
 def write_event(rng):
     parts = some_parts(rng)
     return line("write-event", *parts, some_room(rng, written_size(parts)))
@@ -360,7 +401,25 @@ def fields_as_edges(rng):
         yield line("fields-as", *given)
 
 
-@maker("fields-as", fields_as_edges)
+def fields_rules():
+    """(types, optional bytes): what the walk asks of a field, for any dialect"""
+    for types in (b"", b"\x0d", b"\x03" * 8 + b"\x0d", RULED_TYPES):
+        for kind in (0, 1, 2, 10, 12, 13, 14):
+            for contents in (b"", b"\x08", b"\x08\x00", b"\xfb", b"\xfc\x01"):
+                yield types, field_bytes(kind, contents) + b"\x04\x00"
+    for first in range(250, 256):
+        yield b"\x03", bytes([4, first])
+        yield b"\x03", bytes([0, first])
+    yield b"\x03", b"\x04"
+
+
+def fields_as_rules(rng):
+    for types, s in fields_rules():
+        for dialect in DIALECTS:
+            yield line("fields-as", dialect, types, s)
+
+
+@maker("fields-as", fields_as_edges, fields_as_rules)
 def fields_as(rng):
     return line("fields-as", *some_fields(rng))
 
@@ -370,7 +429,12 @@ def fields_edges(rng):
         yield line("fields", types, s)
 
 
-@maker("fields", fields_edges)
+def plain_fields_rules(rng):
+    for given in fields_rules():
+        yield line("fields", *given)
+
+
+@maker("fields", fields_edges, plain_fields_rules)
 def fields(rng):
     return line("fields", *some_fields(rng)[1:])
 
@@ -433,6 +497,100 @@ def edge_checks(rng):
     yield from edge_keys()
 
 
+# a table with columns of every class, as type bytes and metadata: INT, VARCHAR, CHAR that is an ENUM, SET, geometry, vector, YEAR, BLOB, DECIMAL
+RULED_TYPES = bytes([3, 15, 254, 248, 255, 242, 13, 252, 246])
+RULED_METADATA = bytes([20, 0, 247, 1, 248, 1, 4, 4, 2, 10, 2])
+
+
+def packs(*numbers):
+    return b"".join(map(pack, numbers))
+
+
+def rule_contents(classed):
+    """(field, contents): each rule of the check at its bound and one past it, for a table of these classes"""
+    n = len(classed.all)
+    for kind, size in ((1, bytes_for(len(classed.signed))), (12, bytes_for(n))):
+        for length in (size, size + 1, size - 1):
+            yield kind, b"\xa6" * length
+    for kind, size in ((2, len(classed.charset)), (10, len(classed.enum_or_set))):
+        for contents in ((), (0,), (1,), (65535,), (65536,), (8, 0, 9), (8, size - 1, 9), (8, size, 9), (8, 0), (8, 0, 9, 0, 9), (8, 0, 9, 1, 9), (8, 1, 9, 0, 9), (8, 0, 0), (8, 0, 65535), (8, 0, 65536)):
+            yield kind, packs(*contents)
+    for kind, size in ((3, len(classed.charset)), (11, len(classed.enum_or_set))):
+        for last in (0, 1, 65535, 65536):
+            yield kind, packs(*[9] * (size - 1), last)
+        yield kind, packs(*[9] * (size - 1))
+        yield kind, packs(*[9] * (size + 1))
+    for count in (n - 1, n, n + 1):
+        yield 4, b"\x01\x61" * count
+    yield 4, b"\x00" * n
+    yield 4, b"\x00" * (n - 1) + b"\x02\x61"
+    for kind in (5, 6):
+        for contents in (b"", b"\x00", b"\x02\x00\x01\x61", b"\x00\x00", b"\x02\x00", b"\xfe" + b"\xff" * 8, b"\x01\x01"):
+            yield kind, contents
+    for numbers in ((), (0,), (7,), (8,), (256,), (1, 1)):
+        yield 7, packs(*numbers)
+    for numbers in ((), (0,), (2 ** 64 - 1,), (1, 1)):
+        yield 13, packs(*numbers)
+    for keys in ((), (0,), (n - 1,), (n,), (2 ** 64 - 1,), (0, 1, 2), (1, 2, 2, 1), (1, 2, 1, 2), (0, 0), (n, n)):
+        yield 8, packs(*keys)
+        yield 9, b"".join(packs(key, at * 300) for at, key in enumerate(keys))
+    yield 9, packs(1)
+    yield 8, b"\xfb"
+    yield 3, b"\xff"
+    for kind in (0, 14, 255):
+        yield kind, b"\x00"
+
+
+def field_bytes(kind, contents):
+    return bytes([kind]) + pack(len(contents)) + contents
+
+
+def event_of(types, metadata, optional):
+    return bytes(8) + b"\x01\x64\x00\x01\x74\x00" + pack(len(types)) + types + pack(len(metadata)) + metadata + b"\x52" * bytes_for(len(types)) + optional
+
+
+def rule_checks(dialect):
+    """events, each with one rule at its bound or one past it, or with two faults"""
+    columns, at = [], 0
+    for kind in RULED_TYPES:
+        m0, m1 = (*RULED_METADATA[at:at + METADATA_BYTES[kind]], 0, 0)[:2]
+        columns.append(Column(real_type(kind, m0), m0, m1))
+        at += METADATA_BYTES[kind]
+    classed = classes(BY_NAME[dialect], RULED_TYPES, columns)
+    fields = list(rule_contents(classed))
+    for field in fields:
+        yield event_of(RULED_TYPES, RULED_METADATA, field_bytes(*field))
+    # a type twice and each two rivals, with contents that are good alone
+    size, other = len(classed.charset), len(classed.enum_or_set)
+    good = {1: b"\x80", 2: packs(8), 3: packs(*[9] * size), 4: b"\x01\x61" * 9, 5: b"\x00", 6: b"\x00", 7: b"\x01", 8: b"\x00", 9: b"\x00\x00", 10: packs(8), 11: packs(*[9] * other), 12: b"\xff\xff", 13: b"\x01"}
+    for kind in good:
+        for again in {kind, *(rival for rivals in ((2, 3), (8, 9), (10, 11)) for rival in rivals if kind in rivals)}:
+            yield event_of(RULED_TYPES, RULED_METADATA, field_bytes(kind, good[kind]) + field_bytes(again, good[again]))
+    yield event_of(RULED_TYPES, RULED_METADATA, b"".join(field_bytes(kind, good[kind]) for kind in (1, 2, 4, 5, 6, 7, 8, 10, 12, 13)))
+    yield event_of(RULED_TYPES, RULED_METADATA, b"".join(field_bytes(kind, good[kind]) for kind in (1, 3, 4, 5, 6, 7, 9, 11, 12, 13)))
+    # which of two faults is told: among the columns, then the fields, then a repeated key
+    faults = ((b"\x06", b""), (b"\x10", b"\x00\x00"), (b"\x13", b""), (b"\x03", b"\x07"))
+    behind = (b"\x08\x02\x00\x00", b"\x0e\x00", b"\x01\x05", b"\x0c\x00", b"\x04\xfb", b"\x0c\x01\xff")
+    for first in (*faults, (b"", b"")):
+        for then in faults:
+            yield event_of(b"\x03" + first[0] + then[0], first[1] + then[1], behind[0])
+    for first in behind:
+        for then in behind:
+            yield event_of(b"\x03\x03", b"", first + then)
+    for n in (0, 254, 255, 256, 257):
+        yield event_of(b"\x03" * n, b"", b"")
+        yield event_of(b"\x03" * (n - 1) + b"\x06" if n else b"", b"", b"\x0e\x00")
+
+
+def rule_metadata():
+    """an event of one column, its metadata at each bound and one past it, short, and left over"""
+    for kind, m0, m1, _ in rule_columns():
+        size = METADATA_BYTES.get(kind, 0)
+        yield event_of(bytes([kind]), bytes([m0, m1])[:size], b"")
+    for kind in TYPES:
+        yield event_of(bytes([kind]), b"\x04\x01"[:METADATA_BYTES[kind] - 1 if METADATA_BYTES[kind] else 1], b"")
+
+
 def edge_keys():
     """keys that repeat, near and far, and a fault behind them"""
     head = bytes(8) + b"\x01\x64\x00\x01\x74\x00\x04\x03\x03\x03\x03\x00\x00"
@@ -453,7 +611,13 @@ def check_as_edges(rng):
             yield line("check-as", "mysql", 8, s, room)
 
 
-@maker("check-as", check_as_edges)
+def check_as_rules(rng):
+    for dialect in DIALECTS:
+        for s in rule_checks(dialect):
+            yield line("check-as", dialect, 8, s, rng.choice((1536, 1536, 1536, 6)))
+
+
+@maker("check-as", check_as_edges, check_as_rules)
 def check_as(rng):
     dialect = rng.choice(DIALECTS)
     post_header, s, n = some_event(rng, dialect if rng.random() < 0.8 else None)
@@ -470,7 +634,14 @@ def check_edges(rng):
         yield line("check", post_header, s, rng.choice((6 + 6 * n, 1536)))
 
 
-@maker("check", check_edges)
+def check_rules(rng):
+    for post_header, s in event_rules():
+        yield line("check", post_header, s, 24)
+    for s in (*rule_checks("document"), *rule_metadata()):
+        yield line("check", 8, s, 1536)
+
+
+@maker("check", check_edges, check_rules)
 def check(rng):
     post_header, s, n = some_event(rng, "document" if rng.random() < 0.8 else None)
     return line("check", post_header, s, room_for(rng, n))

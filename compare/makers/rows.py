@@ -1,13 +1,12 @@
 """Records and row images, read and written."""
-from document import values
+from document import temporal, values
 from document.bits import bytes_for, low_first
 from document.columns import CHARACTER, ENUM_OR_SET, NUMERIC, Column
 from document.image import Head
 from document.record import record as record_of
-from document.refusal import Refused
 
-from .columns import edge_columns, edge_values_of, some_bad_column, some_bad_value, some_column, some_stored, some_value
-from .some import HOSTILE, MOST_ROOM, NUMBERS, changes, chance, cuts, damaged, line, maker, near, some_bytes, some_number, some_room
+from .columns import edge_columns, edge_values_of, loosely, rule_columns, rule_values, some_bad_column, some_bad_value, some_column, some_stored, some_value
+from .some import MOST_ROOM, NUMBERS, changes, chance, cuts, damaged, line, maker, near, some_bytes, some_room
 
 
 # ---- records
@@ -78,7 +77,29 @@ def record_edges(rng):
         yield line("record", s)
 
 
-@maker("record", record_edges)
+def rule_records():
+    """metadata, flags and charsets at each bound and one past it; each byte of the head wrong"""
+    for column in rule_columns():
+        yield record_of([(column, 8, 0)])
+    for kind, m0 in ((3, 0), (246, 5), (13, 0), (15, 9), (247, 247), (255, 4), (242, 4), (5, 8)):
+        m1 = 1 if kind == 247 else 0
+        for flags in (0, 1, 2, 4, 5, 8, 15, 16, 128):
+            yield record_of([(Column(kind, m0, m1), flags, 0)])
+        for charset in (1, 65535):
+            yield record_of([(Column(kind, m0, m1), 8, charset)])
+    good = record_of([(Column(3, 0, 0), 8, 0)])
+    for at in range(6):
+        for byte in (0, 1, 2, 6, 12, 13, 255):
+            yield good[:at] + bytes([byte]) + good[at + 1:]
+    yield from (good[:-1], good + b"\x00", good[:6], b"", good[:5])
+
+
+def record_rules(rng):
+    for s in rule_records():
+        yield line("record", s)
+
+
+@maker("record", record_edges, record_rules)
 def record(rng):
     columns = some_columns(rng)
     return line("record", spoilt_record(rng, columns) if rng.random() < 0.7 else some_record(rng, columns))
@@ -160,11 +181,63 @@ def first_edges(rng):
         yield line("first", s, b"\xff")
 
 
-@maker("first", first_edges)
+def first_kinds(rng):
+    yield from first_rules(rng)
+    yield from (line("first", s, b"\xff") for s in rule_records())
+
+
+@maker("first", first_edges, first_kinds)
 def first(rng):
     row = Row(rng)
     head = some_head(rng, row)
     return line("first", spoilt_record(rng, row.columns) if chance(rng, 3) else head[0], wrong_bits(rng, head[1]) if chance(rng, 3) else head[1])
+
+
+# ---- which of two faults is told
+GOOD = record_of([(Column(1, 0, 0), 8, 0), (Column(3, 0, 0), 8, 0), (Column(14, 0, 0), 8, 0)])
+RECORDS, PRESENCES = (GOOD, GOOD[:-1], b"\x06" + GOOD[1:]), (b"\x05", b"", b"\x05\x00")
+
+
+def first_rules(rng):
+    for record in RECORDS:
+        for presence in PRESENCES:
+            yield line("first", record, presence)
+
+
+def step_rules(rng):
+    for record in RECORDS:
+        for presence in PRESENCES:
+            for image in (b"\xfc\x01\x21\x00\x00", b"\xfe\x01\xff\xff\xff", b"\x00\x01\x21", b"\x00", b""):
+                for column in (0, 1, 3, 4):
+                    for offset in (1, 2, 5, 6):
+                        yield line("step", record, presence, image, column, offset)
+
+
+def start_rules(rng):
+    for record in RECORDS:
+        for presence in PRESENCES:
+            for nulls in (b"\x00", b"", b"\x00\x00"):
+                for room in (0, 1):
+                    yield line("start", record, presence, nulls, room)
+
+
+def put_rules(rng):
+    for record in RECORDS[:2]:
+        for presence in PRESENCES[:2]:
+            for nulls in (b"\x00", b"\x01", b""):
+                for value in (("int", 1), ("int", 128), ("null",)):
+                    for column in (0, 3, 4):
+                        for offset, room in ((1, 2), (1, 1), (3, 2)):
+                            yield line("put", record, presence, nulls, value, column, offset, room)
+
+
+def row_rules(rng):
+    for record in RECORDS[:2]:
+        for presence in PRESENCES[:2]:
+            for nulls in (b"\x00", b"\x02", b""):
+                for room in (5, 4, 1, 0):
+                    for given in ((("int", 1), ("date", 1, 1, 1)), (("int", 128), ("date", 1, 1, 1)), (("int", 1), ("null",)), (("int", 1),), ()):
+                        yield line("row", record, presence, nulls, room, *given)
 
 
 def lone_rows(rng):
@@ -198,6 +271,16 @@ def edge_images(rng):
             yield *head, image
 
 
+def image_rules(rng):
+    """a column that is absent, a TINYINT, and a value at each bound of its column's domain and one past it"""
+    for column, given in rule_values():
+        row = record_of([(Column(252, 1, 0), 8, 0), (Column(1, 0, 0), 8, 0), (column._replace(unsigned=0), 4 | column.unsigned if column.type in NUMERIC else 0, 0)])
+        if column.type in temporal.SIZES:
+            yield line("image", row, b"\x06", b"\xfc\x05" + loosely(column, given))
+        elif values.takes(column, given):
+            yield line("image", row, b"\x06", b"\xfc\x05" + values.stored_value(column, given, 0))
+
+
 def image_edges(rng):
     for given in edge_images(rng):
         yield line("image", *given)
@@ -213,7 +296,7 @@ def some_image(rng, row):
     return damaged(rng, image) if how == 6 else image[:rng.randrange(len(image) + 1)] + some_bytes(rng, rng.randrange(3))
 
 
-@maker("image", image_edges)
+@maker("image", image_edges, image_rules)
 def image(rng):
     row = Row(rng)
     return line("image", *some_head(rng, row), some_image(rng, row))
@@ -257,7 +340,7 @@ def step_edges(rng):
         yield line("step", record, presence, image, 0, 1)
 
 
-@maker("step", step_edges)
+@maker("step", step_edges, step_rules)
 def step(rng):
     row = Row(rng)
     return line("step", *some_head(rng, row), some_image(rng, row), *some_cursor(rng, row))
@@ -284,7 +367,7 @@ def start_edges(rng):
                 yield line("start", row.record, row.presence, bytes([byte]) * len(row.nulls), room)
 
 
-@maker("start", start_edges)
+@maker("start", start_edges, start_rules)
 def start(rng):
     row = Row(rng)
     nulls = some_nulls(rng, row)
@@ -310,7 +393,7 @@ def put_edges(rng):
             yield line("put", *head, nulls, rng.choice((("null",), ("int", 1))), rng.choice((0, 1, 300)), 1, rng.choice((0, 9, 300)))
 
 
-@maker("put", put_edges)
+@maker("put", put_edges, put_rules)
 def put(rng):
     row = Row(rng)
     column, offset = some_cursor(rng, row)
@@ -346,7 +429,7 @@ def row_edges(rng):
         yield line("row", *head, b"\xff", 10, ("null",))
 
 
-@maker("row", row_edges)
+@maker("row", row_edges, row_rules)
 def row_of(rng):
     row = Row(rng)
     given = list(row.values)

@@ -2,7 +2,7 @@
 from document.lines import hexed, value_word
 from document.packed import BEHIND, pack
 
-# kind -> (its edges, a line at random): the first is given the random numbers and yields lines, the second answers one
+# kind -> (its rules, its edges, a line at random): each is given the random numbers; the first two yield lines, the third answers one
 MAKERS = {}
 
 HOSTILE = (0, 1, 2, 5, 6, 7, 8, 12, 13, 14, 59, 60, 63, 99, 100, 127, 128, 250, 251, 252, 253, 254, 255)
@@ -12,10 +12,14 @@ MOST_ROOM = 262144
 DIALECTS = ("document", "mysql", "mariadb")
 
 
-def maker(kind, edges):
-    """enters the maker of lines at random, with its edges"""
+def no_lines(rng):
+    return ()
+
+
+def maker(kind, edges, rules=no_lines):
+    """enters the maker of lines at random, with its edges and rules"""
     def add(some):
-        MAKERS[kind] = edges, some
+        MAKERS[kind] = rules, edges, some
         return some
     return add
 
@@ -24,7 +28,9 @@ def line(kind, *words):
     def text(word):
         if isinstance(word, tuple):
             return value_word(word)
-        return hexed(bytes(word)) if isinstance(word, (bytes, bytearray)) else str(word)
+        if isinstance(word, bytes):
+            return hexed(word)
+        return word if isinstance(word, str) else "%d" % word
     return " ".join([kind, *map(text, words)])
 
 

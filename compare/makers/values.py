@@ -1,9 +1,21 @@
 """Lone values: read, stored, and their sizes."""
 from document import temporal, values
+from document.columns import Column
 from document.refusal import Refused
 
-from .columns import edge_columns, edge_values_of, loose_stored, some_bad_column, some_bad_value, some_column, some_stored, some_value, turning_columns
+from .columns import (OTHERS, edge_columns, edge_values_of, loose_stored, loosely, rule_columns, rule_values, some_bad_column, some_bad_value, some_column, some_stored, some_value, turning_columns)
 from .some import NUMBERS, TWO64, chance, cuts, damaged, line, maker, some_bytes, some_number, some_room
+
+
+def value_rules(rng):
+    for column, given in rule_values():
+        if column.type in temporal.SIZES:
+            yield line("value", *column, loosely(column, given))
+        elif values.takes(column, given):
+            yield line("value", *column, values.stored_value(column, given, 0))
+    for column in rule_columns():
+        yield line("value", *column, bytes(40))
+        yield line("value", *column, b"")
 
 
 def value_edges(rng):
@@ -25,7 +37,7 @@ def value_edges(rng):
         yield line("value", *column, bytes(40))
 
 
-@maker("value", value_edges)
+@maker("value", value_edges, value_rules)
 def value(rng):
     if chance(rng, 6):
         return line("value", *some_bad_column(rng), some_bytes(rng, 40))
@@ -64,6 +76,25 @@ def some_given(rng):
     return column, some_bad_value(rng, column) if chance(rng, 3) else some_value(rng, column)
 
 
+def given_rules():
+    yield from rule_values()
+    for column in rule_columns():
+        yield column, ("null",)
+    for other in OTHERS:
+        for column in (Column(3, 0, 0), Column(3, 0, 0, 1), Column(252, 1, 0), Column(19, 2, 0)):
+            yield column, other
+
+
+def store_rules(rng):
+    for column, given in given_rules():
+        yield line("store", *column, given, size_of(column, given))
+    # which fault is told: a type not taken, metadata not accepted, a value not taken, no room
+    for column in (Column(6, 0, 0), Column(17, 7, 0), Column(1, 0, 0)):
+        for given in (("int", 1), ("int", 128)):
+            for room in (0, 1):
+                yield line("store", *column, given, room)
+
+
 def store_edges(rng):
     for column, value in given_edges():
         size = size_of(column, value)
@@ -71,10 +102,15 @@ def store_edges(rng):
         yield line("store", *column, value, rng.choice((size - 1 if size else 0, 0, size + 1, size + 9)))
 
 
-@maker("store", store_edges)
+@maker("store", store_edges, store_rules)
 def store(rng):
     column, value = some_given(rng)
     return line("store", *column, value, some_room(rng, size_of(column, value)))
+
+
+def size_rules(rng):
+    for column, given in given_rules():
+        yield line("size", *column, given)
 
 
 def size_edges(rng):
@@ -82,10 +118,15 @@ def size_edges(rng):
         yield line("size", *column, value)
 
 
-@maker("size", size_edges)
+@maker("size", size_edges, size_rules)
 def size(rng):
     column, value = some_given(rng)
     return line("size", *column, value)
+
+
+def size_at_rules(rng):
+    for at, (column, given) in enumerate(given_rules()):
+        yield line("size-at", *column, given, at % 300)
 
 
 def size_at_edges(rng):
@@ -95,7 +136,7 @@ def size_at_edges(rng):
         yield line("size-at", 1, 0, 0, 0, ("int", 128), place)
 
 
-@maker("size-at", size_at_edges)
+@maker("size-at", size_at_edges, size_at_rules)
 def size_at(rng):
     column, value = some_given(rng)
     return line("size-at", *column, value, some_number(rng))
