@@ -1,5 +1,5 @@
 """Lines that are malformed, or nearly: the answer to most is `bad`."""
-from .some import MAKERS, TWO64, line, maker, some_bytes
+from .some import MAKERS, TWO64, maker, some_bytes
 
 # words that stand for others, each one malformed in some place or in all
 WORDS = (
