@@ -1,67 +1,40 @@
 // Reads cases from standard input, a line each, and prints an answer line for each.
+mod answer;
 mod checks;
-mod dispatch;
+mod digits;
 mod fields;
 mod images;
 mod input;
+mod kinds;
 mod lists;
 mod lone;
 mod maps;
 mod output;
 mod packing;
+mod parsing;
 mod printing;
 mod room;
 mod rows;
 mod slices;
+mod tables;
+mod turn;
 mod values;
 mod words;
-mod writing;
 
-use dispatch::answer;
+use answer::answer;
 use input::Next;
 use input::Source;
 use input::next_line;
+use kinds::KINDS;
 use output::flush;
-use output::put_bad;
-use output::put_byte;
-use slices::part;
-
-// What became of one turn: a line was answered, with the state after it (how far the input is read,
-// how many bytes of output wait), or the input had ended.
-enum Turn {
-    Answered(Source, usize),
-    End,
-}
-
-// Reads one line, and answers it.
-fn answer_next(
-    block: &mut [u8],
-    line: &mut [u8],
-    arena: &mut [u8],
-    room: &mut [u8],
-    out: &mut [u8],
-    source: Source,
-    used: usize,
-) -> Turn {
-    match next_line(block, line, source) {
-        Next::Line(length, after) => {
-            let used = answer(part(line, 0, length), arena, room, out, used);
-            Turn::Answered(after, put_byte(out, used, b'\n'))
-        }
-        Next::TooLong(after) => {
-            let used = put_bad(out, used);
-            Turn::Answered(after, put_byte(out, used, b'\n'))
-        }
-        Next::End => Turn::End,
-    }
-}
 
 // Answers every line; what it returns is how many bytes of `out` wait at the end. It counts its
 // turns down as `next_line` does.
 fn answer_all(
+    kinds: &[u8],
     block: &mut [u8],
     line: &mut [u8],
-    arena: &mut [u8],
+    args: &mut [u64],
     room: &mut [u8],
     out: &mut [u8],
 ) -> usize {
@@ -70,24 +43,30 @@ fn answer_all(
     let mut turns = u64::MAX;
     while turns > 0 {
         turns -= 1;
-        let turn = answer_next(block, line, arena, room, out, source, used);
-        let Turn::Answered(after, now) = turn else {
+        let Next::Line(length, after) = next_line(block, line, source) else {
             return used;
         };
         source = after;
-        used = now;
+        used = answer(kinds, line, length, args, room, out, used);
     }
     used
 }
 
-// The buffers: a block of input; a line; the arena, for the byte strings of a line, half as long, as
-// a byte is two digits of hex; the room that a writing case lends; and the output.
+// The buffers: a block of input; a line; the numbers of its words; the room that a writing case lends;
+// and the output. A row of as many values as the numbers hold has more than any record has columns.
 fn main() {
     let mut block = [0u8; 65536];
     let mut line = [0u8; 262144];
-    let mut arena = [0u8; 131072];
+    let mut args = [0u64; 131072];
     let mut room = [0u8; 262144];
     let mut out = [0u8; 65536];
-    let used = answer_all(&mut block, &mut line, &mut arena, &mut room, &mut out);
+    let used = answer_all(
+        &KINDS,
+        &mut block,
+        &mut line,
+        &mut args,
+        &mut room,
+        &mut out,
+    );
     flush(&out, used);
 }

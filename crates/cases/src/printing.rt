@@ -1,124 +1,180 @@
-// Values as words of an answer.
+// Answers, printed by their forms. In a form N stands for a number, I for a signed one, S for a sign, H
+// for bytes of the line's last byte string and W for bytes of the room (two numbers each), E for a part
+// of the event (one: which), L for the name that the line asks for; a star holds the place of a value
+// or an item, of the form's own numbers one before it; and every other byte is itself.
+use crate::checks::name_asked;
+use crate::maps::event_part;
 use crate::output::put_byte;
 use crate::output::put_hex;
 use crate::output::put_number;
-use crate::output::put_text;
 use crate::slices::cut;
-use temporal::Date;
-use temporal::Moment;
-use temporal::Stamp;
-use temporal::Temporal;
-use temporal::Time;
-use value::Value;
+use crate::slices::find;
+use crate::slices::part;
+use crate::slices::plus;
+use crate::tables::row_text;
+use crate::turn::OWN;
+use crate::turn::Turn;
+use crate::values::FORMS;
+use crate::words::nth;
+use crate::words::post_header;
+use crate::words::shown;
+use crate::words::text;
 
-// A name, and a number behind it.
-pub(crate) fn put_named(out: &mut [u8], used: usize, name: &[u8], n: u64) -> usize {
-    let used = put_text(out, used, name);
-    put_number(out, used, n)
-}
+// The forms that all kinds share, by the numbers in `turn`.
+const ANSWERS: [u8; 47] = *b"\n\
+    bad\n\
+    spoiled\n\
+    refused N N\n\
+    end\n\
+    end N\n\
+    \n\
+    default:N \n";
 
-// A colon, and a number behind it.
-fn put_part(out: &mut [u8], used: usize, n: u64) -> usize {
-    let used = put_byte(out, used, b':');
-    put_number(out, used, n)
-}
+// The half of all numbers that two's complement takes for negative ones starts here.
+const FIRST_NEGATIVE: u64 = 9223372036854775808;
 
-fn put_int(out: &mut [u8], used: usize, z: i64) -> usize {
-    if z < 0 {
-        let below = -1 - z;
-        return put_named(out, used, b"int:-", below as u64 + 1);
+// How many numbers a letter takes.
+fn taken(letter: u8) -> usize {
+    match letter {
+        b'N' | b'I' | b'S' | b'E' => 1,
+        b'H' | b'W' => 2,
+        _ => 0,
     }
-    put_named(out, used, b"int:", z as u64)
 }
 
-fn put_stamp(out: &mut [u8], used: usize, stamp: Stamp) -> usize {
-    let used = put_named(out, used, b"seconds:", stamp.seconds as u64);
-    put_part(out, used, stamp.micros as u64)
+fn put_int(out: &mut [u8], used: usize, n: u64) -> usize {
+    if n < FIRST_NEGATIVE {
+        return put_number(out, used, n);
+    }
+    let used = put_byte(out, used, b'-');
+    put_number(out, used, u64::MAX - n + 1)
 }
 
-fn put_date(out: &mut [u8], used: usize, name: &[u8], date: Date) -> usize {
-    let used = put_named(out, used, name, date.year as u64);
-    let used = put_part(out, used, date.month as u64);
-    put_part(out, used, date.day as u64)
+// The sign of a number that is 1 where it is negative.
+fn sign(n: u64) -> u8 {
+    if n == 1 {
+        return b'-';
+    }
+    b'+'
 }
 
-// `:h:m:s:MICROS`, behind a date or a sign
-fn put_clock(
+// The bytes of the line that a letter shows.
+fn bytes_of<'a>(letter: u8, first: u64, second: u64, line: &'a [u8], args: &[u64]) -> &'a [u8] {
+    match letter {
+        b'H' => cut(shown(line, args), first as usize, second as usize),
+        b'E' => event_part(text(line, args, 2), post_header(args, 1), first),
+        _ => name_asked(line, args),
+    }
+}
+
+// One letter of a form, with the numbers that it may take.
+fn put_letter(
     out: &mut [u8],
     used: usize,
-    hours: u16,
-    minutes: u8,
-    seconds: u8,
-    micros: u32,
+    letter: u8,
+    first: u64,
+    second: u64,
+    line: &[u8],
+    args: &[u64],
+    room: &[u8],
 ) -> usize {
-    let used = put_part(out, used, hours as u64);
-    let used = put_part(out, used, minutes as u64);
-    let used = put_part(out, used, seconds as u64);
-    put_part(out, used, micros as u64)
-}
-
-fn put_moment(out: &mut [u8], used: usize, moment: Moment) -> usize {
-    let date = Date {
-        year: moment.year,
-        month: moment.month,
-        day: moment.day,
-    };
-    let used = put_date(out, used, b"datetime:", date);
-    put_clock(
-        out,
-        used,
-        moment.hour as u16,
-        moment.minute,
-        moment.second,
-        moment.micros,
-    )
-}
-
-// `time:`, and the sign
-fn put_sign(out: &mut [u8], used: usize, negative: bool) -> usize {
-    if negative {
-        return put_text(out, used, b"time:-");
-    }
-    put_text(out, used, b"time:+")
-}
-
-fn put_time(out: &mut [u8], used: usize, time: Time) -> usize {
-    let used = put_sign(out, used, time.negative);
-    put_clock(
-        out,
-        used,
-        time.hours,
-        time.minutes,
-        time.seconds,
-        time.micros,
-    )
-}
-
-fn put_temporal(out: &mut [u8], used: usize, temporal: Temporal) -> usize {
-    match temporal {
-        Temporal::Since(stamp) => put_stamp(out, used, stamp),
-        Temporal::On(date) => put_date(out, used, b"date:", date),
-        Temporal::At(moment) => put_moment(out, used, moment),
-        Temporal::Lasts(time) => put_time(out, used, time),
+    match letter {
+        b'N' => put_number(out, used, first),
+        b'I' => put_int(out, used, first),
+        b'S' => put_byte(out, used, sign(first)),
+        b'W' => put_hex(out, used, part(room, first as usize, second as usize)),
+        b'H' | b'E' | b'L' => put_hex(out, used, bytes_of(letter, first, second, line, args)),
+        _ => put_byte(out, used, letter),
     }
 }
 
-// The bytes that stand at `start` of `s`.
-fn put_bytes(out: &mut [u8], used: usize, s: &[u8], start: usize, len: usize) -> usize {
-    let used = put_text(out, used, b"bytes:");
-    put_hex(out, used, cut(s, start, len))
+// A form without a star, and its numbers, the first of which stands at `from`.
+fn put_form(
+    out: &mut [u8],
+    used: usize,
+    form: &[u8],
+    numbers: &[u64],
+    from: usize,
+    line: &[u8],
+    args: &[u64],
+    room: &[u8],
+) -> usize {
+    let mut now = used;
+    let mut at = from;
+    let mut i: usize = 0;
+    while i < form.len() {
+        let letter = form[i];
+        let first = nth(numbers, at);
+        let second = nth(numbers, plus(at, 1));
+        now = put_letter(out, now, letter, first, second, line, args, room);
+        at = plus(at, taken(letter));
+        i += 1;
+    }
+    now
 }
 
-// A value, its bytes those of the slice that it was read from.
-pub(crate) fn put_value(out: &mut [u8], used: usize, value: Value, s: &[u8]) -> usize {
-    match value {
-        Value::Null => put_text(out, used, b"null"),
-        Value::Int(z) => put_int(out, used, z),
-        Value::Uint(n) => put_named(out, used, b"uint:", n),
-        Value::Float(bits) => put_named(out, used, b"float:", bits as u64),
-        Value::Double(bits) => put_named(out, used, b"double:", bits),
-        Value::Year(year) => put_named(out, used, b"year:", year as u64),
-        Value::When(temporal) => put_temporal(out, used, temporal),
-        Value::Bytes { start, len } => put_bytes(out, used, s, start, len),
+// A form without a star, and the turn's own numbers from `from` on.
+fn put_own(
+    out: &mut [u8],
+    used: usize,
+    form: &[u8],
+    turn: Turn,
+    from: usize,
+    line: &[u8],
+    args: &[u64],
+    room: &[u8],
+) -> usize {
+    let numbers = turn.numbers;
+    put_form(out, used, form, &numbers, from, line, args, room)
+}
+
+// The value or the item of a turn.
+fn put_inner(
+    out: &mut [u8],
+    used: usize,
+    turn: Turn,
+    line: &[u8],
+    args: &[u64],
+    room: &[u8],
+) -> usize {
+    let parts = turn.parts;
+    let inner = row_text(&FORMS, turn.inner);
+    put_form(out, used, inner, &parts, 0, line, args, room)
+}
+
+// A form that may have a star.
+fn put_around(
+    out: &mut [u8],
+    used: usize,
+    form: &[u8],
+    turn: Turn,
+    line: &[u8],
+    args: &[u64],
+    room: &[u8],
+) -> usize {
+    let star = find(form, 0, b'*');
+    let used = put_own(out, used, part(form, 0, star), turn, 0, line, args, room);
+    if star == form.len() {
+        return used;
     }
+    let used = put_inner(out, used, turn, line, args, room);
+    let behind = part(form, plus(star, 1), form.len());
+    put_own(out, used, behind, turn, 1, line, args, room)
+}
+
+// What one turn says; `form` is the kind's own.
+pub(crate) fn put_turn(
+    out: &mut [u8],
+    used: usize,
+    form: &[u8],
+    turn: Turn,
+    line: &[u8],
+    args: &[u64],
+    room: &[u8],
+) -> usize {
+    if turn.form == OWN {
+        return put_around(out, used, form, turn, line, args, room);
+    }
+    let shared = row_text(&ANSWERS, turn.form);
+    put_own(out, used, shared, turn, 0, line, args, room)
 }

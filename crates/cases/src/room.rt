@@ -1,10 +1,12 @@
 // The buffer that a writing case lends: filled before the call, and compared after it, so that a
 // byte that the call was not to write shows.
-use crate::output::put_ok;
-use crate::output::put_refused;
-use crate::output::put_text;
 use crate::slices::part;
-use wire::Refusal;
+use crate::turn::SPOILED;
+use crate::turn::Turn;
+use crate::turn::plain;
+use crate::turn::refused;
+use crate::turn::two;
+use wire::Written;
 
 // What every byte holds before the call.
 const FILLER: u8 = 0xA5;
@@ -29,36 +31,26 @@ fn is_untouched(room: &[u8]) -> bool {
     true
 }
 
-// Whether all but the bytes from `from` to `to` still hold what they were filled with.
-pub(crate) fn is_untouched_around(room: &[u8], from: usize, to: usize) -> bool {
+// Whether all but the bytes from `from` to `to` do.
+fn is_untouched_around(room: &[u8], from: usize, to: usize) -> bool {
     if !is_untouched(part(room, 0, from)) {
         return false;
     }
     is_untouched(part(room, to, room.len()))
 }
 
-pub(crate) fn put_spoiled(out: &mut [u8], used: usize) -> usize {
-    put_text(out, used, b"spoiled")
+// The answer of a call that may have changed the bytes from `from` to `to`, and no others.
+pub(crate) fn unspoiled(room: &[u8], from: usize, to: usize, answer: Turn) -> Turn {
+    if is_untouched_around(room, from, to) {
+        return answer;
+    }
+    plain(SPOILED)
 }
 
-// The answer to a call that reports the bytes from `from` to `to`.
-pub(crate) fn put_written(
-    out: &mut [u8],
-    used: usize,
-    room: &[u8],
-    from: usize,
-    to: usize,
-) -> usize {
-    if !is_untouched_around(room, from, to) {
-        return put_spoiled(out, used);
+// What a writer answered that starts at the room's first byte.
+pub(crate) fn written(room: &[u8], answer: Written) -> Turn {
+    match answer {
+        Written::Done { next } => unspoiled(room, 0, next, two(0, next as u64)),
+        Written::Refused(refusal) => unspoiled(room, 0, 0, refused(refusal)),
     }
-    put_ok(out, used, part(room, from, to))
-}
-
-// The answer to a call that refused.
-pub(crate) fn put_unwritten(out: &mut [u8], used: usize, room: &[u8], refusal: Refusal) -> usize {
-    if !is_untouched(room) {
-        return put_spoiled(out, used);
-    }
-    put_refused(out, used, refusal)
 }
