@@ -8,7 +8,6 @@ use lib.ListN.{length, drop, getD}
 use lib.Seq.{drop-drop, drop-append-seam}
 use lib.Dec.{leb, ltb}
 use Rattle.wire.specs.Outcome.{Outcome, ok, why}
-use Rattle.wire.specs.Bits.{withDigit}
 use Rattle.wire.specs.Stored.{stored, store}
 use Rattle.wire.proofs.Outcomes.{after-is-ok, test-is-ok, by-test, ok-not-refused, same-ok}
 use Rattle.wire.proofs.Stores.{length-stored, stored-front, stored-from}
@@ -148,7 +147,6 @@ feed-puts r p nulls column offset kind parts lent im ns left e =
 pub buffers : Buffers
 buffers = record {
   write-bytes = stores;
-  write-bit = λ buf o digit on n left e. stores buf o (withDigit (getD buf o 0) digit on ∷ []) n left e;
   write-temporal = temporals;
   write-value = values;
   write-event = events;

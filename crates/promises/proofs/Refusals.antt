@@ -2,14 +2,12 @@
 use Prim.Native.Nat.{ℕ, _≤_}
 use mathlib.Core.Path.{_≡_, refl}
 use mathlib.Core.Bool.{true, _&&_}
-use mathlib.Core.List.{List, [], _∷_}
+use mathlib.Core.List.{List, _∷_}
 use native.Mathlib.Omega.{arith}
 use borrow.Author.Tests.{leb-true}
-use lib.ListN.{getD}
 use lib.Dec.{leb}
 use Rattle.wire.specs.declared.refusal.Refusal.{Refusal}
 use Rattle.wire.specs.Outcome.{Outcome, ok, refused}
-use Rattle.wire.specs.Bits.{withDigit}
 use Rattle.wire.specs.Stored.{answerOf, leftOf}
 use Rattle.wire.proofs.Outcomes.{ok-not-refused, same-refused, both-true}
 use Rattle.value.specs.Columns.{shapeOf}
@@ -17,7 +15,7 @@ use Rattle.value.proofs.Tables.{four-or-five}
 use Rattle.table_map.specs.Lists.{integerItem, pairItem, stringItem, groupItem}
 use Rattle.map_check.specs.Names.{listOf, columnName}
 use Rattle.promises.specs.Refusals.{Line, _at_, _below_, _upTo_, OneOf, just, under, most, later, numberOf, inTable, Only, EveryCall}
-use Rattle.promises.proofs.Only.{Listed, packed, room}
+use Rattle.promises.proofs.Only.{Listed, bytes-there, fixed, packed, room}
 use Rattle.promises.proofs.Values.{temporal-read, temporal-written, column-taken, value-read, value-written, value-sized}
 use Rattle.promises.proofs.Maps.{long-part, event-read, event-written, event-sized, pair-item, group-item, stepped, field-stepped, checked, string-found}
 use Rattle.promises.proofs.Rows.{record-read, first-read, image-stepped, image-started, image-put}
@@ -74,9 +72,10 @@ eighth o = later (seventh o)
 pub refusals : EveryCall
 unfolding inTable columnName
 refusals = record {
+  within-bytes = λ s o n place. only refl (bytes-there s o n place just);
+  read-fixed = λ k s o. only refl (fixed k s o just);
   read-packed = λ s o. only refl (packed s o just (second just));
   write-bytes = λ buf o bytes. only refl (room buf o bytes just);
-  write-bit = λ buf o digit on. only refl (room buf o (withDigit (getD buf o 0) digit on ∷ []) just);
   read-temporal = λ k place s o. only refl (temporal-read k place s o just (second just));
   write-temporal = λ k place buf o t. only refl (temporal-written k place buf o t just (second just));
   read-value = λ c place s o. only refl (value-read (shapeOf c) place s o (column-taken c place just (second just)) (third just) (fourth just));

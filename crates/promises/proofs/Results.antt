@@ -1,5 +1,5 @@
 -- No contract leaves a choice of answer: the law of each enum, from its crate. Assumes nothing.
-use Rattle.wire.proofs.Views.{same-packed, same-written}
+use Rattle.wire.proofs.Views.{same-reach, same-packed, same-written}
 use Rattle.temporal.proofs.Views.{same-temporal}
 use Rattle.value.proofs.Views.{same-read, same-size}
 use Rattle.table_map.proofs.Views.{same-event-read, same-integer, same-pair, same-string, same-group, same-charset, same-field}
@@ -10,6 +10,7 @@ use Rattle.promises.specs.Results.{Results}
 
 pub results : Results
 results = record {
+  reach = same-reach;
   packed = same-packed;
   written = same-written;
   temporal = same-temporal;

@@ -11,9 +11,9 @@ use lib.ListN.{length}
 use lib.Dec.{leb}
 use Rattle.wire.specs.declared.refusal.Refusal.{Refusal}
 use Rattle.wire.specs.Outcome.{Outcome, refused, why}
-use Rattle.wire.specs.Packed.{readPacked}
+use Rattle.wire.specs.Packed.{readFixed, readPacked}
 use Rattle.wire.specs.Stored.{store, answerOf, leftOf}
-use Rattle.wire.specs.Bits.{storeDigit}
+use Rattle.wire.specs.Parts.{within}
 use Rattle.temporal.specs.declared.kind.Kind.{Kind}
 use Rattle.temporal.specs.declared.parts.Temporal.{Temporal}
 use Rattle.temporal.specs.Reading.{readTemporal, writeTemporal}
@@ -71,13 +71,16 @@ pub record Only {A : Type 0} (answer : Outcome A) (ls : List Line) : Type 0 wher
 
 -- ---- demand 1
 pub record EveryCall : Type 1 where
-  -- ---- `wire`. `read_le`, `read_be`, `packed_size`, `bytes_for`, `bit_lsb0`, `bit_msb0` and `has_room` refuse nothing; `refuse` makes a refusal
+  -- ---- `wire`. `read_le`, `read_be`, `wide`, `top_of`, `signed_of`, `in_halves`, `twos_of`, `packed_size`, `bytes_for`, `bit_lsb0`, `bit_msb0`, `part_of` and `has_room` refuse nothing;
+  -- `refuse` makes a refusal
+  -- `within`: the place that the caller names
+  pub within-bytes : (s : List ℕ) (o n place : ℕ) → Only (within s o n place) (1 at place ∷ [])
+  -- `read_fixed`: the offset asked
+  pub read-fixed : (k : ℕ) (s : List ℕ) (o : ℕ) → Only (readFixed k s o) (1 at o ∷ [])
   -- `read_packed`: the offset asked
   pub read-packed : (s : List ℕ) (o : ℕ) → Only (readPacked s o) (1 at o ∷ 2 at o ∷ [])
   -- `write_packed`, `write_le`, `write_be`, `write_bytes`, and of `record` `write_entry` and `write_head`: each stores some bytes, from an offset on
   pub write-bytes : (buf : List ℕ) (o : ℕ) (bytes : List ℕ) → Only (store buf o bytes) (8 at 0 ∷ [])
-  -- `write_bit_lsb0`, `write_bit_msb0`
-  pub write-bit : (buf : List ℕ) (o digit : ℕ) (on : Bool) → Only (storeDigit buf o digit on) (8 at 0 ∷ [])
   -- ---- `temporal`. The place is the one that the caller names. `temporal_size` and `in_domain` refuse nothing
   -- `read_temporal`, `write_temporal`
   pub read-temporal : (k : Kind) (place : ℕ) (s : List ℕ) (o : ℕ) → Only (readTemporal k place s o) (9 at place ∷ 10 at place ∷ [])

@@ -4,6 +4,7 @@
 use mathlib.Core.Path.{_≡_}
 use Rattle.wire.specs.Packed.{packedOf}
 use Rattle.wire.specs.Stored.{writtenOf}
+use Rattle.wire.specs.Parts.{reachOf}
 use Rattle.temporal.specs.Reading.{temporalOf}
 use Rattle.value.specs.Reading.{readOf}
 use Rattle.value.specs.Storing.{sizeSaid}
@@ -20,7 +21,9 @@ abbrev pub Apart : {A B : Type 0} → (A → B) → Type 0
 Apart {A} view = (a b : A) → view a ≡ view b → a ≡ b
 
 pub record Results : Type 0 where
-  -- `read_packed`
+  -- `within`
+  pub reach : Apart reachOf
+  -- `read_fixed`, `read_packed`
   pub packed : Apart packedOf
   -- every writer of bytes, among them `write_event` and `check`
   pub written : Apart writtenOf

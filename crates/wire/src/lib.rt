@@ -11,8 +11,6 @@ mod store;
 pub use bits::bit_lsb0;
 pub use bits::bit_msb0;
 pub use bits::bytes_for;
-pub use bits::write_bit_lsb0;
-pub use bits::write_bit_msb0;
 pub use fixed::read_be;
 pub use fixed::read_le;
 pub use fixed::wide;
