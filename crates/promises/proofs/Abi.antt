@@ -11,6 +11,7 @@ use Rattle.wire.specs.Outcome.{Outcome, ok, refused, after, why}
 use Rattle.wire.specs.Stored.{stored, store, answerOf, leftOf}
 use Rattle.wire.proofs.Outcomes.{after-is-ok, test-is-ok, by-test, ok-not-refused, same-ok}
 use Rattle.value.specs.declared.datum.Value.the-variants.{Null}
+use Rattle.value_parts.specs.Parts.{kindOf, partsOf, padded, valueOf}
 use Rattle.record.specs.Records.{readRecord}
 use Rattle.map_check.specs.Ranks.{place}
 use Rattle.map_check.specs.Names.{columnName}
@@ -19,12 +20,12 @@ use Rattle.image.specs.declared.cursor.Cursor.{Cursor}
 use Rattle.image.specs.Split.{Told, null, value, end, cursor, firstCursor, stepFrom}
 use Rattle.image.specs.Puts.{startImage, putFrom}
 use Rattle.feed_abi.specs.Answers.{numberOf, toldOf, statusOf, numbersLeft, bytesLeft}
-use Rattle.feed_abi.specs.Parts.{kindOf, partsOf, padded, isTaken, valueOf}
 use Rattle.feed_abi.specs.Calls.{said, saidWith, lengthNumbers, partNumbers, cursorNumbers, stepNumbers, toldNumbers, dialectOf, feedCheck, feedColumn, feedNames, feedName, feedFirst, feedStep, feedStart, feedPut}
 use Rattle.promises.specs.Refusals.{Line, OneOf, just, later, inTable, Only}
 use Rattle.promises.specs.Buffers.{Touched}
 use Rattle.promises.specs.Abi.{Answered, Counts, AbiCalls}
 use Rattle.promises.proofs.Only.{Listed, done, stop, chain, test}
+use Rattle.promises.proofs.Values.{value-made}
 use Rattle.promises.proofs.Rows.{record-read}
 use Rattle.promises.proofs.Buffers.{stores}
 use Rattle.promises.proofs.Refusals.{only, second, refusals}
@@ -51,10 +52,6 @@ dialect-asked d thirteen =
     test (eqb d 0) (λ u. done _)
     (λ u. test (eqb d 1) (λ u. done _)
     (λ u. test (eqb d 2) (λ u. done _) (λ u. stop thirteen)))
-
-value-made : {ls : List Line} (kind : ℕ) (parts : List ℕ) → OneOf ls (why 13 0) → Listed ls (valueOf kind parts)
-unfolding valueOf
-value-made kind parts thirteen = test (isTaken kind parts) (λ u. done _) (λ u. stop thirteen)
 
 column-told : {ls : List Line} (r : List ℕ) (j : ℕ) → OneOf ls (why 11 0) → OneOf ls (why 14 j) → Listed ls (feedColumn r j)
 unfolding feedColumn

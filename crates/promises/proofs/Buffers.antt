@@ -20,6 +20,7 @@ use Rattle.value.specs.declared.column.Dialect.{Dialect}
 use Rattle.value.specs.declared.datum.Value.{Value}
 use Rattle.value.specs.Columns.{shapeOf}
 use Rattle.value.specs.Storing.{storedBytes, writeValue}
+use Rattle.value_parts.specs.Parts.{valueOf}
 use Rattle.table_map.specs.Writes.{Parts, isEvent, eventBytes, writeEvent}
 use Rattle.record.specs.Records.{recordBytes}
 use Rattle.map_check.specs.Check.{checkMap, check}
@@ -30,7 +31,6 @@ use Rattle.image.specs.Puts.{filled, headNulls, startImage, slotBytes, putOver,
 use Rattle.image.proofs.Fills.{fill-length}
 use Rattle.image.proofs.Heads.{nulls-tested}
 use Rattle.image.proofs.Puts.{nulls-size}
-use Rattle.feed_abi.specs.Parts.{valueOf}
 use Rattle.feed_abi.specs.Calls.{saidWith, lengthNumbers, cursorNumbers, dialectOf, feedCheck, feedStart, feedPut}
 use Rattle.promises.specs.Buffers.{Touched, Buffers}
 

@@ -16,7 +16,7 @@ use Rattle.table_map.specs.Lists.{integerItem, pairItem, stringItem, groupItem}
 use Rattle.map_check.specs.Names.{listOf, columnName}
 use Rattle.promises.specs.Refusals.{Line, _at_, _below_, _upTo_, OneOf, just, under, most, later, numberOf, inTable, Only, EveryCall}
 use Rattle.promises.proofs.Only.{Listed, bytes-there, fixed, packed, room}
-use Rattle.promises.proofs.Values.{temporal-read, temporal-written, column-taken, value-read, value-written, value-sized}
+use Rattle.promises.proofs.Values.{temporal-read, temporal-written, column-taken, value-read, value-written, value-sized, value-made}
 use Rattle.promises.proofs.Maps.{long-part, event-read, event-written, event-sized, pair-item, group-item, stepped, field-stepped, checked, string-found}
 use Rattle.promises.proofs.Rows.{record-read, first-read, image-stepped, image-started, image-put}
 
@@ -82,6 +82,7 @@ refusals = record {
   write-value = λ c place lent v buf o. only refl (value-written (shapeOf c) place lent v buf o (column-taken c place just (second just)) (third just) (fourth just));
   value-size = λ c place lent v. only refl (value-sized (shapeOf c) place lent v (column-taken c place just (second just)) (third just));
   shape-of = four-or-five;
+  value-of = λ kind parts. only refl (value-made kind parts just);
   read-event = λ event postHeader. only refl (event-read event (λ p h. most h) (λ p h. second (most h)) postHeader);
   write-event = λ p buf. only refl (event-written p buf just (second just));
   event-size = λ p. only refl (event-sized p just (second just));

@@ -2,6 +2,7 @@
 use Rattle.wire.proofs.Views.{same-reach, same-packed, same-written}
 use Rattle.temporal.proofs.Views.{same-temporal}
 use Rattle.value.proofs.Views.{same-read, same-size}
+use Rattle.value_parts.proofs.Views.{same-made}
 use Rattle.table_map.proofs.Views.{same-event-read, same-integer, same-pair, same-string, same-group, same-charset, same-field}
 use Rattle.record.proofs.Views.{same-record}
 use Rattle.map_check.proofs.Views.{same-name}
@@ -16,6 +17,7 @@ results = record {
   temporal = same-temporal;
   value = same-read;
   size = same-size;
+  made = same-made;
   event = same-event-read;
   field = same-field;
   integer = same-integer;

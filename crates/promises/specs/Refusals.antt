@@ -24,6 +24,7 @@ use Rattle.value.specs.declared.shape.Shape.the-variants.{NotTaken}
 use Rattle.value.specs.Columns.{shapeOf}
 use Rattle.value.specs.Reading.{readValue}
 use Rattle.value.specs.Storing.{writeValue, sizeOf}
+use Rattle.value_parts.specs.Parts.{valueOf}
 use Rattle.table_map.specs.declared.field.Fields.{Fields}
 use Rattle.table_map.specs.Events.{readEvent, partIn}
 use Rattle.table_map.specs.Writes.{Parts, writeEvent, eventSize}
@@ -96,6 +97,9 @@ pub record EveryCall : Type 1 where
   pub value-size : (c : Column) (place : ℕ) (lent : List ℕ) (v : Value) → Only (sizeOf (shapeOf c) place lent v) (4 at place ∷ 5 at place ∷ 13 at place ∷ [])
   -- `shape_of`: the number, without a place, for a column that there is not
   pub shape-of : (c : Column) (n : ℕ) → shapeOf c ≡ NotTaken n → (n ≡ 4) ⊎ (n ≡ 5)
+  -- ---- `value_parts`. `kind_of` and `parts_of` refuse nothing
+  -- `value_of`: a kind and parts that make no value
+  pub value-of : (kind : ℕ) (parts : List ℕ) → Only (valueOf kind parts) (13 at 0 ∷ [])
   -- ---- `table_map`. `part_of`, `Fields::new` and `flag` refuse nothing; `database_name`, `table_name`, `column_types`, `column_metadata`, `nullable_bits` and `optional_metadata` hand back an
   -- empty part where the event is refused
   -- `read_event`: an offset of the event, or its end

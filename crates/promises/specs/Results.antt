@@ -8,6 +8,7 @@ use Rattle.wire.specs.Parts.{reachOf}
 use Rattle.temporal.specs.Reading.{temporalOf}
 use Rattle.value.specs.Reading.{readOf}
 use Rattle.value.specs.Storing.{sizeSaid}
+use Rattle.value_parts.specs.Parts.{madeOf}
 use Rattle.table_map.specs.Events.{eventOf}
 use Rattle.table_map.specs.Lists.{integerOf, pairOf, stringOf, groupOf, charsetOf}
 use Rattle.table_map.specs.Fields.{fieldOf}
@@ -33,6 +34,8 @@ pub record Results : Type 0 where
   pub value : Apart readOf
   -- `value_size`, `lone_size`, `event_size`
   pub size : Apart sizeSaid
+  -- `value_of`
+  pub made : Apart madeOf
   -- `read_event`
   pub event : Apart eventOf
   -- `next` of `Fields`, `Integers`, `Pairs`, `Strings` and `Groups`
