@@ -10,7 +10,6 @@ use crate::kind::SINCE;
 use crate::kind::TIME;
 use crate::kind::UINT;
 use crate::kind::YEAR;
-use crate::twos::signed;
 use temporal::Date;
 use temporal::Moment;
 use temporal::Stamp;
@@ -166,7 +165,7 @@ fn make_value(kind: u64, parts: &[u64]) -> Value
     ensures { λ r. ⌜ r ≡ made kind (now (parts .entry)) ⌝ }
 {
     match kind {
-        INT => Value::Int(signed(part(parts, 0))),
+        INT => Value::Int(wire::signed_of(8, part(parts, 0))),
         UINT => Value::Uint(part(parts, 0)),
         FLOAT => Value::Float(part_32(parts, 0)),
         DOUBLE => Value::Double(part(parts, 0)),

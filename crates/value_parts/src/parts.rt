@@ -1,5 +1,4 @@
 // The parts of a value, each a number.
-use crate::twos::twos;
 use temporal::Temporal;
 use value::Value;
 ghost use mathlib.Core.Path.{_≡_};
@@ -50,7 +49,7 @@ pub fn parts_of(value: Value) -> [u64; 7]
 {
     match value {
         Value::Null => [0, 0, 0, 0, 0, 0, 0],
-        Value::Int(z) => one_part(twos(z)),
+        Value::Int(z) => one_part(wire::twos_of(8, z)),
         Value::Uint(n) => one_part(n),
         Value::Float(bits) => one_part(bits as u64),
         Value::Double(bits) => one_part(bits),
