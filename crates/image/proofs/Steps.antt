@@ -17,7 +17,7 @@ use Rattle.value.specs.declared.reading.Read.the-variants.{Got, Refused}
 use Rattle.value.specs.Columns.{shapeOf}
 use Rattle.value.specs.Reading.{readValue, readOf}
 use Rattle.record.specs.Entries.{columnOf}
-use Rattle.record.specs.Records.{countOf, entryIn}
+use Rattle.record.specs.Records.{mostColumns, countOf, entryIn}
 use Rattle.image.specs.declared.cursor.Cursor.{Cursor}
 use Rattle.image.specs.declared.cursor.Head.{Head}
 use Rattle.image.specs.declared.step.Standing.{Standing}
@@ -37,21 +37,21 @@ module _ {r p : List ℕ} {n : ℕ} {s : Standing} (h : Placed r p n s) {f : ℕ
   pub column-below : (f ≡ n → ⊥) → f < n
   column-below u = omega (arith, facts .high, h .column)
 
-  rank-is : countBits p f ≡ s .rank
+  rank-is : countBits p f ≡ s .bit .0
   rank-is = facts .rank ∙ sym (h .rank)
 
   -- the rank behind it
-  pub rank-next : (f ≡ n → ⊥) → s .rank + 1 ≡ countBits p (f + 1)
-  rank-next u = sym (ap (countBits p) (add-one f) ∙ count-set p f (facts .found (omega (arith, column-below u, h .column))) ∙ ap suc rank-is ∙ sym (add-one (s .rank)))
+  pub rank-next : (f ≡ n → ⊥) → s .bit .0 + 1 ≡ countBits p (f + 1)
+  rank-next u = sym (ap (countBits p) (add-one f) ∙ count-set p f (facts .found (omega (arith, column-below u, h .column))) ∙ ap suc rank-is ∙ sym (add-one (s .bit .0)))
 
   -- which is no large number
-  pub rank-small : s .rank ≤ 255
+  pub rank-small : s .bit .0 ≤ mostColumns
   rank-small = omega (arith, h .rank, count-at-most p (s .column), h .column, h .few)
 
   pub slots-none : (im : List ℕ) → f ≡ n → slotsAt r p im (s .column) ≡ []
   slots-none im u = slots-end r p im (s .column) (omega (arith, h .column, h .count)) (omega (arith, here, h .count))
 
-  pub slots-some : (im : List ℕ) → (f ≡ n → ⊥) → slotsAt r p im (s .column) ≡ record { present = presentAt r f; null = bitLsb0 im (s .rank) } ∷ slotsAt r p im (f + 1)
+  pub slots-some : (im : List ℕ) → (f ≡ n → ⊥) → slotsAt r p im (s .column) ≡ record { present = presentAt r f; null = bitLsb0 im (s .bit .0) } ∷ slotsAt r p im (f + 1)
   slots-some im u =
       let w = rw here at (slots-first r p im (s .column) (omega (arith, h .column, h .count)) (omega (arith, here, h .count, column-below u))) in
       rw rank-is at w
@@ -61,12 +61,12 @@ module _ {r p : List ℕ} {n : ℕ} {s : Standing} (h : Placed r p n s) {f : ℕ
     unfolding stepOver
     step-end u = rw (slots-none im u)
 
-    pub step-null : (f ≡ n → ⊥) → bitLsb0 im (s .rank) ≡ true → stepOver (slotsAt r p im (s .column)) im o ≡ ok (null f (cursor (f + 1) o))
+    pub step-null : (f ≡ n → ⊥) → bitLsb0 im (s .bit .0) ≡ true → stepOver (slotsAt r p im (s .column)) im o ≡ ok (null f (cursor (f + 1) o))
     unfolding stepOver
     step-null u b = rw (slots-some im u, b)
 
     -- the value that the record's column says
-    module _ (u : f ≡ n → ⊥) (b : bitLsb0 im (s .rank) ≡ false) {k : Column} (g : k ≡ columnOf (entryIn r f)) (d : Read) (q : readOf d ≡ readValue (shapeOf k) f im o) where
+    module _ (u : f ≡ n → ⊥) (b : bitLsb0 im (s .bit .0) ≡ false) {k : Column} (g : k ≡ columnOf (entryIn r f)) (d : Read) (q : readOf d ≡ readValue (shapeOf k) f im o) where
       abbrev then : Outcome (Value × ℕ) → Outcome Told
       then w = after w (λ x. ok (value f (x .0) (cursor (f + 1) (x .1))))
 

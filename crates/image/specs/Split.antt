@@ -39,13 +39,14 @@ unfoldable pub slotsAt : List ℕ → List ℕ → List ℕ → ℕ → List Slo
 unfolding presentFrom countBits slots
 slotsAt r p nulls j = slots (presentFrom (countOf r - j) r p j) (countBits p j) nulls
 
--- ---- the tests before a call on an image goes on: 11, then 12 for the presence bits. What they tell is how many columns there are, and how many bytes of null bits
+-- ---- the tests before a call on an image goes on: 11, then 12 for the presence bits. What they tell is how many columns there are, how many of them are present, and how many bytes of null
+-- bits these have
 abbrev pub headWith : ℕ → ℕ → Head
-headWith columns nulls = record { columns = columns; nulls = nulls }
+headWith columns present = record { columns = columns; present = present; nulls = bytesFor present }
 
 unfoldable pub headOf : List ℕ → List ℕ → Outcome Head
 unfolding readRecord countBits
-headOf r p = after (readRecord r) (λ n. cond (eqb (length p) (bytesFor n)) (ok (headWith n (bytesFor (countBits p n)))) (refuse 12 0))
+headOf r p = after (readRecord r) (λ n. cond (eqb (length p) (bytesFor n)) (ok (headWith n (countBits p n))) (refuse 12 0))
 
 -- the first cursor: column 0, behind the null bits
 unfoldable pub firstCursor : List ℕ → List ℕ → Outcome Cursor

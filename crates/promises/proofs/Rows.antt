@@ -96,7 +96,7 @@ pub image-started : {ls : List Line} (r p nulls buf : List ℕ) → OneOf ls (wh
 unfolding startImage
 image-started r p nulls buf eleven twelve eight =
     chain (headNulls r p nulls) _ (nulls-read eleven twelve r p nulls) (λ h e.
-    chain (store buf 0 (filled (countBits p (h .columns)) nulls)) _ (room buf 0 (filled (countBits p (h .columns)) nulls) eight) (λ x f. done _))
+    chain (store buf 0 (filled (h .present) nulls)) _ (room buf 0 (filled (h .present) nulls) eight) (λ x f. done _))
 
 put-over : {ls : List Line} (r : List ℕ) (c : Cursor) → OneOf ls (why 14 (c .column)) → ((j : ℕ) → j < countOf r → OneOf ls (why 13 j)) → OneOf ls (why 8 0)
     → (is : List Slot) (lent : List ℕ) (v : Value) (buf : List ℕ) → OfFirst (Fine r) is → Listed ls (putOver is c lent v buf)
