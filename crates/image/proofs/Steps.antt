@@ -1,15 +1,17 @@
 -- What a step answers, by what the code finds. Assumes nothing.
 use Prim.Native.Nat.{ℕ, suc, _+_, _-_, _≤_, _<_}
 use mathlib.Core.Path.{_≡_, sym, ap, subst, _∙_}
-use mathlib.Core.Bool.{true, false}
+use mathlib.Core.Bool.{true, false, cond}
 use mathlib.Core.List.{List, [], _∷_}
 use native.Mathlib.Numerals.{add-one}
 use native.Mathlib.Omega.{arith}
-use borrow.Author.Tests.{le-ltb}
+use borrow.Author.Tests.{le-ltb, ltb-false}
 use lib.ListN.{length}
+use lib.Dec.{ltb}
 use Rattle.wire.specs.declared.refusal.Refusal.{Refusal}
-use Rattle.wire.specs.Outcome.{Outcome, ok, refused, after}
+use Rattle.wire.specs.Outcome.{Outcome, ok, refused, why, after}
 use Rattle.wire.specs.Bits.{bitLsb0}
+use Rattle.wire.proofs.Outcomes.{after-is-ok, by-test, ok-not-refused, same-ok}
 use Rattle.value.specs.declared.column.Column.{Column}
 use Rattle.value.specs.declared.datum.Value.{Value}
 use Rattle.value.specs.declared.reading.Read.{Read}
@@ -22,7 +24,7 @@ use Rattle.image.specs.declared.cursor.Cursor.{Cursor}
 use Rattle.image.specs.declared.cursor.Head.{Head}
 use Rattle.image.specs.declared.step.Standing.{Standing}
 use Rattle.image.specs.Present.{countBits, firstFrom, shapeAt}
-use Rattle.image.specs.Split.{cursor, slotsAt, headOf, Told, null, value, end, stepOver, stepFrom}
+use Rattle.image.specs.Split.{Slot, cursor, slotsAt, headOf, Told, null, value, end, stepOver, slotsLeft, stepFrom}
 use Rattle.image.specs.Inner.{Placed}
 use Rattle.image.proofs.Firsts.{IsFirst, first-is, presentAt, count-set, count-at-most, slots-end, slots-first}
 
@@ -80,8 +82,38 @@ module _ {r p : List ℕ} {n : ℕ} {s : Standing} (h : Placed r p n s) {f : ℕ
       pub step-bad : (z : Refusal) → d ≡ Refused z → stepOver (slotsAt r p im (s .column)) im o ≡ refused z
       step-bad z y = rw y at step-read
 
--- a step that passes the tests goes over the slots from its column on
+-- ---- a cursor that passes the tests
+pub left-goes : (r p im : List ℕ) (c : Cursor) {h : Head} → headOf r p ≡ ok h → c .column ≤ h .columns → h .nulls ≤ length im → c .offset ≤ length im
+    → slotsLeft r p im c ≡ ok (slotsAt r p im (c .column))
+unfolding slotsLeft
+left-goes r p im c {h} e a b d = rw (e, le-ltb (h .columns) (c .column) a, le-ltb (length im) (h .nulls) b, le-ltb (length im) (c .offset) d)
+
+-- a step from it goes over the slots from its column on
 pub step-goes : (r p im : List ℕ) (c : Cursor) {h : Head} → headOf r p ≡ ok h → c .column ≤ h .columns → h .nulls ≤ length im → c .offset ≤ length im
     → stepFrom r p im c ≡ stepOver (slotsAt r p im (c .column)) im (c .offset)
 unfolding stepFrom
-step-goes r p im c {h} e a b d = rw (e, le-ltb (h .columns) (c .column) a, le-ltb (length im) (h .nulls) b, le-ltb (length im) (c .offset) d)
+step-goes r p im c e a b d = rw (left-goes r p im c e a b d)
+
+-- and the other way: what they tell
+pub record Stands (r p im : List ℕ) (c : Cursor) (is : List Slot) : Type 0 where
+  pub head : Head
+  pub tested : headOf r p ≡ ok head
+  pub column : c .column ≤ head .columns
+  pub nulls : head .nulls ≤ length im
+  pub offset : c .offset ≤ length im
+  pub slots : slotsAt r p im (c .column) ≡ is
+
+-- a test whose failing is a refusal
+past-test : {A : Type 0} (a b : ℕ) (w : Refusal) (x : Outcome A) (y : A) → cond (ltb a b) (refused w) x ≡ ok y → (b ≤ a) × (x ≡ ok y)
+past-test a b w x y e =
+    by-test (ltb a b) (refused w) x (ok y) e (λ u f. absurd (ok-not-refused (sym f))) (λ u f. let l = ltb-false a b u in (omega arith, f))
+
+pub left-stands : (r p im : List ℕ) (c : Cursor) (is : List Slot) → slotsLeft r p im c ≡ ok is → Stands r p im c is
+unfolding slotsLeft
+left-stands r p im c is e =
+    let a = after-is-ok (headOf r p) _ is e in
+    let h = a .0 in
+    let x = past-test (h .columns) (c .column) (why 14 (c .column)) _ is (a .2) in
+    let y = past-test (length im) (h .nulls) (why 9 0) _ is (x .1) in
+    let z = past-test (length im) (c .offset) (why 9 (c .column)) _ is (y .1) in
+    record { head = h; tested = a .1; column = x .0; nulls = y .0; offset = z .0; slots = same-ok (z .1) }

@@ -69,15 +69,20 @@ stepOver (i ∷ is) im o =
     (after (readValue (i .present .shape) (i .present .column) im o) (λ x.
     ok (value (i .present .column) (x .0) (cursor (i .present .column + 1) (x .1)))))
 
--- from any cursor: 14 for a column above n; 9 at 0 for null bits that are not whole; 9 at the cursor's column for an offset past the image
-unfoldable pub stepFrom : List ℕ → List ℕ → List ℕ → Cursor → Outcome Told
-unfolding headOf slotsAt stepOver
-stepFrom r p im c =
+-- the slots that are left from any cursor on: 14 for a column above n; 9 at 0 for null bits that are not whole; 9 at the cursor's column for an offset past the image
+unfoldable pub slotsLeft : List ℕ → List ℕ → List ℕ → Cursor → Outcome (List Slot)
+unfolding headOf slotsAt
+slotsLeft r p im c =
     after (headOf r p) (λ h.
     cond (ltb (h .columns) (c .column)) (refuse 14 (c .column))
     (cond (ltb (length im) (h .nulls)) (refuse 9 0)
     (cond (ltb (length im) (c .offset)) (refuse 9 (c .column))
-    (stepOver (slotsAt r p im (c .column)) im (c .offset)))))
+    (ok (slotsAt r p im (c .column))))))
+
+-- a step from any cursor
+unfoldable pub stepFrom : List ℕ → List ℕ → List ℕ → Cursor → Outcome Told
+unfolding slotsLeft stepOver
+stepFrom r p im c = after (slotsLeft r p im c) (λ is. stepOver is im (c .offset))
 
 -- ---- what the answers say
 abbrev pub told : Step → Outcome Told
