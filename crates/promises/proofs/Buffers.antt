@@ -25,7 +25,6 @@ use Rattle.table_map.specs.Writes.{Parts, isEvent, eventBytes, writeEvent}
 use Rattle.record.specs.Records.{recordBytes}
 use Rattle.map_check.specs.Check.{checkMap, check}
 use Rattle.image.specs.declared.cursor.Cursor.{Cursor}
-use Rattle.image.specs.Present.{countBits}
 use Rattle.image.specs.Split.{Slot, cursor, slotsAt}
 use Rattle.image.specs.Puts.{filled, headNulls, startImage, slotBytes, putOver, putFrom}
 use Rattle.image.proofs.Fills.{fill-length}
@@ -79,11 +78,11 @@ unfolding startImage
 starts r p nulls buf next left e =
     let a = after-is-ok (headNulls r p nulls) _ (next, left) e in
     let h = a .0 in
-    let c = countBits p (h .columns) in
+    let c = h .present in
     let b = after-is-ok (store buf 0 (filled c nulls)) _ (next, left) (a .2) in
     let x = b .0 in
     let m = nulls-tested r p nulls (a .1) .1 in
-    let f = fill-length c nulls (nulls-size r p nulls buf (a .1) c refl) in
+    let f = fill-length c nulls (nulls-size r p nulls buf (a .1)) in
     let z = store-ends buf 0 (filled c nulls) (x .0) (x .1) (b .1) in
     let q = same-ok (b .2) in
     let i : h .nulls ≡ next .offset = ap (λ (y : Cursor × List ℕ). y .0 .offset) q in

@@ -6,7 +6,7 @@ use Rattle.value_parts.proofs.Views.{same-made}
 use Rattle.table_map.proofs.Views.{same-event-read, same-integer, same-pair, same-string, same-group, same-charset, same-field}
 use Rattle.record.proofs.Views.{same-record}
 use Rattle.map_check.proofs.Views.{same-name}
-use Rattle.image.proofs.Views.{same-step, same-first, same-put}
+use Rattle.image.proofs.Views.{same-step, same-first, same-head, same-put}
 use Rattle.promises.specs.Results.{Results}
 
 pub results : Results
@@ -27,6 +27,7 @@ results = record {
   charset = same-charset;
   columns = same-record;
   name = same-name;
+  head = same-head;
   first = same-first;
   step = same-step;
   put = same-put;

@@ -13,7 +13,7 @@ use Rattle.table_map.specs.Lists.{integerOf, pairOf, stringOf, groupOf, charset
 use Rattle.table_map.specs.Fields.{fieldOf}
 use Rattle.record.specs.Records.{recordOf}
 use Rattle.map_check.specs.Names.{nameOf}
-use Rattle.image.specs.Split.{told, firstTold}
+use Rattle.image.specs.Split.{told, firstTold, headTold}
 use Rattle.image.specs.Puts.{putTold}
 
 -- answers that look the same are the same
@@ -49,7 +49,8 @@ pub record Results : Type 0 where
   pub columns : Apart recordOf
   -- `column_name`
   pub name : Apart nameOf
-  -- `first_cursor`, `Cursor::step`, and `start` with `Cursor::put`
+  -- `read_head`, `first_cursor`, `Cursor::step`, and `start` with `Cursor::put`
+  pub head : Apart headTold
   pub first : Apart firstTold
   pub step : Apart told
   pub put : Apart putTold

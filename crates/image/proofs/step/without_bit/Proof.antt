@@ -1,9 +1,9 @@
--- `image::step::without_rank` meets its contract. Assumes nothing.
+-- `image::step::without_bit` meets its contract. Assumes nothing.
 use borrow.Author.Needs.{needs}
-use Rattle.image.proofs.step.without_rank.Statement.{statement}
-use Rattle.image.proofs.step.without_rank.Tie as tie
-use Rattle.image.proofs.step.without_rank.Reads as reads
-use Rattle.image.proofs.step.without_rank.Lts as lts
+use Rattle.image.proofs.step.without_bit.Statement.{statement}
+use Rattle.image.proofs.step.without_bit.Tie as tie
+use Rattle.image.proofs.step.without_bit.Reads as reads
+use Rattle.image.proofs.step.without_bit.Lts as lts
 use Rattle.image.proofs.step.cursor_of.Reads as cursor-of-reads
 
 enum-known-step : tie.Need-enum-known-step
@@ -36,8 +36,8 @@ returns-3 c = rw (c .before .step3 .given .1)
 returns-4 : tie.Need-returns-4
 returns-4 c = rw (c .before .step4 .given .1)
 
-pub without-rank-spec : {M : Type 1} → statement M
-without-rank-spec =
+pub without-bit-spec : {M : Type 1} → statement M
+without-bit-spec =
     tie.close
     (tie.spec
     enum-known-step
