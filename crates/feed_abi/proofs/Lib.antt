@@ -1,7 +1,3 @@
--- The laws of the crate. `Tells`: what a call leaves, from what its code did. `Takes`: the parts that a kind takes. `Holds`: values whose parts are within their bits. `Backs`: a value's kind
--- and parts make the same value again. `Givens`: a value that was made has the kind and parts that it was made of.
+-- The laws of the crate. `Tells`: what a call leaves, from what its code did. `Backs`: what a step tells of a value is taken as that value where it is put.
 pub mod Tells
-pub mod Takes
-pub mod Holds
 pub mod Backs
-pub mod Givens

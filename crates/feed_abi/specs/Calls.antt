@@ -8,6 +8,7 @@ use Rattle.wire.specs.Outcome.{Outcome, ok, refused, refuse, after}
 use Rattle.value.specs.declared.column.Dialect.{Dialect}
 use Rattle.value.specs.declared.column.Dialect.the-variants.{Document, Mysql, Mariadb}
 use Rattle.value.specs.declared.datum.Value.the-variants.{Null}
+use Rattle.value_parts.specs.Parts.{kindOf, partsOf, padded, valueOf, isHeld}
 use Rattle.table_map.specs.declared.part.Part.{Part}
 use Rattle.table_map.specs.Events.{readEvent}
 use Rattle.record.specs.declared.entry.Entry.{Entry}
@@ -20,7 +21,6 @@ use Rattle.image.specs.Split.{Told, null, value, end, cursor, firstCursor, step
 use Rattle.image.specs.Puts.{startImage, putFrom}
 use Rattle.feed_abi.specs.declared.maps.Asked.{Asked}
 use Rattle.feed_abi.specs.declared.maps.Asked.the-variants.{For, Refused}
-use Rattle.feed_abi.specs.Parts.{kindOf, partsOf, padded, valueOf, isHeld}
 
 -- ---- answers in numbers
 abbrev pub said : {A : Type 0} → (A → List ℕ) → Outcome A → Outcome (List ℕ)

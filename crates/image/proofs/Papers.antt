@@ -7,10 +7,10 @@ use native.Mathlib.Omega.{arith}
 use borrow.Author.Tests.{le-leb}
 use lib.ListN.{length, getD, replicate, length-replicate}
 use lib.Seq.{take-length}
-use Rattle.wire.specs.Bits.{bytesFor, withDigit, lsb0}
+use Rattle.wire.specs.Bits.{bytesFor, lsb0}
 use Rattle.wire.specs.Stored.{stored}
 use Rattle.wire.proofs.Stores.{length-stored}
-use Rattle.wire.proofs.Digits.{lsb0-written, lsb0-kept}
+use Rattle.wire.proofs.Digits.{withDigit, lsb0-written, lsb0-kept}
 use Rattle.value.specs.Data.{Datum, null, int, uint, float, double, year, when, bytes, bytesIn}
 use Rattle.value.specs.Reading.{placed, datumOf}
 use Rattle.value.specs.Storing.{startOf, lenOf, isLent}

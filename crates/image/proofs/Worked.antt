@@ -20,8 +20,8 @@ use Rattle.value.specs.Storing.{startOf, lenOf, isLent, isIn, storedBytes}
 use Rattle.record.specs.Entries.{flagsHold, charsetHolds, entryHolds, entryOf}
 use Rattle.record.specs.Records.{entryIn, entriesHold, headHolds, recordValid, readRecord}
 use Rattle.image.specs.Present.{countBits, shapeAt, presentFrom}
-use Rattle.image.specs.Split.{cursor, slots, slotsAt, headOf, firstCursor, stepOver, stepFrom}
-use Rattle.image.specs.Walk.{walkSteps, walk}
+use Rattle.image.specs.Split.{cursor, slots, slotsAt, headOf, firstCursor, slotsLeft}
+use Rattle.image.specs.Walk.{readSlot, readSlots, walkFrom, walk}
 use Rattle.image.specs.Rows.{isNull}
 use Rattle.image.specs.Puts.{filled, headNulls, startImage, slotBytes, putOver, putFrom}
 use Rattle.image.specs.WriteRow.{LentValue, putRow, writeRow}
@@ -49,7 +49,7 @@ pub worked : (walk profile (7 ∷ []) row ≡ record { answers = (0, int (negsuc
     -- a record of another length, and presence bits of another length
     × (walk (take 23 profile) (7 ∷ []) row ≡ record { answers = []; how = refuse 11 0 })
     × (walk profile (7 ∷ 0 ∷ []) row ≡ record { answers = []; how = refuse 12 0 })
-unfolding leValue signedOf dayFault digit bitLsb0 familyOf isNumeric isCharacter isEnumOrSet shapeIn shapeOf isTaken need decode fault taken cut judged readDatum placed readValue datumOf flagsHold charsetHolds entryHolds entryOf entryIn entriesHold headHolds recordValid readRecord countBits shapeAt presentFrom slots slotsAt headOf firstCursor stepOver stepFrom walkSteps walk
+unfolding leValue signedOf dayFault digit bitLsb0 familyOf isNumeric isCharacter isEnumOrSet shapeIn shapeOf isTaken need decode fault taken cut judged readDatum flagsHold charsetHolds entryHolds entryOf entryIn entriesHold headHolds recordValid readRecord countBits shapeAt presentFrom slots slotsAt headOf firstCursor slotsLeft readSlot readSlots walkFrom walk
 worked = (refl, refl, refl, refl, refl, refl, refl)
 
 -- the same image written, its null bits lent with no spare bit set; and with a byte less of room

@@ -1,4 +1,4 @@
--- The refusals of temporals and of values. Assumes nothing.
+-- The refusals of temporals, of values, and of kinds and parts that make none. Assumes nothing.
 use Prim.Native.Nat.{ℕ, _+_}
 use mathlib.Core.Path.{_≡_, sym, subst}
 use mathlib.Core.Bool.{true}
@@ -20,6 +20,7 @@ use Rattle.value.specs.Reading.{taken, cut, judged, readDatum, readValue}
 use Rattle.value.specs.Storing.{isIn, storedBytes, sizeOf, writeValue}
 use Rattle.value.proofs.Laws.{taken-at}
 use Rattle.value.proofs.Tables.{refused-number}
+use Rattle.value_parts.specs.Parts.{valueOf, isTaken as arePartsTaken}
 use Rattle.promises.specs.Refusals.{Line, OneOf}
 use Rattle.promises.proofs.Only.{Listed, done, stop, chain, test, room}
 
@@ -73,3 +74,8 @@ pub value-written : {ls : List Line} (sh : Shape) (place : ℕ) (lent : List ℕ
 unfolding writeValue
 value-written sh place lent v buf o h thirteen eight =
     chain (storedBytes sh place lent v) _ (value-stored sh place lent v h thirteen) (λ b e. room buf o b eight)
+
+-- ---- a kind and parts
+pub value-made : {ls : List Line} (kind : ℕ) (parts : List ℕ) → OneOf ls (why 13 0) → Listed ls (valueOf kind parts)
+unfolding valueOf
+value-made kind parts thirteen = test (arePartsTaken kind parts) (λ u. done _) (λ u. stop thirteen)

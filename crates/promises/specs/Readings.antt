@@ -33,10 +33,10 @@ use Rattle.map_check.specs.Profile.{pairOr, charsetBy, charsetFor, flagsOf, ent
 use Rattle.map_check.specs.Check.{fewEnough, checkEvent, checkMap}
 use Rattle.wire.specs.Signed.{signedOf}
 use Rattle.value.specs.Shapes.{need, decode, fault}
-use Rattle.value.specs.Reading.{taken, cut, judged, readDatum, readValue, datumOf}
+use Rattle.value.specs.Reading.{taken, cut, judged, readDatum}
 use Rattle.image.specs.Present.{countBits, shapeAt, presentFrom}
-use Rattle.image.specs.Split.{slots, slotsAt, headOf, firstCursor, stepOver, stepFrom}
-use Rattle.image.specs.Walk.{walkSteps as imageSteps, walk as walkImage}
+use Rattle.image.specs.Split.{slots, slotsAt, headOf, firstCursor, slotsLeft}
+use Rattle.image.specs.Walk.{readSlot, readSlots, walkFrom, walk as walkImage}
 use Rattle.value.specs.Data.{Datum, int, uint, bytes as raw}
 
 -- a reading: what is read, and the bytes that say it
@@ -99,5 +99,5 @@ table =
     ∷ []
 
 pub readings : Each Holds table
-unfolding table packedBytes leBytes readPacked formOf longForm leValue readTemporal clockFault dayFault shapeOf digit bitLsb0 bitMsb0 familyOf isKnown metadataBytes realType leftoverBytes decimalBytes shapeIn isTaken isNumeric hasSignBit isCharacter hasCharset isEnumOrSet within shortPart longPart readNames readColumns readEvent step walkSteps pairItem strings groupItem signBits countSignBits contentsHold fieldItem fieldStep entryBytes headBytes entriesBytes recordBytes metaByte declared isReal isAccepted takeColumn takeColumns ranksAfter ranksFrom every listHolds exactly isCharset integerHolds pairsHold pairsWhole defaultHolds keyItem contentsFull stood rivalOf isKept keepSteps firstOf withPlace keysOnce keysHold pairOr charsetBy charsetFor flagsOf entriesFrom fewEnough checkEvent checkMap signedOf need decode fault taken cut judged readDatum readValue datumOf flagsHold charsetHolds entryHolds entryOf entryIn entriesHold headHolds recordValid readRecord countBits shapeAt presentFrom slots slotsAt headOf firstCursor stepOver stepFrom imageSteps walkImage
+unfolding table packedBytes leBytes readPacked formOf longForm leValue readTemporal clockFault dayFault shapeOf digit bitLsb0 bitMsb0 familyOf isKnown metadataBytes realType leftoverBytes decimalBytes shapeIn isTaken isNumeric hasSignBit isCharacter hasCharset isEnumOrSet within shortPart longPart readNames readColumns readEvent step walkSteps pairItem strings groupItem signBits countSignBits contentsHold fieldItem fieldStep entryBytes headBytes entriesBytes recordBytes metaByte declared isReal isAccepted takeColumn takeColumns ranksAfter ranksFrom every listHolds exactly isCharset integerHolds pairsHold pairsWhole defaultHolds keyItem contentsFull stood rivalOf isKept keepSteps firstOf withPlace keysOnce keysHold pairOr charsetBy charsetFor flagsOf entriesFrom fewEnough checkEvent checkMap signedOf need decode fault taken cut judged readDatum flagsHold charsetHolds entryHolds entryOf entryIn entriesHold headHolds recordValid readRecord countBits shapeAt presentFrom slots slotsAt headOf firstCursor slotsLeft readSlot readSlots walkFrom walkImage
 readings = ((refl, refl), ((refl, refl), ((refl, refl), (refl, (refl, (refl, (refl, ((refl, refl), ((refl, refl), (refl, (refl, tt)))))))))))

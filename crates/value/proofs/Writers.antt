@@ -1,12 +1,12 @@
 -- Values and what they say: which a column takes, and the bytes that it stores. Laws for the writers of the code. Assumes nothing.
-use Prim.Native.Nat.{ℕ, _+_, _-_, _/_, _^_, _≤_, min}
+use Prim.Native.Nat.{ℕ, _+_, _-_, _^_, _≤_, min}
 use mathlib.Core.Path.{_≡_, refl, sym, ap, _∙_}
 use mathlib.Core.Bool.{true, false, _&&_, false≢true}
 use mathlib.Core.Logic.{dite}
 use mathlib.Core.List.{List, [], _++_, append-nil}
 use native.Mathlib.Decide.{decLe}
 use native.Mathlib.Omega.{arith}
-use borrow.Author.Tests.{lt-ltb, le-ltb, le-leb, lt-leb, eq-eqb, ne-eqb, leb-true, ltb-true}
+use borrow.Author.Tests.{lt-ltb, le-ltb, le-leb, lt-leb, eq-eqb, ne-eqb, leb-true}
 use lib.ListN.{length, take, drop, length-drop, length-append}
 use lib.Seq.{length-take-le}
 use lib.Dec.{leb, ltb, eqb}
@@ -23,7 +23,7 @@ use Rattle.value.specs.declared.shape.Shape.{Shape}
 use Rattle.value.specs.declared.shape.Shape.the-variants.{Unsigned, Signed, FloatBits, DoubleBits, YearByte, Timed, Fixed, Counted, NotTaken}
 use Rattle.value.specs.declared.datum.Value.{Value}
 use Rattle.value.specs.declared.datum.Value.the-variants.{Null, Int, Uint, Float, Double, Year, When, Bytes}
-use Rattle.value.specs.Data.{Datum, bytes, tag, intIn, numberIn, whenIn, bytesIn, magnitudeOf}
+use Rattle.value.specs.Data.{Datum, bytes, tag, isInt, isUint, isFloat, isDouble, isYear, isWhen, isBytes, intIn, numberIn, whenIn, bytesIn}
 use Rattle.value.specs.Domains.{domain}
 use Rattle.value.specs.Shapes.{bytesOf, need}
 use Rattle.value.specs.Columns.{isTaken, refusalOf}
@@ -32,7 +32,6 @@ use Rattle.value.specs.Storing.{startOf, lenOf, isLent, isIn, storedByte
 use Rattle.value.proofs.Facts.{need-bytes}
 use Rattle.value.proofs.Laws.{taken-at}
 use Rattle.value.proofs.Readers.{narrow}
-use Rattle.value.proofs.Signs.{halves-is}
 
 -- ---- all but its bytes a value says whatever is lent
 any : {B : Type 0} (f : Datum → B) → ((b c : List ℕ) → f (bytes b) ≡ f (bytes c)) → (s : List ℕ) (v : Value) → f (datumOf s v) ≡ f (datumOf [] v)
@@ -92,36 +91,40 @@ below n most k e =
     (λ h. le-leb n most h ∙ sym (lt-ltb n (most + 1) (omega arith)))
     (λ h. lt-leb n most (omega arith) ∙ sym (le-ltb n (most + 1) (omega arith))))
 
+-- the greatest number of k bytes, of a width that there is
+pub top-narrow : (k most : ℕ) → k ≤ 8 → most + 1 ≡ 256 ^ min k 8 → most + 1 ≡ 256 ^ k
+top-narrow k most h e = rw (narrow k h) at e
+
 -- a number of k bytes, of the sort t
 pub in-plain : (sh : Shape) (t k most : ℕ) (s : List ℕ) (v : Value) → ((d : Datum) → domain sh d ≡ (eqb (tag d) t && ltb (numberIn d) (256 ^ k))) → most + 1 ≡ 256 ^ k
     → isLent s v ≡ true → (eqb (tag (datumOf [] v)) t && (leb 0 (numberIn (datumOf [] v)) && leb (numberIn (datumOf [] v)) most)) ≡ isIn sh s v
 unfolding isIn
 in-plain sh t k most s v f e h = rw (h, f (datumOf s v), tag-any s v, number-any s v, below (numberIn (datumOf [] v)) most k e)
 
-pub unsigned-domain : (k : ℕ) (d : Datum) → domain (Unsigned k) d ≡ (eqb (tag d) 2 && ltb (numberIn d) (256 ^ k))
+pub unsigned-domain : (k : ℕ) (d : Datum) → domain (Unsigned k) d ≡ (isUint d && ltb (numberIn d) (256 ^ k))
 unfolding domain
 unsigned-domain k d = refl
 
-pub float-domain : (d : Datum) → domain FloatBits d ≡ (eqb (tag d) 3 && ltb (numberIn d) (256 ^ 4))
+pub float-domain : (d : Datum) → domain FloatBits d ≡ (isFloat d && ltb (numberIn d) (256 ^ 4))
 unfolding domain
 float-domain d = refl
 
-pub double-domain : (d : Datum) → domain DoubleBits d ≡ (eqb (tag d) 4 && ltb (numberIn d) (256 ^ 8))
+pub double-domain : (d : Datum) → domain DoubleBits d ≡ (isDouble d && ltb (numberIn d) (256 ^ 8))
 unfolding domain
 double-domain d = refl
 
 pub in-year : (s : List ℕ) (v : Value) → isLent s v ≡ true
-    → (eqb (tag (datumOf [] v)) 5 && (leb 1900 (numberIn (datumOf [] v)) && leb (numberIn (datumOf [] v)) 2155)) ≡ isIn YearByte s v
+    → (isYear (datumOf [] v) && (leb 1900 (numberIn (datumOf [] v)) && leb (numberIn (datumOf [] v)) 2155)) ≡ isIn YearByte s v
 unfolding isIn domain
 in-year s v h = rw (h, tag-any s v, number-any s v)
 
-pub in-signed : (k most : ℕ) (s : List ℕ) (v : Value) → most + 1 ≡ 256 ^ k → isLent s v ≡ true
-    → (eqb (tag (datumOf [] v)) 1 && inHalves (most + 1) (intIn (datumOf [] v))) ≡ isIn (Signed k) s v
+pub in-signed : (k : ℕ) (s : List ℕ) (v : Value) → k ≤ 8 → isLent s v ≡ true
+    → (isInt (datumOf [] v) && inHalves (256 ^ min k 8) (intIn (datumOf [] v))) ≡ isIn (Signed k) s v
 unfolding isIn domain
-in-signed k most s v e h = rw (h, tag-any s v, int-any s v, e)
+in-signed k s v l h = rw (h, tag-any s v, int-any s v, narrow k l)
 
 pub in-timed : (k : Kind) (s : List ℕ) (v : Value) → isLent s v ≡ true
-    → (eqb (tag (datumOf [] v)) 6 && timedDomain k (whenIn (datumOf [] v))) ≡ isIn (Timed k) s v
+    → (isWhen (datumOf [] v) && timedDomain k (whenIn (datumOf [] v))) ≡ isIn (Timed k) s v
 unfolding isIn domain
 in-timed k s v h = rw (h, tag-any s v, when-any s v)
 
@@ -133,12 +136,12 @@ just n m =
     (λ g. rw (le-leb n m h, lt-leb m n (omega arith)) (sym (ne-eqb m n (λ e. omega arith)))))
     (λ h. rw (lt-leb n m (omega arith)) (sym (ne-eqb m n (λ e. omega arith))))
 
-pub in-fixed : (n : ℕ) (s : List ℕ) (v : Value) → isLent s v ≡ true → (eqb (tag (datumOf [] v)) 7 && (leb n (lenOf v) && leb (lenOf v) n)) ≡ isIn (Fixed n) s v
+pub in-fixed : (n : ℕ) (s : List ℕ) (v : Value) → isLent s v ≡ true → (isBytes (datumOf [] v) && (leb n (lenOf v) && leb (lenOf v) n)) ≡ isIn (Fixed n) s v
 unfolding isIn domain
 in-fixed n s v h = rw (h, tag-any s v, bytes-length s v h, just n (lenOf v))
 
 pub in-counted : (k most : ℕ) (s : List ℕ) (v : Value) → most + 1 ≡ 256 ^ k → isLent s v ≡ true
-    → (eqb (tag (datumOf [] v)) 7 && (leb 0 (lenOf v) && leb (lenOf v) most)) ≡ isIn (Counted k) s v
+    → (isBytes (datumOf [] v) && (leb 0 (lenOf v) && leb (lenOf v) most)) ≡ isIn (Counted k) s v
 unfolding isIn domain
 in-counted k most s v e h = rw (h, tag-any s v, bytes-length s v h, below (lenOf v) most k e)
 
@@ -175,22 +178,12 @@ size-counted k s v h =
     let l = bytes-length s v (is-in (Counted k) s v h .0) in
     sym (length-append (leBytes k (length (bytesIn (datumOf s v)))) (bytesIn (datumOf s v)) ∙ rw (leBytes-length, l))
 
--- ---- numbers that the code may take apart
-pub signed-small : (k most : ℕ) (s : List ℕ) (v : Value) → most + 1 ≡ 256 ^ k → isIn (Signed k) s v ≡ true → magnitudeOf (intIn (datumOf [] v)) ≤ most
-unfolding isIn domain
-signed-small k most s v e h =
-    let w = both-true (isLent s v) _ h in
-    let d = both-true (eqb (tag (datumOf s v)) 1) _ (w .1) in
-    let t : ltb (magnitudeOf (intIn (datumOf [] v))) ((most + 1) / 2) ≡ true =
-    sym (halves-is (most + 1) (intIn (datumOf [] v))) ∙ ap (λ (m : ℕ). inHalves m (intIn (datumOf [] v))) e ∙ rw (int-any s v) at (d .1) in
-    let l = ltb-true (magnitudeOf (intIn (datumOf [] v))) ((most + 1) / 2) t in
-    omega arith
-
+-- ---- a number that the code may take apart
 pub year-least : (s : List ℕ) (v : Value) → isIn YearByte s v ≡ true → 1900 ≤ numberIn (datumOf [] v)
 unfolding isIn domain
 year-least s v h =
     let w = both-true (isLent s v) _ h in
-    let d = both-true (eqb (tag (datumOf s v)) 5) _ (w .1) in
+    let d = both-true (isYear (datumOf s v)) _ (w .1) in
     let t = both-true (leb 1900 (numberIn (datumOf s v))) _ (d .1) in
     rw (number-any s v) at (leb-true 1900 (numberIn (datumOf s v)) (t .0))
 
@@ -199,9 +192,9 @@ pub put-unsigned : (k : ℕ) (s : List ℕ) (v : Value) → k ≤ 8 → bytesOf 
 unfolding bytesOf
 put-unsigned k s v h = rw (narrow k h, number-any s v)
 
-pub put-signed : (k most : ℕ) (s : List ℕ) (v : Value) → k ≤ 8 → most + 1 ≡ 256 ^ k → bytesOf (Signed k) (datumOf s v) ≡ leBytes (min k 8) (twosOf (most + 1) (intIn (datumOf [] v)))
+pub put-signed : (k : ℕ) (s : List ℕ) (v : Value) → k ≤ 8 → bytesOf (Signed k) (datumOf s v) ≡ leBytes (min k 8) (twosOf (256 ^ min k 8) (intIn (datumOf [] v)))
 unfolding bytesOf
-put-signed k most s v h m = rw (narrow k h, m, int-any s v)
+put-signed k s v h = rw (narrow k h, int-any s v)
 
 pub put-float : (s : List ℕ) (v : Value) → bytesOf FloatBits (datumOf s v) ≡ leBytes 4 (numberIn (datumOf [] v))
 unfolding bytesOf
@@ -228,7 +221,7 @@ pub put-timed : (k : Kind) (s : List ℕ) (v : Value) (buf : List ℕ) (at : ℕ
 unfolding isIn domain bytesOf writeTemporal
 put-timed k s v buf at h =
     let w = both-true (isLent s v) _ h in
-    let d = both-true (eqb (tag (datumOf s v)) 6) _ (w .1) in
+    let d = both-true (isWhen (datumOf s v)) _ (w .1) in
     let t : timedDomain k (whenIn (datumOf [] v)) ≡ true = rw (when-any s v) at (d .1) in
     rw (t, when-any s v)
 

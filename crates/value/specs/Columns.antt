@@ -49,41 +49,48 @@ familyOf t =
     (cond (eqb t 255) Blob
     Unknown)))))))))))))))))))))))))))))
 
--- ---- what the family alone tells: whether there is such a type, how many bytes of metadata it has, and whether it is numeric.
--- "Numeric are types 1, 2, 3, 4, 5, 8, 9, 246": to these document 01 gives a signedness bit
-unfoldable pub traitsOf : Family → Bool × ℕ × Bool
-traitsOf (Integer k) = (true, 0, true)
-traitsOf Float = (true, 1, true)
-traitsOf Double = (true, 1, true)
-traitsOf Year = (true, 0, false)
-traitsOf Timestamp = (true, 0, false)
-traitsOf Date = (true, 0, false)
-traitsOf Time = (true, 0, false)
-traitsOf Datetime = (true, 0, false)
-traitsOf Timestamp2 = (true, 1, false)
-traitsOf Datetime2 = (true, 1, false)
-traitsOf Time2 = (true, 1, false)
-traitsOf Varchar = (true, 2, false)
-traitsOf Char = (true, 2, false)
-traitsOf Blob = (true, 1, false)
-traitsOf Json = (true, 1, false)
-traitsOf Bit = (true, 2, false)
-traitsOf Decimal = (true, 2, true)
-traitsOf Enum = (true, 2, false)
-traitsOf Set = (true, 2, false)
-traitsOf Unknown = (false, 0, false)
+-- ---- what the family alone tells
+pub record Traits : Type 0 where
+  -- whether there is such a type
+  pub known : Bool
+  -- how many bytes of metadata it has
+  pub metadata : ℕ
+  -- "Numeric are types 1, 2, 3, 4, 5, 8, 9, 246": to these document 01 gives a signedness bit
+  pub numeric : Bool
+
+unfoldable pub traitsOf : Family → Traits
+traitsOf (Integer k) = record { known = true; metadata = 0; numeric = true }
+traitsOf Float = record { known = true; metadata = 1; numeric = true }
+traitsOf Double = record { known = true; metadata = 1; numeric = true }
+traitsOf Year = record { known = true; metadata = 0; numeric = false }
+traitsOf Timestamp = record { known = true; metadata = 0; numeric = false }
+traitsOf Date = record { known = true; metadata = 0; numeric = false }
+traitsOf Time = record { known = true; metadata = 0; numeric = false }
+traitsOf Datetime = record { known = true; metadata = 0; numeric = false }
+traitsOf Timestamp2 = record { known = true; metadata = 1; numeric = false }
+traitsOf Datetime2 = record { known = true; metadata = 1; numeric = false }
+traitsOf Time2 = record { known = true; metadata = 1; numeric = false }
+traitsOf Varchar = record { known = true; metadata = 2; numeric = false }
+traitsOf Char = record { known = true; metadata = 2; numeric = false }
+traitsOf Blob = record { known = true; metadata = 1; numeric = false }
+traitsOf Json = record { known = true; metadata = 1; numeric = false }
+traitsOf Bit = record { known = true; metadata = 2; numeric = false }
+traitsOf Decimal = record { known = true; metadata = 2; numeric = true }
+traitsOf Enum = record { known = true; metadata = 2; numeric = false }
+traitsOf Set = record { known = true; metadata = 2; numeric = false }
+traitsOf Unknown = record { known = false; metadata = 0; numeric = false }
 
 unfoldable pub isKnown : Family → Bool
 unfolding traitsOf
-isKnown f = traitsOf f .0
+isKnown f = traitsOf f .known
 
 unfoldable pub metadataBytes : Family → ℕ
 unfolding traitsOf
-metadataBytes f = traitsOf f .1
+metadataBytes f = traitsOf f .metadata
 
 unfoldable pub isNumeric : Family → Bool
 unfolding traitsOf
-isNumeric f = traitsOf f .2
+isNumeric f = traitsOf f .numeric
 
 -- ---- the real type. "m0 or-ed with 0x30": the two bits of 0x30 set, the others as they are
 abbrev pub or30 : ℕ → ℕ
@@ -97,6 +104,34 @@ realType t m0 = cond (eqb t 10) 14 (cond (eqb t 254) (or30 m0) t)
 -- "254: m1 + 16·((m0 and 0x30) xor 0x30)"
 abbrev pub charLength : ℕ → ℕ → ℕ
 charLength m0 m1 = m1 + 16 * (48 - m0 / 16 % 4 * 16)
+
+-- the declared length of a string, in bytes: "15, 253: declared length m0+256·m1", and that of 254; other types declare none
+unfoldable pub declaredIn : Family → ℕ → ℕ → ℕ
+declaredIn (Integer k) m0 m1 = 0
+declaredIn Float m0 m1 = 0
+declaredIn Double m0 m1 = 0
+declaredIn Year m0 m1 = 0
+declaredIn Timestamp m0 m1 = 0
+declaredIn Date m0 m1 = 0
+declaredIn Time m0 m1 = 0
+declaredIn Datetime m0 m1 = 0
+declaredIn Timestamp2 m0 m1 = 0
+declaredIn Datetime2 m0 m1 = 0
+declaredIn Time2 m0 m1 = 0
+declaredIn Varchar m0 m1 = m0 + 256 * m1
+declaredIn Char m0 m1 = charLength m0 m1
+declaredIn Blob m0 m1 = 0
+declaredIn Json m0 m1 = 0
+declaredIn Bit m0 m1 = 0
+declaredIn Decimal m0 m1 = 0
+declaredIn Enum m0 m1 = 0
+declaredIn Set m0 m1 = 0
+declaredIn Unknown m0 m1 = 0
+
+-- the same by the type
+unfoldable pub declaredLength : ℕ → ℕ → ℕ → ℕ
+unfolding familyOf declaredIn
+declaredLength t m0 m1 = declaredIn (familyOf t) m0 m1
 
 -- "Declared below 256: one length byte, else two"
 abbrev pub lengthBytes : ℕ → ℕ
@@ -120,7 +155,7 @@ abbrev pub given : Bool → Shape → Shape
 given t sh = cond t sh (NotTaken 5)
 
 unfoldable pub shapeIn : Family → ℕ → ℕ → Bool → Shape
-unfolding decimalBytes
+unfolding declaredIn decimalBytes
 shapeIn (Integer k) m0 m1 unsigned = given (eqb m0 0 && eqb m1 0) (cond unsigned (Unsigned k) (Signed k))
 shapeIn Float m0 m1 unsigned = given (eqb m0 4 && eqb m1 0) FloatBits
 shapeIn Double m0 m1 unsigned = given (eqb m0 8 && eqb m1 0) DoubleBits
@@ -132,8 +167,8 @@ shapeIn Datetime m0 m1 unsigned = given (eqb m0 0 && eqb m1 0) (Timed OldDatetim
 shapeIn Timestamp2 m0 m1 unsigned = given (leb m0 6 && eqb m1 0) (Timed (StoredTimestamp2 m0))
 shapeIn Datetime2 m0 m1 unsigned = given (leb m0 6 && eqb m1 0) (Timed (StoredDatetime2 m0))
 shapeIn Time2 m0 m1 unsigned = given (leb m0 6 && eqb m1 0) (Timed (StoredTime2 m0))
-shapeIn Varchar m0 m1 unsigned = Counted (lengthBytes (m0 + 256 * m1))
-shapeIn Char m0 m1 unsigned = given (eqb (or30 m0) 254) (Counted (lengthBytes (charLength m0 m1)))
+shapeIn Varchar m0 m1 unsigned = Counted (lengthBytes (declaredIn Varchar m0 m1))
+shapeIn Char m0 m1 unsigned = given (eqb (or30 m0) 254) (Counted (lengthBytes (declaredIn Char m0 m1)))
 shapeIn Blob m0 m1 unsigned = given (leb 1 m0 && (leb m0 4 && eqb m1 0)) (Counted m0)
 shapeIn Json m0 m1 unsigned = given (eqb m0 4 && eqb m1 0) (Counted 4)
 shapeIn Bit m0 m1 unsigned = given (leb m0 7 && (leb 1 (8 * m1 + m0) && leb (8 * m1 + m0) 64)) (Fixed ((8 * m1 + m0 + 7) / 8))

@@ -4,13 +4,11 @@ use mathlib.Core.Bool.{Bool, cond, _&&_}
 use mathlib.Core.List.{List}
 use lib.ListN.{length}
 use lib.Dec.{leb}
-use Rattle.wire.specs.Outcome.{Outcome, ok, refused, refuse, after}
+use Rattle.wire.specs.Outcome.{Outcome, ok, refuse, after}
 use Rattle.wire.specs.Stored.{store}
 use Rattle.value.specs.declared.shape.Shape.{Shape}
 use Rattle.value.specs.declared.datum.Value.{Value}
 use Rattle.value.specs.declared.datum.Value.the-variants.{Null, Int, Uint, Float, Double, Year, When, Bytes}
-use Rattle.value.specs.declared.storing.Size.{Size}
-use Rattle.value.specs.declared.storing.Size.the-variants.{Takes, Refused}
 use Rattle.value.specs.Domains.{domain}
 use Rattle.value.specs.Shapes.{bytesOf}
 use Rattle.value.specs.Reading.{taken, datumOf}
@@ -60,8 +58,3 @@ sizeOf sh p s v = after (storedBytes sh p s v) (λ b. ok (length b))
 unfoldable pub writeValue : Shape → ℕ → List ℕ → Value → List ℕ → ℕ → Outcome (ℕ × List ℕ)
 unfolding storedBytes store
 writeValue sh p s v buf at = after (storedBytes sh p s v) (λ b. store buf at b)
-
--- what the answer of a call for the size says
-abbrev pub sizeSaid : Size → Outcome ℕ
-sizeSaid (Takes n) = ok n
-sizeSaid (Refused r) = refused r

@@ -4,11 +4,12 @@ use crate::shape::is_taken;
 use temporal::Kind;
 use wire::refusal::BAD_METADATA;
 use wire::refusal::TYPE_NOT_TAKEN;
+use wire::wide;
 ghost use mathlib.Core.Path.{_≡_};
 ghost use mathlib.Core.Bool.{false, cond, _&&_, _||_};
 ghost use Prim.Native.Nat.{_≤_, _<_};
 ghost use lib.Dec.{leb, eqb};
-ghost use Rattle.value.specs.Columns.{familyOf, metadataBytes, isKnown, or30, realType, lengthBytes, leftoverBytes, digitsBytes, decimalBytes, given, shapeIn, shapeOf, isTaken, isMysql, isMariadb, isNumeric, hasSignBit, isCharacter, hasCharset, isEnumOrSet};
+ghost use Rattle.value.specs.Columns.{familyOf, metadataBytes, isKnown, or30, realType, declaredIn, declaredLength, lengthBytes, leftoverBytes, digitsBytes, decimalBytes, given, shapeIn, shapeOf, isTaken, isMysql, isMariadb, isNumeric, hasSignBit, isCharacter, hasCharset, isEnumOrSet};
 ghost use Rattle.value.specs.declared.column.Family.the-variants.{Char, Blob, Bit, Decimal, Enum, Set};
 ghost use Rattle.value.specs.declared.shape.Shape.the-variants.{Unsigned, Signed};
 
@@ -162,11 +163,22 @@ pub fn real_type(kind: u8, m0: u8) -> u8
     kind
 }
 
-// A byte as a usize. The contract spares callers the proof that the cast keeps it.
-fn wide(x: u8) -> usize
-    ensures { λ r. ⌜ r ≡ x ⌝ }
+// The declared length of a string, in bytes; other families declare none. That of a CHAR is m1 and, above it, two bits of m0 that are kept inverted.
+fn declared_in(family: Family, m0: u8, m1: u8) -> usize
+    ensures { λ r. ⌜ r ≡ declaredIn family m0 m1 ⌝ }
 {
-    x as usize
+    match family {
+        Family::Varchar => (wide(m0) + 256 * wide(m1)) as usize,
+        Family::Char => (wide(m1) + 16 * (48 - wide(m0) / 16 % 4 * 16)) as usize,
+        _ => 0,
+    }
+}
+
+// The same of a column.
+pub fn declared_length(column: Column) -> usize
+    ensures { λ r. ⌜ r ≡ declaredLength (column .kind) (column .m0) (column .m1) ⌝ }
+{
+    declared_in(family_of(column.kind), column.m0, column.m1)
 }
 
 // How many bytes the length of a string takes, by the declared length.
@@ -193,7 +205,8 @@ fn leftover_bytes(digits: usize) -> usize
 fn digits_bytes(digits: u8) -> usize
     ensures { λ r. ⌜ r ≡ digitsBytes digits ⌝ }
 {
-    wide(digits) / 9 * 4 + leftover_bytes(wide(digits) % 9)
+    let n = wide(digits) as usize;
+    n / 9 * 4 + leftover_bytes(n % 9)
 }
 
 // How many bytes a decimal takes.
@@ -239,13 +252,11 @@ fn integer_shape(width: usize, unsigned: bool) -> Shape
     Shape::Signed(width)
 }
 
-// The declared length is m1 and, above it, two bits of m0 that are kept inverted.
 fn char_shape(m0: u8, m1: u8) -> Shape
     ensures { λ r. ⌜ r ≡ shapeIn Char m0 m1 false ⌝ }
 {
     if or_30(m0) == 254 {
-        let declared = wide(m1) + 16 * (48 - wide(m0) / 16 % 4 * 16);
-        return Shape::Counted(length_bytes(declared));
+        return Shape::Counted(length_bytes(declared_in(Family::Char, m0, m1)));
     }
     Shape::NotTaken(BAD_METADATA)
 }
@@ -260,7 +271,7 @@ fn blob_shape(m0: u8, m1: u8) -> Shape
         return Shape::NotTaken(BAD_METADATA);
     }
     if m1 == 0 {
-        return Shape::Counted(wide(m0));
+        return Shape::Counted(wide(m0) as usize);
     }
     Shape::NotTaken(BAD_METADATA)
 }
@@ -271,7 +282,7 @@ fn bit_shape(m0: u8, m1: u8) -> Shape
     if 7 < m0 {
         return Shape::NotTaken(BAD_METADATA);
     }
-    let bits = 8 * wide(m1) + wide(m0);
+    let bits = (8 * wide(m1) + wide(m0)) as usize;
     if bits < 1 {
         return Shape::NotTaken(BAD_METADATA);
     }
@@ -308,7 +319,7 @@ fn enum_shape(m1: u8) -> Shape
     if 2 < m1 {
         return Shape::NotTaken(BAD_METADATA);
     }
-    Shape::Unsigned(wide(m1))
+    Shape::Unsigned(wide(m1) as usize)
 }
 
 fn set_shape(m1: u8) -> Shape
@@ -318,7 +329,7 @@ fn set_shape(m1: u8) -> Shape
         return Shape::NotTaken(BAD_METADATA);
     }
     if m1 <= 4 {
-        return Shape::Fixed(wide(m1));
+        return Shape::Fixed(wide(m1) as usize);
     }
     if m1 == 8 {
         return Shape::Fixed(8);
@@ -342,7 +353,7 @@ fn shape_in(family: Family, m0: u8, m1: u8, unsigned: bool) -> Shape
         Family::Timestamp2 => if_digits(m0, m1, Shape::Timed(Kind::Timestamp2 { m0 })),
         Family::Datetime2 => if_digits(m0, m1, Shape::Timed(Kind::Datetime2 { m0 })),
         Family::Time2 => if_digits(m0, m1, Shape::Timed(Kind::Time2 { m0 })),
-        Family::Varchar => Shape::Counted(length_bytes(wide(m0) + 256 * wide(m1))),
+        Family::Varchar => Shape::Counted(length_bytes(declared_in(Family::Varchar, m0, m1))),
         Family::Char => char_shape(m0, m1),
         Family::Blob => blob_shape(m0, m1),
         Family::Json => if_just(m0, m1, 4, Shape::Counted(4)),

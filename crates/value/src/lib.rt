@@ -4,12 +4,12 @@ pub mod column;
 mod datum;
 mod reading;
 mod shape;
-mod signed;
 mod storing;
 
 pub use column::Column;
 pub use column::Dialect;
 pub use column::Family;
+pub use column::declared_length;
 pub use column::family_of;
 pub use column::has_charset;
 pub use column::has_sign_bit;
@@ -25,15 +25,15 @@ pub use datum::Value;
 pub use reading::Read;
 use reading::read_shape;
 pub use shape::Shape;
-pub use storing::Size;
 use storing::size_shape;
 use storing::write_shape;
+use wire::Size;
 use wire::Written;
 ghost use mathlib.Core.Path.{_≡_};
-ghost use Rattle.wire.specs.Stored.{answerOf, leftOf, writtenOf};
+ghost use Rattle.wire.specs.Stored.{answerOf, leftOf, writtenOf, sizeSaid};
 ghost use Rattle.value.specs.Columns.{shapeOf};
 ghost use Rattle.value.specs.Reading.{readValue, readOf};
-ghost use Rattle.value.specs.Storing.{writeValue, sizeOf, sizeSaid};
+ghost use Rattle.value.specs.Storing.{writeValue, sizeOf};
 
 // ---- a value of a column at a place; `place` is what a refusal tells
 

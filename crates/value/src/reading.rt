@@ -1,8 +1,6 @@
 // A stored value read, by its shape (binlog/value.rs: BinlogValue::deserialize).
 use crate::datum::Value;
 use crate::shape::Shape;
-use crate::signed::signed;
-use crate::signed::top;
 use temporal::Kind;
 use temporal::TemporalRead;
 use wire::Refusal;
@@ -75,8 +73,7 @@ fn read_signed(k: usize, s: &[u8], at: usize, place: usize) -> Read
     }
     let next = at + k;
     let x = wire::read_le(s, at, k);
-    let most = top(k);
-    let value = Value::Int(signed(x, most));
+    let value = Value::Int(wire::signed_of(k, x));
     Read::Got { value, next }
 }
 

@@ -3,7 +3,7 @@ use mathlib.Core.Path.{sym, ap, _∙_}
 use native.Mathlib.Omega.{arith}
 use Rattle.image.specs.Split.{cursor}
 use Rattle.image.specs.Puts.{putFrom}
-use Rattle.feed_abi.specs.Parts.{madeOf}
+use Rattle.value_parts.specs.Parts.{madeOf}
 use Rattle.feed_abi.specs.Calls.{cursorNumbers, feedPut}
 use Rattle.feed_abi.proofs.Tells.{no-bytes, wrote-told, not-called}
 use borrow.Author.Needs.{needs}
@@ -12,7 +12,7 @@ use Rattle.feed_abi.proofs.rows.feed_put.Tie as tie
 use Rattle.feed_abi.proofs.rows.feed_put.Reads as reads
 use Rattle.feed_abi.proofs.rows.feed_put.Lts as lts
 use Rattle.feed_abi.proofs.answer.tell_refusal.Reads as tell-refusal-reads
-use Rattle.feed_abi.proofs.parts.value_of.Reads as value-of-reads
+use Rattle.value_parts.proofs.value_of.Reads as value-of-reads
 use Rattle.feed_abi.proofs.rows.tell_put.Reads as tell-put-reads
 use Rattle.image.proofs.cursor.Cursor.put.Reads as put-reads
 

@@ -1,5 +1,5 @@
 -- `feed_abi::rows::tell_end` meets its contract. Assumes nothing.
-use Rattle.feed_abi.specs.Parts.{padded}
+use Rattle.value_parts.specs.Parts.{padded}
 use borrow.Author.Needs.{needs}
 use Rattle.feed_abi.proofs.rows.tell_end.Statement.{statement}
 use Rattle.feed_abi.proofs.rows.tell_end.Tie as tie

@@ -8,8 +8,8 @@ use Rattle.feed_abi.proofs.rows.tell_value.Tie as tie
 use Rattle.feed_abi.proofs.rows.tell_value.Reads as reads
 use Rattle.feed_abi.proofs.rows.tell_value.Lts as lts
 use Rattle.feed_abi.proofs.answer.put_numbers.Reads as put-numbers-reads
-use Rattle.feed_abi.proofs.parts.kind_of.Reads as kind-of-reads
-use Rattle.feed_abi.proofs.parts.parts_of.Reads as parts-of-reads
+use Rattle.value_parts.proofs.kind_of.Reads as kind-of-reads
+use Rattle.value_parts.proofs.parts_of.Reads as parts-of-reads
 
 kind-of-requires : tie.Need-kind-of-requires
 kind-of-requires c κs = search needs
