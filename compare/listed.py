@@ -4,6 +4,8 @@
 None for a difference that is not listed. An entry is told by what the bytes say and by what the Rust answered, never by our own answer alone; where an entry says what document
 01 asks instead, our answer must be that.
 """
+from document.packed import pack as shortest
+
 EQUAL = "equal"
 BOTH_REFUSE = "refused by both"
 STEPPED_OVER = "equal, but for decimals and JSON, which the comparison steps over"
@@ -214,13 +216,6 @@ def packed_at(s, at):
     """a packed integer and the offset behind it"""
     size = {252: 2, 253: 3, 254: 8}.get(s[at])
     return (s[at], at + 1) if size is None else (int.from_bytes(s[at + 1:at + 1 + size], "little"), at + 1 + size)
-
-
-def shortest(value):
-    if value < 251:
-        return bytes([value])
-    size, first = next((k, f) for k, f in ((2, 252), (3, 253), (8, 254)) if value < 256 ** k)
-    return bytes([first]) + value.to_bytes(size, "little")
 
 
 def without_spare(value, bits):

@@ -23,5 +23,6 @@ def answers(lines):
         raise NoAnswer("the program cases has not answered within %d seconds" % LONGEST_RUN)
     got = run.stdout.decode("latin-1").split("\n")[:-1]
     if len(got) != len(lines):
-        raise NoAnswer("the program cases gave %d answers to %d lines\n%s" % (len(got), len(lines), run.stderr.decode("latin-1")))
+        last = " (the first without one: %s)" % lines[len(got)][:200] if 0 < len(got) < len(lines) else ""
+        raise NoAnswer("the program cases gave %d answers to %d lines%s\n%s" % (len(got), len(lines), last, run.stderr.decode("latin-1")))
     return got

@@ -63,7 +63,8 @@ def turning_columns():
 
 def edge_columns():
     """each real type, with its metadata at the edges"""
-    few = {15: (0, 1, 254, 255), 253: (0, 1, 255), 246: (1, 9, 10, 18, 30, 31, 64, 65, 0, 29), 247: (1, 2, 247, 231), 248: (1, 2, 3, 4, 8, 200), 254: (0, 1, 254, 255, 206, 222, 238)}
+    few = {15: (0, 1, 254, 255), 253: (0, 1, 255), 246: (0, 1, 9, 10, 18, 29, 30, 31, 64, 65), 247: (1, 2, 231, 247), 248: (1, 2, 3, 4, 8, 200),
+           254: (0, 1, 206, 222, 238, 254, 255)}
     for kind in REAL_TYPES:
         for m0, m1 in all_metadata(kind):
             if real_type(kind, m0) == kind and {m0, m1} <= set(few.get(kind, range(256))):
@@ -119,8 +120,10 @@ def edge_numbers(size, signed):
 
 
 # one of each kind, which most columns do not take
-OTHERS = (("null",), ("int", 0), ("int", -1), ("uint", 0), ("uint", 1), ("float", 0), ("double", 0), ("seconds", 0, 0), ("year", 1900), ("date", 0, 0, 0), ("datetime", 0, 0, 0, 0, 0, 0, 0),
-          ("time", "+", 0, 0, 0, 0), ("time", "-", 0, 0, 0, 0), ("bytes", b""), ("bytes", b"\0"))
+OTHERS = (
+    ("null",), ("int", 0), ("int", -1), ("uint", 0), ("uint", 1), ("float", 0), ("double", 0), ("seconds", 0, 0), ("year", 1900), ("date", 0, 0, 0),
+    ("datetime", 0, 0, 0, 0, 0, 0, 0), ("time", "+", 0, 0, 0, 0), ("time", "-", 0, 0, 0, 0), ("bytes", b""), ("bytes", b"\0"),
+)
 
 
 def edge_values(column):
@@ -153,11 +156,15 @@ def edge_values(column):
 
 # columns that together have every rule of a domain
 RULED = [
-    *(Column(kind, 0, 0, unsigned) for kind in values.INTEGERS for unsigned in (0, 1)), Column(4, 4, 0), Column(5, 8, 0), Column(13, 0, 0), Column(247, 247, 1), Column(247, 0, 2),
-    Column(248, 248, 1), Column(248, 0, 8), Column(16, 1, 0), Column(16, 0, 8), Column(16, 7, 1), Column(245, 4, 0), *(Column(252, m0, 0) for m0 in (1, 2, 3, 4)), Column(242, 1, 0), Column(255, 4, 0),
-    Column(15, 255, 0), Column(15, 0, 1), Column(253, 255, 0), Column(253, 0, 1), Column(254, 254, 255), Column(254, 238, 0), Column(254, 206, 255),
-    *(Column(246, digits, scale) for digits in range(1, 10) for scale in (0, digits)), Column(246, 65, 30), Column(246, 19, 9),
-    Column(7, 0, 0), Column(11, 0, 0), Column(12, 0, 0), Column(14, 0, 0), *(Column(kind, m0, 0) for kind in (17, 18, 19) for m0 in (0, 1, 2, 3, 4, 5, 6)),
+    *(Column(kind, 0, 0, unsigned) for kind in values.INTEGERS for unsigned in (0, 1)),
+    Column(4, 4, 0), Column(5, 8, 0), Column(13, 0, 0), Column(247, 247, 1), Column(247, 0, 2), Column(248, 248, 1), Column(248, 0, 8),
+    Column(16, 1, 0), Column(16, 0, 8), Column(16, 7, 1), Column(246, 65, 30), Column(246, 19, 9),
+    *(Column(246, digits, scale) for digits in range(1, 10) for scale in (0, digits)),
+    *(Column(252, m0, 0) for m0 in (1, 2, 3, 4)), Column(242, 1, 0), Column(245, 4, 0), Column(255, 4, 0),
+    *(Column(kind, m0, m1) for kind in (15, 253) for m0, m1 in ((255, 0), (0, 1))),
+    Column(254, 254, 255), Column(254, 238, 0), Column(254, 206, 255),
+    *(Column(kind, 0, 0) for kind in (7, 11, 12, 14)),
+    *(Column(kind, m0, 0) for kind in (17, 18, 19) for m0 in range(7)),
 ]
 
 
@@ -172,19 +179,26 @@ def rule_values():
         yield Column(15, 255, 255), ("bytes", b"a" * size)
 
 
+# types with metadata at each bound and one past it, and bytes of metadata that a type does not have
+BOUNDS = (
+    ((0, 6, 10, 20, 21, 241, 243, 244), ((0, 0), (4, 0), (1, 1))),
+    ((1, 3, 7, 9, 11, 12, 13, 14), ((0, 0), (1, 0), (0, 1))),
+    ((4,), ((3, 0), (4, 0), (5, 0), (4, 1))),
+    ((5,), ((7, 0), (8, 0), (9, 0), (8, 1))),
+    ((17, 18, 19), ((0, 0), (6, 0), (7, 0), (0, 1))),
+    ((242, 249, 250, 251, 252, 255), ((0, 0), (1, 0), (4, 0), (5, 0), (1, 1))),
+    ((245,), ((3, 0), (4, 0), (5, 0), (4, 1))),
+    ((15, 253), ((0, 0), (255, 0), (0, 1), (255, 255))),
+    ((16,), ((0, 0), (1, 0), (7, 0), (8, 0), (0, 1), (7, 7), (0, 8), (1, 8), (8, 7), (0, 9))),
+    ((246,), ((0, 0), (1, 0), (1, 1), (1, 2), (30, 30), (31, 30), (31, 31), (65, 0), (65, 30), (65, 31), (66, 0), (5, 6))),
+    ((247,), ((0, 0), (247, 1), (247, 2), (247, 3), (8, 1))),
+    ((248,), tuple((248, m1) for m1 in range(10))),
+    ((254,), tuple((m0, 1) for m0 in (0, 199, 200, 205, 206, 207, 222, 223, 238, 247, 248, 253, 254, 255))),
+)
+
+
 def rule_columns():
-    """metadata at each bound and one past it, and bytes of metadata that a type does not have"""
-    bounds = {
-        (4,): ((3, 0), (4, 0), (5, 0), (4, 1)), (5,): ((7, 0), (8, 0), (9, 0), (4, 0)), (17, 18, 19): ((0, 0), (6, 0), (7, 0), (0, 1)), (1, 3, 7, 9, 11, 12, 13, 14): ((0, 0), (1, 0), (0, 1)),
-        (242, 249, 250, 251, 252, 255): ((0, 0), (1, 0), (4, 0), (5, 0), (1, 1)), (245,): ((3, 0), (4, 0), (5, 0), (4, 1)), (15, 253): ((0, 0), (255, 0), (0, 1), (255, 255)),
-        (16,): ((0, 0), (1, 0), (7, 0), (8, 0), (0, 1), (7, 7), (0, 8), (1, 8), (8, 7), (0, 9)), (0, 6, 10, 20, 21, 241, 243, 244): ((0, 0), (4, 0), (1, 1)),
-        (246,): ((0, 0), (1, 0), (1, 1), (1, 2), (30, 30), (31, 30), (31, 31), (65, 0), (65, 30), (65, 31), (66, 0), (5, 6)), (247,): ((0, 0), (247, 1), (247, 2), (247, 3), (8, 1)),
-        (248,): tuple((248, m1) for m1 in (0, 1, 2, 3, 4, 5, 6, 7, 8, 9)), (254,): tuple((m0, 1) for m0 in (0, 199, 200, 205, 206, 207, 222, 223, 238, 247, 248, 253, 254, 255)),
-    }
-    for kinds, pairs in bounds.items():
-        for kind in kinds:
-            for m0, m1 in pairs:
-                yield Column(kind, m0, m1)
+    return [Column(kind, m0, m1) for kinds, pairs in BOUNDS for kind in kinds for m0, m1 in pairs]
 
 
 @lru_cache(2000)
@@ -252,5 +266,6 @@ def some_stored(rng, column):
     stored = rng.choice(loose_stored(column))
     k = temporal.fraction_bytes(column.type, column.m0)
     if k and chance(rng, 3):
-        stored = stored[:-k] + rng.choice((0, 1, 99, 100, 156, 157, 9999, 10000, 55536, 55537, 999999, 10 ** 6, rng.randrange(256 ** k))).to_bytes(4, "big")[-k:]
+        fraction = rng.choice((0, 1, 99, 100, 156, 157, 9999, 10000, 55536, 55537, 999999, 10 ** 6, rng.randrange(256 ** k)))
+        stored = stored[:-k] + fraction.to_bytes(4, "big")[-k:]
     return stored

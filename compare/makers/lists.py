@@ -33,7 +33,8 @@ def some_list(rng, kind):
 
 def hostile_list(rng):
     """a count or length that no bytes can carry, behind a good item or none"""
-    return rng.choice((b"", b"\x01", b"\x01\x01\x61", b"\x02\x00\x00")) + rng.choice(list(longer(rng.choice(NUMBERS)))) + rng.choice((b"", b"\x00", b"\x01\x61", b"\x00" * 9))
+    hostile = rng.choice(list(longer(rng.choice(NUMBERS))))
+    return rng.choice((b"", b"\x01", b"\x01\x01\x61", b"\x02\x00\x00")) + hostile + rng.choice((b"", b"\x00", b"\x01\x61", b"\x00" * 9))
 
 
 def some_items(rng, kind):

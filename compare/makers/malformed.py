@@ -1,15 +1,20 @@
 """Lines that are malformed, or nearly: the answer to most is `bad`."""
-from .some import MAKERS, TWO64, line, maker, some_bytes
+from .some import MAKERS, TWO64, maker, some_bytes
 
 # words that stand for others, each one malformed in some place or in all
-WORDS = ("", "-", "--", "-1", "+1", "0", "00", "1", "255", "256", "65535", "65536", "262144", "262145", "0x1", "1.0", "1e3", "a", "0a", "0A", "aA", "g0", "abc", "\xb2", "\xff", "\x00", "1\r", "\t1",
-         "00000000000000000001", "000000000000000000001", str(TWO64 - 1), str(TWO64), "99999999999999999999", "100000000000000000000", "null", "nul", "NULL", "null:", "int", "int:", "int:-", "int:-0",
-         "int:+1", "int:--1", "int:1:2", "int:0000000000000000001", "int:00000000000000000001", "int:9223372036854775807", "int:9223372036854775808", "int:-9223372036854775808",
-         "int:-9223372036854775809", "uint:-0", "uint:" + str(TWO64 - 1), "uint:" + str(TWO64), "float:4294967295", "float:4294967296", "double:" + str(TWO64 - 1), "double:" + str(TWO64), "seconds:1",
-         "seconds:4294967295:4294967295", "seconds:4294967296:0", "seconds:0:4294967296", "year:65535", "year:65536", "year:-1", "date:1:2", "date:1:2:3:4", "date:65536:0:0", "date:65535:255:255",
-         "date:0:256:0", "date:0:0:256", "datetime:1:2:3:4:5:6", "datetime:65535:255:255:255:255:255:4294967295", "datetime:0:0:0:0:0:0:4294967296", "datetime:0:0:0:0:0:256:0", "time:+:1:2:3",
-         "time:1:2:3:4", "time:*:1:2:3:4", "time::1:2:3:4", "time:-:65535:255:255:4294967295", "time:+:65536:0:0:0", "time:+:0:256:0:0", "time:+:0:0:256:0", "time:+:0:0:0:4294967296", "bytes", "bytes:",
-         "bytes:-", "bytes:0", "bytes:00:00", "bytes:0G", "document", "mysql", "mariadb", "Mysql", "integers", "pairs", "charsets", "strings", "groups", "integer")
+WORDS = (
+    "", "-", "--", "-1", "+1", "0", "00", "1", "255", "256", "65535", "65536", "262144", "262145", "0x1", "1.0", "1e3", "a", "0a", "0A", "aA", "g0", "abc",
+    "\xb2", "\xff", "\x00", "1\r", "\t1", "00000000000000000001", "000000000000000000001", "99999999999999999999", "100000000000000000000",
+    str(TWO64 - 1), str(TWO64), "null", "nul", "NULL", "null:", "int", "int:", "int:-", "int:-0", "int:+1", "int:--1", "int:1:2", "int:0000000000000000001", "int:00000000000000000001",
+    "int:9223372036854775807", "int:9223372036854775808", "int:-9223372036854775808", "int:-9223372036854775809",
+    "uint:-0", "uint:%d" % (TWO64 - 1), "uint:%d" % TWO64, "float:4294967295", "float:4294967296", "double:%d" % (TWO64 - 1), "double:%d" % TWO64,
+    "seconds:1", "seconds:4294967295:4294967295", "seconds:4294967296:0", "seconds:0:4294967296", "year:65535", "year:65536", "year:-1",
+    "date:1:2", "date:1:2:3:4", "date:65535:255:255", "date:65536:0:0", "date:0:256:0", "date:0:0:256",
+    "datetime:1:2:3:4:5:6", "datetime:65535:255:255:255:255:255:4294967295", "datetime:0:0:0:0:0:0:4294967296", "datetime:0:0:0:0:0:256:0",
+    "time:+:1:2:3", "time:1:2:3:4", "time:*:1:2:3:4", "time::1:2:3:4", "time:-:65535:255:255:4294967295", "time:+:65536:0:0:0", "time:+:0:256:0:0",
+    "time:+:0:0:256:0", "time:+:0:0:0:4294967296", "bytes", "bytes:", "bytes:-", "bytes:0", "bytes:00:00", "bytes:0G",
+    "document", "mysql", "mariadb", "Mysql", "integers", "pairs", "charsets", "strings", "groups", "integer",
+)
 NAMES = ("", "packe", "packedx", "PACKED", "cases", "nothing", "bad", "ok", "-", "0")
 LONGEST = 262144
 
@@ -36,6 +41,17 @@ def spoilt(rng, good):
     return " ".join(words)
 
 
+def bad_rules(rng):
+    """each word where a word of its sort stands"""
+    for word in WORDS:
+        if ":" in word or word.startswith("n"):
+            yield "store 8 0 0 0 %s 9" % word
+        else:
+            yield from (place % word for place in ("packed %s 0", "packed 07 %s", "pack 7 %s", "value 1 0 0 %s 07", "write-event 1 %s - - - - - - 99", "list %s 07"))
+    yield from ("", " ", "packed", "packed ", "packed 07", "packed 07 0 ", " packed 07 0", "packed  07 0", "packed 07 0 0", "packed\t07 0")
+    yield from ("packed 07 0\r", "Packed 07 0", "check-as Mysql 8 00 9", "check-as mysql 8 00 9")
+
+
 def bad_edges(rng):
     yield from ("", " ", "\r", "-", "\x00", "\xff\xfe")
     goods = [MAKERS[kind][2](rng) for kind in MAKERS if kind != "bad" for _ in range(2)]
@@ -43,7 +59,8 @@ def bad_edges(rng):
         words = good.split(" ")
         if len(good) > 2000:
             continue
-        yield from (words[0], words[0] + " ", " " + good, good + " ", good + "\r", good + " 0", good.replace(" ", "  ", 1), good.replace(" ", "\t", 1), good.upper())
+        yield from (words[0], words[0] + " ", " " + good, good + " ", good + "\r", good + " 0", good.upper())
+        yield from (good.replace(" ", "  ", 1), good.replace(" ", "\t", 1))
         for at in range(len(words)):
             yield " ".join(words[:at])
             yield " ".join(words[:at] + words[at + 1:])
@@ -56,7 +73,7 @@ def bad_edges(rng):
         yield "packed 07 " + "0" * (size - 10)
 
 
-@maker("bad", bad_edges)
+@maker("bad", bad_edges, bad_rules)
 def bad(rng):
     if rng.randrange(20) == 0:
         return some_bytes(rng, rng.randrange(12)).decode("latin-1").replace("\n", " ")

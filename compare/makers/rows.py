@@ -274,7 +274,8 @@ def edge_images(rng):
 def image_rules(rng):
     """a column that is absent, a TINYINT, and a value at each bound of its column's domain and one past it"""
     for column, given in rule_values():
-        row = record_of([(Column(252, 1, 0), 8, 0), (Column(1, 0, 0), 8, 0), (column._replace(unsigned=0), 4 | column.unsigned if column.type in NUMERIC else 0, 0)])
+        flags = 4 | column.unsigned if column.type in NUMERIC else 0
+        row = record_of([(Column(252, 1, 0), 8, 0), (Column(1, 0, 0), 8, 0), (column, flags, 0)])
         if column.type in temporal.SIZES:
             yield line("image", row, b"\x06", b"\xfc\x05" + loosely(column, given))
         elif values.takes(column, given):

@@ -7,7 +7,8 @@ MAKERS = {}
 
 HOSTILE = (0, 1, 2, 5, 6, 7, 8, 12, 13, 14, 59, 60, 63, 99, 100, 127, 128, 250, 251, 252, 253, 254, 255)
 TWO64 = 2 ** 64
-NUMBERS = sorted({edge + d for edge in (0, 8, 250, 255, 2 ** 16, 2 ** 24, 2 ** 31, 2 ** 32, 2 ** 47, 2 ** 48, 2 ** 63, TWO64) for d in (-2, -1, 0, 1, 2) if 0 <= edge + d < TWO64})
+TURNS = (0, 8, 250, 255, 2 ** 16, 2 ** 24, 2 ** 31, 2 ** 32, 2 ** 47, 2 ** 48, 2 ** 63, TWO64)
+NUMBERS = sorted({turn + d for turn in TURNS for d in (-2, -1, 0, 1, 2) if 0 <= turn + d < TWO64})
 MOST_ROOM = 262144
 DIALECTS = ("document", "mysql", "mariadb")
 
@@ -53,7 +54,8 @@ def near(rng, number):
 
 def some_room(rng, size):
     """a room for so many bytes: most often enough, at times one too few"""
-    return rng.choice((size, size, size + 1, size + 2, size + 20, max(size - 1, 0), max(size - 1, 0), max(size - 2, 0), 0, rng.randrange(size + 1), MOST_ROOM, MOST_ROOM + 1))
+    less = max(size - 1, 0)
+    return rng.choice((size, size, size + 1, size + 2, size + 20, less, less, max(size - 2, 0), 0, rng.randrange(size + 1), MOST_ROOM, MOST_ROOM + 1))
 
 
 def longer(value):

@@ -3,7 +3,8 @@ from document import temporal, values
 from document.columns import Column
 from document.refusal import Refused
 
-from .columns import (OTHERS, edge_columns, edge_values_of, loose_stored, loosely, rule_columns, rule_values, some_bad_column, some_bad_value, some_column, some_stored, some_value, turning_columns)
+from .columns import (OTHERS, edge_columns, edge_values_of, loose_stored, loosely, rule_columns, rule_values, some_bad_column, some_bad_value, some_column,
+                      some_stored, some_value, turning_columns)
 from .some import NUMBERS, TWO64, chance, cuts, damaged, line, maker, some_bytes, some_number, some_room
 
 
