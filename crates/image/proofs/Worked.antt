@@ -14,7 +14,9 @@ use Rattle.temporal.specs.Ranges.{dayFault}
 use Rattle.value.specs.declared.datum.Value.the-variants.{Null, Int, Uint, Bytes}
 use Rattle.value.specs.Data.{null, int, uint, bytes, tag, intIn, numberIn, bytesIn}
 use Rattle.value.specs.Domains.{domain}
-use Rattle.value.specs.Columns.{familyOf, isNumeric, isCharacter, isEnumOrSet, shapeIn, shapeOf, isTaken}
+use Rattle.value.specs.Types.{familyOf, isNumeric}
+use Rattle.value.specs.Columns.{shapeIn, shapeOf, isTaken}
+use Rattle.value.specs.Classes.{isCharacter, isEnumOrSet}
 use Rattle.value.specs.Shapes.{bytesOf, need, decode, fault}
 use Rattle.value.specs.Reading.{taken, cut, judged, readDatum, datumOf}
 use Rattle.value.specs.Storing.{bytesAt, isLent, isIn, storedBytes}
