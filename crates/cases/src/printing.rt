@@ -119,6 +119,6 @@ pub(crate) fn put_value(out: &mut [u8], used: usize, value: Value, s: &[u8]) -> 
         Value::Double(bits) => put_named(out, used, b"double:", bits),
         Value::Year(year) => put_named(out, used, b"year:", year as u64),
         Value::When(temporal) => put_temporal(out, used, temporal),
-        Value::Bytes { start, len } => put_bytes(out, used, s, start, len),
+        Value::Bytes(part) => put_bytes(out, used, s, part.start, part.len),
     }
 }

@@ -15,6 +15,7 @@ use temporal::Stamp;
 use temporal::Temporal;
 use temporal::Time;
 use value::Value;
+use wire::Part;
 
 // The most that a part of 8, 16, 32 bits can be.
 const MOST_8: u64 = 255;
@@ -286,10 +287,10 @@ pub(crate) fn read_value_word(line: &[u8], at: usize, arena: &mut [u8], from: us
         if end < from {
             return ValueWord::Bad;
         }
-        let value = Value::Bytes {
+        let value = Value::Bytes(Part {
             start: from,
             len: end - from,
-        };
+        });
         return ValueWord::Found(value, end, next);
     }
     let Plain::Value(value) = parse_plain(word) else {

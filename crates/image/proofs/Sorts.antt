@@ -27,4 +27,4 @@ others-not-null (Float n) o = refl
 others-not-null (Double n) o = refl
 others-not-null (Year n) o = refl
 others-not-null (When w) o = refl
-others-not-null (Bytes start len) o = refl
+others-not-null (Bytes p) o = refl

@@ -6,7 +6,8 @@ use mathlib.Core.List.{List}
 use native.Mathlib.Omega.{arith}
 use lib.Dec.{leb, ltb, eqb}
 use Rattle.wire.specs.Bits.{bitLsb0, bitMsb0}
-use Rattle.value.specs.Columns.{familyOf, isNumeric, isCharacter, isEnumOrSet}
+use Rattle.value.specs.Types.{familyOf, isNumeric}
+use Rattle.value.specs.Classes.{isCharacter, isEnumOrSet}
 use Rattle.table_map.specs.Parts.{lentPart}
 use Rattle.table_map.specs.declared.part.Part.{Part}
 use Rattle.table_map.specs.Lists.{integerItem}

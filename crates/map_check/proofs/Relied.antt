@@ -9,7 +9,7 @@ use lib.ListN.{length, getD, drop}
 use lib.Dec.{leb, eqb}
 use Rattle.wire.specs.Outcome.{ok, why}
 use Rattle.wire.proofs.Outcomes.{after-is-ok, test-is-ok, same-ok}
-use Rattle.value.specs.declared.column.Dialect.{Dialect}
+use Rattle.value.specs.declared.classes.Dialect.{Dialect}
 use Rattle.table_map.specs.declared.event.Event.{Event}
 use Rattle.table_map.specs.Parts.{lentPart}
 use Rattle.record.specs.declared.entry.Entry.{Entry}

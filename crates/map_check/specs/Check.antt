@@ -8,7 +8,7 @@ use lib.ListN.{length}
 use lib.Dec.{leb}
 use Rattle.wire.specs.Outcome.{Outcome, ok, refuse, after}
 use Rattle.wire.specs.Stored.{store}
-use Rattle.value.specs.declared.column.Dialect.{Dialect}
+use Rattle.value.specs.declared.classes.Dialect.{Dialect}
 use Rattle.table_map.specs.declared.event.Event.{Event}
 use Rattle.table_map.specs.declared.part.Part.{Part}
 use Rattle.table_map.specs.Parts.{lentPart}

@@ -6,7 +6,7 @@ use mathlib.Core.List.{List, []}
 use lib.ListN.{length}
 use lib.Dec.{eqb}
 use Rattle.wire.specs.Outcome.{Outcome, ok, refused, refuse}
-use Rattle.value.specs.declared.column.Dialect.{Dialect}
+use Rattle.value.specs.declared.classes.Dialect.{Dialect}
 use Rattle.table_map.specs.declared.event.Event.{Event}
 use Rattle.table_map.specs.declared.part.Part.{Part}
 use Rattle.table_map.specs.Parts.{part, lentPart}

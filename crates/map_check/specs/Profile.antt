@@ -9,8 +9,9 @@ use lib.Dec.{eqb}
 use Rattle.wire.specs.Outcome.{Outcome, ok, refused}
 use Rattle.wire.specs.Packed.{readPacked}
 use Rattle.wire.specs.Bits.{bitLsb0, bitMsb0}
-use Rattle.value.specs.declared.column.Dialect.{Dialect}
-use Rattle.value.specs.Columns.{familyOf, isNumeric, isCharacter, isEnumOrSet}
+use Rattle.value.specs.declared.classes.Dialect.{Dialect}
+use Rattle.value.specs.Types.{familyOf, isNumeric}
+use Rattle.value.specs.Classes.{isCharacter, isEnumOrSet}
 use Rattle.table_map.specs.declared.part.Part.{Part}
 use Rattle.table_map.specs.Parts.{lentPart}
 use Rattle.table_map.specs.Lists.{walk, walkSteps, integerItem, pairItem}

@@ -22,7 +22,7 @@ ghost use Prim.Native.Nat.{_+_, _*_, _≤_, _<_};
 ghost use lib.ListN.{length};
 ghost use Rattle.wire.specs.Bits.{bitLsb0};
 ghost use Rattle.wire.specs.Stored.{store, stored, answerOf, leftOf, writtenOf};
-ghost use Rattle.value.specs.Columns.{isCharacter};
+ghost use Rattle.value.specs.Classes.{isCharacter};
 ghost use Rattle.table_map.specs.Parts.{lentPart};
 ghost use Rattle.record.specs.Records.{entriesBytes, recordBytes};
 ghost use Rattle.map_check.specs.Columns.{declareAll};

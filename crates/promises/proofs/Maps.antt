@@ -11,8 +11,8 @@ use Rattle.wire.specs.Outcome.{Outcome, ok, refused, why}
 use Rattle.wire.specs.Packed.{readPacked}
 use Rattle.wire.proofs.Outcomes.{after-is-ok, same-ok}
 use Rattle.wire.proofs.Forms.{read-moves}
-use Rattle.value.specs.declared.column.Dialect.{Dialect}
-use Rattle.value.specs.Columns.{familyOf, isKnown}
+use Rattle.value.specs.declared.classes.Dialect.{Dialect}
+use Rattle.value.specs.Types.{familyOf, isKnown}
 use Rattle.table_map.specs.declared.part.Part.{Part}
 use Rattle.table_map.specs.declared.event.Event.{Event}
 use Rattle.table_map.specs.declared.field.Fields.{Fields}

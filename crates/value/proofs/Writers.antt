@@ -7,15 +7,17 @@ use mathlib.Core.List.{List, [], _++_, append-nil}
 use native.Mathlib.Decide.{decLe}
 use native.Mathlib.Omega.{arith}
 use borrow.Author.Tests.{lt-ltb, le-ltb, le-leb, lt-leb, eq-eqb, ne-eqb, leb-true}
-use lib.ListN.{length, take, drop, length-drop, length-append}
-use lib.Seq.{length-take-le}
+use lib.ListN.{length, length-append}
 use lib.Dec.{leb, ltb, eqb}
 use Rattle.wire.specs.Outcome.{ok, refuse}
 use Rattle.wire.specs.Number.{leBytes}
 use Rattle.wire.specs.Signed.{twosOf, inHalves}
+use Rattle.wire.specs.declared.part.Part.{Part}
+use Rattle.wire.specs.Parts.{partOf, lentPart}
 use Rattle.wire.specs.Stored.{store}
 use Rattle.wire.proofs.Bytes.{leBytes-length}
 use Rattle.wire.proofs.Outcomes.{both-true}
+use Rattle.wire.proofs.Parts.{part-length, lent-is}
 use Rattle.temporal.specs.declared.kind.Kind.{Kind}
 use Rattle.temporal.specs.Domains.{domain as timedDomain}
 use Rattle.temporal.specs.Reading.{writeTemporal}
@@ -28,7 +30,7 @@ use Rattle.value.specs.Domains.{domain}
 use Rattle.value.specs.Shapes.{bytesOf, need}
 use Rattle.value.specs.Columns.{isTaken, refusalOf}
 use Rattle.value.specs.Reading.{taken, datumOf}
-use Rattle.value.specs.Storing.{startOf, lenOf, isLent, isIn, storedBytes, writeValue, sizeOf}
+use Rattle.value.specs.Storing.{bytesAt, isLent, isIn, storedBytes, writeValue, sizeOf}
 use Rattle.value.proofs.Facts.{need-bytes}
 use Rattle.value.proofs.Laws.{taken-at}
 use Rattle.value.proofs.Readers.{narrow}
@@ -43,7 +45,7 @@ any f e s (Float n) = refl
 any f e s (Double n) = refl
 any f e s (Year n) = refl
 any f e s (When t) = refl
-any f e s (Bytes start len) = e _ _
+any f e s (Bytes p) = e _ _
 
 pub tag-any : (s : List ℕ) (v : Value) → tag (datumOf s v) ≡ tag (datumOf [] v)
 unfolding tag
@@ -62,8 +64,8 @@ unfolding whenIn
 when-any = any whenIn (λ b c. refl)
 
 -- its bytes are a part of what is lent
-pub bytes-part : (s : List ℕ) (v : Value) → bytesIn (datumOf s v) ≡ take (lenOf v) (drop (startOf v) s)
-unfolding bytesIn datumOf startOf lenOf
+pub bytes-part : (s : List ℕ) (v : Value) → bytesIn (datumOf s v) ≡ partOf s (bytesAt v)
+unfolding bytesIn datumOf bytesAt
 bytes-part s Null = refl
 bytes-part s (Int z) = refl
 bytes-part s (Uint n) = refl
@@ -71,13 +73,15 @@ bytes-part s (Float n) = refl
 bytes-part s (Double n) = refl
 bytes-part s (Year n) = refl
 bytes-part s (When t) = refl
-bytes-part s (Bytes start len) = refl
+bytes-part s (Bytes p) = refl
 
-pub bytes-length : (s : List ℕ) (v : Value) → isLent s v ≡ true → length (bytesIn (datumOf s v)) ≡ lenOf v
+-- which end within it
+pub lent-fits : (s : List ℕ) (v : Value) → isLent s v ≡ true → bytesAt v .start + bytesAt v .len ≤ length s
 unfolding isLent
-bytes-length s v h =
-    let l : startOf v + lenOf v ≤ length s = leb-true (startOf v + lenOf v) (length s) h in
-    ap length (bytes-part s v) ∙ length-take-le (lenOf v) (drop (startOf v) s) (rw length-drop (omega arith))
+lent-fits s v h = leb-true (bytesAt v .start + bytesAt v .len) (length s) h
+
+pub bytes-length : (s : List ℕ) (v : Value) → isLent s v ≡ true → length (bytesIn (datumOf s v)) ≡ bytesAt v .len
+bytes-length s v h = ap length (bytes-part s v) ∙ part-length s (bytesAt v) (lent-fits s v h)
 
 -- ---- which values a column takes, as the code tests it
 pub not-in : (sh : Shape) (s : List ℕ) (v : Value) → isLent s v ≡ false → false ≡ isIn sh s v
@@ -136,23 +140,18 @@ just n m =
     (λ g. rw (le-leb n m h, lt-leb m n (omega arith)) (sym (ne-eqb m n (λ e. omega arith)))))
     (λ h. rw (lt-leb n m (omega arith)) (sym (ne-eqb m n (λ e. omega arith))))
 
-pub in-fixed : (n : ℕ) (s : List ℕ) (v : Value) → isLent s v ≡ true → (isBytes (datumOf [] v) && (leb n (lenOf v) && leb (lenOf v) n)) ≡ isIn (Fixed n) s v
+pub in-fixed : (n : ℕ) (s : List ℕ) (v : Value) → isLent s v ≡ true → (isBytes (datumOf [] v) && (leb n (bytesAt v .len) && leb (bytesAt v .len) n)) ≡ isIn (Fixed n) s v
 unfolding isIn domain
-in-fixed n s v h = rw (h, tag-any s v, bytes-length s v h, just n (lenOf v))
+in-fixed n s v h = rw (h, tag-any s v, bytes-length s v h, just n (bytesAt v .len))
 
 pub in-counted : (k most : ℕ) (s : List ℕ) (v : Value) → most + 1 ≡ 256 ^ k → isLent s v ≡ true
-    → (isBytes (datumOf [] v) && (leb 0 (lenOf v) && leb (lenOf v) most)) ≡ isIn (Counted k) s v
+    → (isBytes (datumOf [] v) && (leb 0 (bytesAt v .len) && leb (bytesAt v .len) most)) ≡ isIn (Counted k) s v
 unfolding isIn domain
-in-counted k most s v e h = rw (h, tag-any s v, bytes-length s v h, below (lenOf v) most k e)
+in-counted k most s v e h = rw (h, tag-any s v, bytes-length s v h, below (bytesAt v .len) most k e)
 
 pub in-none : (n : ℕ) (s : List ℕ) (v : Value) → isLent s v ≡ true → false ≡ isIn (NotTaken n) s v
 unfolding isIn domain
 in-none n s v h = rw h
-
--- the bytes of a value that are lent end within the list
-pub lent-fits : (s : List ℕ) (v : Value) → isLent s v ≡ true → startOf v + lenOf v ≤ length s
-unfolding isLent
-lent-fits s v h = leb-true (startOf v + lenOf v) (length s) h
 
 -- a value that a column takes is lent, and in the domain
 pub is-in : (sh : Shape) (s : List ℕ) (v : Value) → isIn sh s v ≡ true → (isLent s v ≡ true) × (domain sh (datumOf s v) ≡ true)
@@ -172,7 +171,7 @@ size-is sh s v h = rw (append-nil (bytesOf sh (datumOf s v))) at (need-bytes sh 
 pub size-at : (sh sh′ : Shape) (n : ℕ) (s : List ℕ) (v : Value) → sh ≡ sh′ → isIn sh s v ≡ true → ((b : List ℕ) → need sh′ b ≡ n) → n ≡ length (bytesOf sh (datumOf s v))
 size-at sh sh′ n s v e h f = sym (f (bytesOf sh (datumOf s v))) ∙ ap (λ (x : Shape). need x (bytesOf sh (datumOf s v))) (sym e) ∙ size-is sh s v h
 
-pub size-counted : (k : ℕ) (s : List ℕ) (v : Value) → isIn (Counted k) s v ≡ true → k + lenOf v ≡ length (bytesOf (Counted k) (datumOf s v))
+pub size-counted : (k : ℕ) (s : List ℕ) (v : Value) → isIn (Counted k) s v ≡ true → k + bytesAt v .len ≡ length (bytesOf (Counted k) (datumOf s v))
 unfolding bytesOf
 size-counted k s v h =
     let l = bytes-length s v (is-in (Counted k) s v h .0) in
@@ -208,11 +207,11 @@ pub put-year : (s : List ℕ) (v : Value) → bytesOf YearByte (datumOf s v) ≡
 unfolding bytesOf
 put-year s v = ap (λ (n : ℕ). leBytes 1 (n - 1900)) (number-any s v)
 
-pub put-fixed : (n : ℕ) (s : List ℕ) (v : Value) → bytesOf (Fixed n) (datumOf s v) ≡ leBytes 0 (lenOf v) ++ take (lenOf v) (drop (startOf v) s)
+pub put-fixed : (n : ℕ) (s : List ℕ) (v : Value) → bytesOf (Fixed n) (datumOf s v) ≡ leBytes 0 (bytesAt v .len) ++ partOf s (bytesAt v)
 unfolding bytesOf leBytes
 put-fixed n s v = bytes-part s v
 
-pub put-counted : (k : ℕ) (s : List ℕ) (v : Value) → isLent s v ≡ true → bytesOf (Counted k) (datumOf s v) ≡ leBytes k (lenOf v) ++ take (lenOf v) (drop (startOf v) s)
+pub put-counted : (k : ℕ) (s : List ℕ) (v : Value) → isLent s v ≡ true → bytesOf (Counted k) (datumOf s v) ≡ leBytes k (bytesAt v .len) ++ partOf s (bytesAt v)
 unfolding bytesOf
 put-counted k s v h = rw (bytes-length s v h, bytes-part s v)
 
@@ -243,14 +242,13 @@ pub stored-in : (sh : Shape) (p : ℕ) (s : List ℕ) (v : Value) → isTaken sh
 unfolding storedBytes
 stored-in sh p s v t h = rw (taken-at sh p t, h)
 
--- the part that the code lends, from a start to an end that it added up
-pub lent-part : (s : List ℕ) (v : Value) (k start len : ℕ) → isLent s v ≡ true → start ≡ startOf v → len ≡ lenOf v
-    → leBytes k (length (take (start + len - start) (drop start s))) ++ take (start + len - start) (drop start s) ≡ leBytes k (lenOf v) ++ take (lenOf v) (drop (startOf v) s)
-lent-part s v k start len h e f =
+-- the bytes b of the part that the code lends
+pub lent-part : (s : List ℕ) (v : Value) (k : ℕ) (p : Part) (b : List ℕ) → isLent s v ≡ true → p ≡ bytesAt v → b ≡ lentPart s p
+    → leBytes k (length b) ++ b ≡ leBytes k (bytesAt v .len) ++ partOf s (bytesAt v)
+lent-part s v k p b h e f =
     let l = lent-fits s v h in
-    let d : startOf v + lenOf v - startOf v ≡ lenOf v = omega arith in
-    let n : length (take (lenOf v) (drop (startOf v) s)) ≡ lenOf v = length-take-le (lenOf v) (drop (startOf v) s) (rw length-drop (omega arith)) in
-    rw (e, f, d, n)
+    let g : b ≡ partOf s (bytesAt v) = f ∙ ap (lentPart s) e ∙ lent-is s (bytesAt v) l in
+    rw (g, part-length s (bytesAt v) l)
 
 -- ---- what the writer and the size answer
 pub writes-not : (sh : Shape) (p : ℕ) (s : List ℕ) (v : Value) (buf : List ℕ) (at : ℕ) → isTaken sh ≡ false → writeValue sh p s v buf at ≡ refuse (refusalOf sh) p

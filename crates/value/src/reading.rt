@@ -3,6 +3,7 @@ use crate::datum::Value;
 use crate::shape::Shape;
 use temporal::Kind;
 use temporal::TemporalRead;
+use wire::Part;
 use wire::Refusal;
 use wire::refusal::IMAGE_SHORT;
 ghost use mathlib.Core.Path.{_≡_};
@@ -132,7 +133,7 @@ fn read_fixed(n: usize, s: &[u8], at: usize, place: usize) -> Read
         return short(place);
     }
     let next = at + n;
-    let value = Value::Bytes { start: at, len: n };
+    let value = Value::Bytes(Part { start: at, len: n });
     Read::Got { value, next }
 }
 
@@ -149,6 +150,6 @@ fn read_counted(k: usize, s: &[u8], at: usize, place: usize) -> Read
         return short(place);
     }
     let next = start + len;
-    let value = Value::Bytes { start, len };
+    let value = Value::Bytes(Part { start, len });
     Read::Got { value, next }
 }

@@ -16,6 +16,7 @@ use temporal::Stamp;
 use temporal::Temporal;
 use temporal::Time;
 use value::Value;
+use wire::Part;
 use wire::Refusal;
 use wire::refusal::NOT_TAKEN;
 ghost use mathlib.Core.Path.{_≡_};
@@ -174,10 +175,10 @@ fn make_value(kind: u64, parts: &[u64]) -> Value
         DATE => Value::When(Temporal::On(date_of(parts))),
         MOMENT => Value::When(Temporal::At(moment_of(parts))),
         TIME => Value::When(Temporal::Lasts(time_of(parts))),
-        BYTES => Value::Bytes {
+        BYTES => Value::Bytes(Part {
             start: part(parts, 0) as usize,
             len: part(parts, 1) as usize,
-        },
+        }),
         _ => Value::Null,
     }
 }

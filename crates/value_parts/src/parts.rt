@@ -55,6 +55,6 @@ pub fn parts_of(value: Value) -> [u64; 7]
         Value::Double(bits) => one_part(bits),
         Value::Year(y) => one_part(y as u64),
         Value::When(t) => temporal_parts(t),
-        Value::Bytes { start, len } => [start as u64, len as u64, 0, 0, 0, 0, 0],
+        Value::Bytes(part) => [part.start as u64, part.len as u64, 0, 0, 0, 0, 0],
     }
 }

@@ -12,7 +12,7 @@ use Rattle.record.proofs.profile.head_holds.Reads as reads
 use Rattle.record.proofs.profile.head_holds.Lts as lts
 use Rattle.record.proofs.profile.byte_at.Reads as byte-at-reads
 use Rattle.record.proofs.profile.entry_at.Reads as entry-at-reads
-use Rattle.record.proofs.profile.wide.Reads as wide-reads
+use Rattle.wire.proofs.wide.Reads as wide-reads
 use Rattle.wire.proofs.read_le.Reads as read-le-reads
 
 returns : tie.Need-returns

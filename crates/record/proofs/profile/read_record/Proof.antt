@@ -11,7 +11,7 @@ use Rattle.record.proofs.profile.read_record.Lts as lts
 use Rattle.record.proofs.profile.byte_at.Reads as byte-at-reads
 use Rattle.record.proofs.profile.entries_hold.Reads as entries-hold-reads
 use Rattle.record.proofs.profile.head_holds.Reads as head-holds-reads
-use Rattle.record.proofs.profile.wide.Reads as wide-reads
+use Rattle.wire.proofs.wide.Reads as wide-reads
 use Rattle.wire.proofs.refuse.Reads as refuse-reads
 
 head-holds-requires : tie.Need-head-holds-requires

@@ -10,7 +10,7 @@ use Rattle.record.proofs.profile.write_head.Tie as tie
 use Rattle.record.proofs.profile.write_head.Reads as reads
 use Rattle.record.proofs.profile.write_head.Lts as lts
 use Rattle.record.proofs.profile.entry_at.Reads as entry-at-reads
-use Rattle.record.proofs.profile.wide.Reads as wide-reads
+use Rattle.wire.proofs.wide.Reads as wide-reads
 use Rattle.wire.proofs.write_bytes.Reads as write-bytes-reads
 
 wide-requires : tie.Need-wide-requires

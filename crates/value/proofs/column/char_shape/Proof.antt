@@ -9,7 +9,7 @@ use Rattle.value.proofs.column.char_shape.Reads as reads
 use Rattle.value.proofs.column.char_shape.Lts as lts
 use Rattle.value.proofs.column.declared_in.Reads as declared-in-reads
 use Rattle.value.proofs.column.length_bytes.Reads as length-bytes-reads
-use Rattle.value.proofs.column.or_30.Reads as or-30-reads
+use Rattle.value.proofs.types.or_30.Reads as or-30-reads
 
 or-30-requires : tie.Need-or-30-requires
 or-30-requires c κs = search needs

@@ -2,7 +2,7 @@
 use mathlib.Core.List.{[], _∷_}
 use mathlib.Core.Path.{refl, sym}
 use lib.Dec.{eqb, eqb→eq}
-use Rattle.value.specs.declared.column.Family.{Family}
+use Rattle.value.specs.declared.types.Family.{Family}
 use Rattle.value.specs.Columns.{declaredIn}
 use Rattle.value.proofs.Arms.{at-arm}
 use borrow.Author.Needs.{needs}

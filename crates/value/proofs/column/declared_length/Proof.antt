@@ -1,6 +1,6 @@
 -- `value::column::declared_length` meets its contract. Assumes nothing.
 use mathlib.Core.Path.{ap, _∙_}
-use Rattle.value.specs.declared.column.Family.{Family}
+use Rattle.value.specs.declared.types.Family.{Family}
 use Rattle.value.specs.Columns.{declaredIn, declaredLength}
 use borrow.Author.Needs.{needs}
 use Rattle.value.proofs.column.declared_length.Statement.{statement}
@@ -8,7 +8,7 @@ use Rattle.value.proofs.column.declared_length.Tie as tie
 use Rattle.value.proofs.column.declared_length.Reads as reads
 use Rattle.value.proofs.column.declared_length.Lts as lts
 use Rattle.value.proofs.column.declared_in.Reads as declared-in-reads
-use Rattle.value.proofs.column.family_of.Reads as family-of-reads
+use Rattle.value.proofs.types.family_of.Reads as family-of-reads
 
 family-of-requires : tie.Need-family-of-requires
 family-of-requires c κs = search needs

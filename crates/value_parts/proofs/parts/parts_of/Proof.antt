@@ -98,7 +98,7 @@ returns-7 c = rw (c .before .before .value6 .given .1) (c .temporal-parts .ensur
 
 returns-8 : tie.Need-returns-8
 unfolding padded partsOf
-returns-8 c = (rw (c .before .value7 .given .1), rw (c .before .value7 .given .1) (held-bytes (c .before .value7 .given .0 .0) (c .before .value7 .given .0 .1 .0) (omega (arith, c .known-told7 .given)) (omega (arith, c .known-told7 .given))))
+returns-8 c = (rw (c .before .value7 .given .1), rw (c .before .value7 .given .1) (held-bytes (c .before .value7 .given .0 .0) (omega (arith, c .known-told7 .given)) (omega (arith, c .known-told7 .given))))
 
 pub parts-of-spec : {M : Type 1} → statement M
 parts-of-spec =

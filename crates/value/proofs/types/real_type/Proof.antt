@@ -1,12 +1,12 @@
--- `value::column::real_type` meets its contract. Assumes nothing.
+-- `value::types::real_type` meets its contract. Assumes nothing.
 use Rattle.wire.proofs.Rules.{tests}
-use Rattle.value.specs.Columns.{realType}
+use Rattle.value.specs.Types.{realType}
 use borrow.Author.Needs.{needs}
-use Rattle.value.proofs.column.real_type.Statement.{statement}
-use Rattle.value.proofs.column.real_type.Tie as tie
-use Rattle.value.proofs.column.real_type.Reads as reads
-use Rattle.value.proofs.column.real_type.Lts as lts
-use Rattle.value.proofs.column.or_30.Reads as or-30-reads
+use Rattle.value.proofs.types.real_type.Statement.{statement}
+use Rattle.value.proofs.types.real_type.Tie as tie
+use Rattle.value.proofs.types.real_type.Reads as reads
+use Rattle.value.proofs.types.real_type.Lts as lts
+use Rattle.value.proofs.types.or_30.Reads as or-30-reads
 
 returns : tie.Need-returns
 unfolding realType

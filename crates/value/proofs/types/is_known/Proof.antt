@@ -1,15 +1,15 @@
--- `value::column::is_known` meets its contract. Each arm's families have the same answer. Assumes nothing.
-use Rattle.value.specs.Columns.{isKnown}
+-- `value::types::is_known` meets its contract. Each arm's families have the same answer. Assumes nothing.
+use Rattle.value.specs.Types.{isKnown}
 use mathlib.Core.Path.{sym, refl, _∙_}
 use Rattle.value.proofs.Arms.{at-arm, beq→eq}
 use mathlib.Core.Bool.{true, Bool·beq}
 use mathlib.Core.List.{[], _∷_}
 use borrow.Author.Needs.{needs}
-use Rattle.value.proofs.column.is_known.Statement.{statement}
-use Rattle.value.proofs.column.is_known.Tie as tie
-use Rattle.value.proofs.column.is_known.Reads as reads
-use Rattle.value.proofs.column.is_known.Lts as lts
-use Rattle.value.proofs.column.family_of.Reads as family-of-reads
+use Rattle.value.proofs.types.is_known.Statement.{statement}
+use Rattle.value.proofs.types.is_known.Tie as tie
+use Rattle.value.proofs.types.is_known.Reads as reads
+use Rattle.value.proofs.types.is_known.Lts as lts
+use Rattle.value.proofs.types.family_of.Reads as family-of-reads
 
 family-of-requires : tie.Need-family-of-requires
 family-of-requires c κs = search needs

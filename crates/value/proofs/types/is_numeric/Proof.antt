@@ -1,15 +1,15 @@
--- `value::column::is_numeric` meets its contract. Each arm's families have the same answer. Assumes nothing.
-use Rattle.value.specs.Columns.{isNumeric}
+-- `value::types::is_numeric` meets its contract. Each arm's families have the same answer. Assumes nothing.
+use Rattle.value.specs.Types.{isNumeric}
 use mathlib.Core.Path.{sym, refl}
 use Rattle.value.proofs.Arms.{at-arm, beq→eq}
 use mathlib.Core.Bool.{true, false, Bool·beq}
 use mathlib.Core.List.{[], _∷_}
 use borrow.Author.Needs.{needs}
-use Rattle.value.proofs.column.is_numeric.Statement.{statement}
-use Rattle.value.proofs.column.is_numeric.Tie as tie
-use Rattle.value.proofs.column.is_numeric.Reads as reads
-use Rattle.value.proofs.column.is_numeric.Lts as lts
-use Rattle.value.proofs.column.family_of.Reads as family-of-reads
+use Rattle.value.proofs.types.is_numeric.Statement.{statement}
+use Rattle.value.proofs.types.is_numeric.Tie as tie
+use Rattle.value.proofs.types.is_numeric.Reads as reads
+use Rattle.value.proofs.types.is_numeric.Lts as lts
+use Rattle.value.proofs.types.family_of.Reads as family-of-reads
 
 family-of-requires : tie.Need-family-of-requires
 family-of-requires c κs = search needs

@@ -1,16 +1,16 @@
--- `value::column::has_charset` meets its contract. Assumes nothing.
-use Rattle.value.specs.Columns.{hasCharset, isCharacter}
+-- `value::classes::has_charset` meets its contract. Assumes nothing.
+use Rattle.value.specs.Classes.{hasCharset, isCharacter}
 use mathlib.Core.Bool.{or-false}
 use mathlib.Core.Path.{sym, refl}
 use borrow.Author.Tests.{ne-eqb}
 use borrow.Author.Needs.{needs}
-use Rattle.value.proofs.column.has_charset.Statement.{statement}
-use Rattle.value.proofs.column.has_charset.Tie as tie
-use Rattle.value.proofs.column.has_charset.Reads as reads
-use Rattle.value.proofs.column.has_charset.Lts as lts
-use Rattle.value.proofs.column.is_character.Reads as is-character-reads
-use Rattle.value.proofs.column.is_mariadb.Reads as is-mariadb-reads
-use Rattle.value.proofs.column.is_mysql.Reads as is-mysql-reads
+use Rattle.value.proofs.classes.has_charset.Statement.{statement}
+use Rattle.value.proofs.classes.has_charset.Tie as tie
+use Rattle.value.proofs.classes.has_charset.Reads as reads
+use Rattle.value.proofs.classes.has_charset.Lts as lts
+use Rattle.value.proofs.classes.is_character.Reads as is-character-reads
+use Rattle.value.proofs.classes.is_mariadb.Reads as is-mariadb-reads
+use Rattle.value.proofs.classes.is_mysql.Reads as is-mysql-reads
 
 is-mysql-requires : tie.Need-is-mysql-requires
 is-mysql-requires c κs = search needs

@@ -1,15 +1,15 @@
--- `value::column::metadata_bytes` meets its contract. Each arm's families have the same answer. Assumes nothing.
-use Rattle.value.specs.Columns.{metadataBytes}
+-- `value::types::metadata_bytes` meets its contract. Each arm's families have the same answer. Assumes nothing.
+use Rattle.value.specs.Types.{metadataBytes}
 use mathlib.Core.Path.{sym, refl}
 use Rattle.value.proofs.Arms.{at-arm}
 use mathlib.Core.List.{[], _∷_}
 use lib.Dec.{eqb, eqb→eq}
 use borrow.Author.Needs.{needs}
-use Rattle.value.proofs.column.metadata_bytes.Statement.{statement}
-use Rattle.value.proofs.column.metadata_bytes.Tie as tie
-use Rattle.value.proofs.column.metadata_bytes.Reads as reads
-use Rattle.value.proofs.column.metadata_bytes.Lts as lts
-use Rattle.value.proofs.column.family_of.Reads as family-of-reads
+use Rattle.value.proofs.types.metadata_bytes.Statement.{statement}
+use Rattle.value.proofs.types.metadata_bytes.Tie as tie
+use Rattle.value.proofs.types.metadata_bytes.Reads as reads
+use Rattle.value.proofs.types.metadata_bytes.Lts as lts
+use Rattle.value.proofs.types.family_of.Reads as family-of-reads
 
 family-of-requires : tie.Need-family-of-requires
 family-of-requires c κs = search needs

@@ -1,15 +1,16 @@
--- `value::column::has_sign_bit` meets its contract. Assumes nothing.
-use Rattle.value.specs.Columns.{hasSignBit, isNumeric, familyOf}
+-- `value::classes::has_sign_bit` meets its contract. Assumes nothing.
+use Rattle.value.specs.Types.{isNumeric, familyOf}
+use Rattle.value.specs.Classes.{hasSignBit}
 use mathlib.Core.Bool.{or-false}
 use mathlib.Core.Path.{sym, refl}
 use borrow.Author.Tests.{ne-eqb}
 use borrow.Author.Needs.{needs}
-use Rattle.value.proofs.column.has_sign_bit.Statement.{statement}
-use Rattle.value.proofs.column.has_sign_bit.Tie as tie
-use Rattle.value.proofs.column.has_sign_bit.Reads as reads
-use Rattle.value.proofs.column.has_sign_bit.Lts as lts
-use Rattle.value.proofs.column.is_numeric.Reads as is-numeric-reads
-use Rattle.value.proofs.column.is_server.Reads as is-server-reads
+use Rattle.value.proofs.classes.has_sign_bit.Statement.{statement}
+use Rattle.value.proofs.classes.has_sign_bit.Tie as tie
+use Rattle.value.proofs.classes.has_sign_bit.Reads as reads
+use Rattle.value.proofs.classes.has_sign_bit.Lts as lts
+use Rattle.value.proofs.types.is_numeric.Reads as is-numeric-reads
+use Rattle.value.proofs.classes.is_server.Reads as is-server-reads
 
 is-server-requires : tie.Need-is-server-requires
 is-server-requires c κs = search needs
