@@ -4,11 +4,10 @@ use crate::entry::entry_holds;
 use wire::Refusal;
 use wire::Written;
 use wire::refusal::BAD_RECORD;
-use wire::wide;
 ghost use mathlib.Core.Path.{_≡_};
 ghost use lib.ListN.{getD};
 ghost use Rattle.wire.specs.Stored.{store, answerOf, leftOf, writtenOf};
-ghost use Rattle.record.specs.Records.{entryPlace, entryIn, entriesHold, headHolds, readRecord, recordOf, headBytes};
+ghost use Rattle.record.specs.Records.{countOf, entryPlace, entryIn, entriesHold, headHolds, readRecord, recordOf, headBytes};
 
 // How many columns a record may have.
 pub const MOST_COLUMNS: usize = 255;
@@ -38,6 +37,13 @@ fn byte_at(s: &[u8], at: usize) -> u8
         return 0;
     }
     s[at]
+}
+
+// How many columns the record says it has.
+fn count_in(profile: &[u8]) -> usize
+    ensures { λ r. ⌜ r ≡ countOf (now (profile .entry)) ⌝ }
+{
+    byte_at(profile, 4) as usize
 }
 
 // Where the entry of a column stands. A place that fits no machine number is told as the greatest one, where no slice has a byte either, so that callers need no test of their own.
@@ -104,7 +110,7 @@ fn head_holds(profile: &[u8]) -> bool
     if byte_at(profile, 5) != 0 {
         return false;
     }
-    profile.len() == entry_at(wide(byte_at(profile, 4)) as usize)
+    profile.len() == entry_at(count_in(profile))
 }
 
 // How many columns the record has, if it is valid and nothing stands after it; in one pass over it.
@@ -114,7 +120,7 @@ pub fn read_record(profile: &[u8]) -> RecordRead
     if !head_holds(profile) {
         return RecordRead::Refused(wire::refuse(BAD_RECORD, 0));
     }
-    let columns = wide(byte_at(profile, 4)) as usize;
+    let columns = count_in(profile);
     if !entries_hold(profile, columns) {
         return RecordRead::Refused(wire::refuse(BAD_RECORD, 0));
     }
@@ -126,7 +132,7 @@ pub fn write_head(buf: &mut [u8], n: u8) -> Written
     ensures { λ r. ⌜ writtenOf r ≡ answerOf (store (now (buf .entry)) 0 (headBytes n)) ⌝ }
     ensures { λ _. ⌜ now (buf .exit) ≡ leftOf (now (buf .entry)) (store (now (buf .entry)) 0 (headBytes n)) ⌝ }
 {
-    let size = entry_at(wide(n) as usize);
+    let size = entry_at(n as usize);
     let low = (size % 256) as u8;
     let high = (size / 256 % 256) as u8;
     let bytes = [low, high, 1, 0, n, 0];

@@ -11,8 +11,8 @@ use Rattle.record.proofs.profile.head_holds.Tie as tie
 use Rattle.record.proofs.profile.head_holds.Reads as reads
 use Rattle.record.proofs.profile.head_holds.Lts as lts
 use Rattle.record.proofs.profile.byte_at.Reads as byte-at-reads
+use Rattle.record.proofs.profile.count_in.Reads as count-in-reads
 use Rattle.record.proofs.profile.entry_at.Reads as entry-at-reads
-use Rattle.wire.proofs.wide.Reads as wide-reads
 use Rattle.wire.proofs.read_le.Reads as read-le-reads
 
 returns : tie.Need-returns
@@ -59,11 +59,8 @@ returns-4 c =
       ne-eqb _ _ (c .if4 .taken),
     )
 
-byte-at-requires-2 : tie.Need-byte-at-requires-2
-byte-at-requires-2 c κs = search needs
-
-wide-requires : tie.Need-wide-requires
-wide-requires c κs = search needs
+count-in-requires : tie.Need-count-in-requires
+count-in-requires c κs = search needs
 
 entry-at-requires : tie.Need-entry-at-requires
 entry-at-requires c κs = search needs
@@ -71,10 +68,11 @@ entry-at-requires c κs = search needs
 returns-5 : tie.Need-returns-5
 unfolding headHolds
 returns-5 c =
-    let z = c .before .before .before in
+    let z = c .before .before in
     let y = z .before .before in
     let x = y .before .before in
-    let n = c .before .wide .ensures ∙ c .before .before .byte-at2 .ensures in
+    let n = c .before .count-in .ensures in
+    let k = x .before .before .before .shared-slice-known .given 4 in
     rw (
       le-leb 6 _ (x .before .before .if1 .left),
       ← x .before .read-le .ensures .0,
@@ -97,7 +95,6 @@ head-holds-spec =
     returns-3
     byte-at-requires
     returns-4
-    byte-at-requires-2
-    wide-requires
+    count-in-requires
     entry-at-requires
     returns-5)
