@@ -20,8 +20,8 @@ use Rattle.table_map.proofs.Items.{Moves, integer-moves, pair-moves}
 use Rattle.table_map.proofs.Walks.{walk-steps}
 use Rattle.map_check.specs.declared.contents.Meaning.the-variants.{Charset}
 use Rattle.map_check.specs.declared.rank.Rank.{Rank}
-use Rattle.map_check.specs.declared.field.Found.{Found}
-use Rattle.map_check.specs.declared.field.Found.the-variants.{Value, Nothing}
+use Rattle.map_check.specs.declared.found.Found.{Found}
+use Rattle.map_check.specs.declared.found.Found.the-variants.{Value, Nothing}
 use Rattle.map_check.specs.declared.facts.Charsets.{Charsets}
 use Rattle.map_check.specs.declared.charset.CharsetCursor.{CharsetCursor}
 use Rattle.map_check.specs.declared.charset.CharsetTurn.{CharsetTurn}

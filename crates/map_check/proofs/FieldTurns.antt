@@ -1,7 +1,7 @@
 -- The optional fields one by one: the loop that looks for one, and the loop that keeps them, with what it has marked. Assumes nothing.
 use Prim.Native.Nat.{ℕ, zero, suc, _-_, _≤_, _<_, suc-le-suc}
 use mathlib.Core.Path.{_≡_, refl, sym, ap, _∙_}
-use mathlib.Core.Bool.{Bool, true, false, _&&_, _||_, not}
+use mathlib.Core.Bool.{Bool, true, false, _||_}
 use mathlib.Core.List.{List, [], _∷_}
 use native.Mathlib.Omega.{arith}
 use borrow.Author.Tests.{leb-true, eqb-true, eqb-false}
@@ -13,15 +13,13 @@ use Rattle.wire.specs.Outcome.{Outcome, ok, refused, refuse, after}
 use Rattle.wire.proofs.Outcomes.{both-true}
 use Rattle.table_map.specs.declared.part.Part.{Part}
 use Rattle.table_map.specs.declared.field.Fields.{Fields as FieldCursor}
-use Rattle.table_map.specs.Parts.{lentPart}
 use Rattle.table_map.specs.Lists.{Stepped, end, item, step, Walked, onward, walk}
 use Rattle.table_map.specs.Fields.{fieldItem, fieldStep}
 use Rattle.table_map.proofs.Steps.{item-read}
 use Rattle.table_map.proofs.Walks.{item-moves, walk-steps}
 use Rattle.table_map.proofs.Optional.{field-stepped, field-ended, field-broken, field-read, field-moves}
 use Rattle.map_check.specs.declared.rank.Ranks.{Ranks}
-use Rattle.map_check.specs.Contents.{contentsFull}
-use Rattle.map_check.specs.Fields.{stood, rivalOf, isKept, keep, keepSteps, keepFields, fieldsFrom, done}
+use Rattle.map_check.specs.Fields.{stood, rivalOf, standsGiven, standsBehind, keep, keepSteps, keepFields, fieldsFrom, done}
 use Rattle.map_check.proofs.Bounds.{either-at-most}
 
 -- ---- a step leads on, within the bytes
@@ -63,7 +61,7 @@ keep-enough sizes c (suc m) (suc k) s before at h l = go (λ kind next. keep-eno
 
     go : ((kind next : ℕ) → length s - next < m → length s - next < k → rest m kind next ≡ rest k kind next)
         → (o : Outcome (Stepped (ℕ × Part) ℕ)) → stepAt c s at ≡ o
-        → keep (rest m) (isKept sizes (c .columns) s before) at o ≡ keep (rest k) (isKept sizes (c .columns) s before) at o
+        → keep (rest m) (standsBehind sizes (c .columns) s before) at o ≡ keep (rest k) (standsBehind sizes (c .columns) s before) at o
     go again (ok end) e = refl
     go again (ok (item f next)) e =
         let w = item-moves (fieldItem (c .numeric) (c .columns)) (field-moves (c .numeric) (c .columns)) s at f next e in
@@ -77,13 +75,13 @@ keepFrom sizes c s before at = keepSteps (suc (length s - at)) sizes c s before 
 -- a turn: what the step met, and what is kept from where it leads
 pub keep-turn : (sizes : Ranks) (c : FieldCursor) (s before : List ℕ) (at : ℕ)
     → keepFrom sizes c s before at
-    ≡ keep (λ kind next. keepFrom sizes c s (kind ∷ before) next) (isKept sizes (c .columns) s before) at (step (fieldItem (c .numeric) (c .columns)) s at)
+    ≡ keep (λ kind next. keepFrom sizes c s (kind ∷ before) next) (standsBehind sizes (c .columns) s before) at (step (fieldItem (c .numeric) (c .columns)) s at)
 unfolding keepSteps
 keep-turn sizes c s before at = go (stepAt c s at) refl
   where
     go : (o : Outcome (Stepped (ℕ × Part) ℕ)) → stepAt c s at ≡ o
-        → keep (λ kind next. keepSteps (length s - at) sizes c s (kind ∷ before) next) (isKept sizes (c .columns) s before) at o
-        ≡ keep (λ kind next. keepFrom sizes c s (kind ∷ before) next) (isKept sizes (c .columns) s before) at o
+        → keep (λ kind next. keepSteps (length s - at) sizes c s (kind ∷ before) next) (standsBehind sizes (c .columns) s before) at o
+        ≡ keep (λ kind next. keepFrom sizes c s (kind ∷ before) next) (standsBehind sizes (c .columns) s before) at o
     go (ok end) e = refl
     go (ok (item f next)) e =
         let w = item-moves (fieldItem (c .numeric) (c .columns)) (field-moves (c .numeric) (c .columns)) s at f next e in
@@ -137,9 +135,7 @@ rival-low k =
 -- the marks tell whether a field is kept
 pub marks-tell : {sizes : Ranks} {c : FieldCursor} {s : List ℕ} {here : FieldCursor} {seen : List Bool} (st : KeptTo sizes c s here seen)
     → (f : ℕ × Part) (rival : ℕ) (t : Bool) → f .0 < 14 → rival ≡ rivalOf (f .0)
-    → t ≡ (not (getD seen (f .0) false) && (not (getD seen rival false) && contentsFull sizes (c .columns) (f .0) (lentPart s (f .1))))
-    → isKept sizes (c .columns) s (st .before) f ≡ t
-unfolding isKept
+    → t ≡ standsGiven sizes (c .columns) s (getD seen (f .0) false) (getD seen rival false) f → standsBehind sizes (c .columns) s (st .before) f ≡ t
 marks-tell st f rival t h r e = rw (e, r, st .marks (f .0) h, st .marks (rivalOf (f .0)) (rival-low (f .0)))
 
 -- with one type more marked, they are those of the types before the next field
@@ -158,7 +154,7 @@ done-more g (refused w) = refl
 
 -- a field that is kept
 pub kept-to-next : {sizes : Ranks} {c : FieldCursor} {s : List ℕ} {here : FieldCursor} {seen : List Bool} (st : KeptTo sizes c s here seen)
-    → (f : ℕ × Part) (next : FieldCursor) → fieldStep here s ≡ ok (item f next) → isKept sizes (c .columns) s (st .before) f ≡ true
+    → (f : ℕ × Part) (next : FieldCursor) → fieldStep here s ≡ ok (item f next) → standsBehind sizes (c .columns) s (st .before) f ≡ true
     → KeptTo sizes c s next (set seen (f .0) true)
 kept-to-next {sizes} {c} {s} {here} {seen} st f next e k =
     let w = field-stepped here s f next e in
@@ -175,7 +171,7 @@ kept-to-next {sizes} {c} {s} {here} {seen} st f next e k =
 
 -- one that is not
 pub kept-to-refused : {sizes : Ranks} {c : FieldCursor} {s : List ℕ} {here : FieldCursor} {seen : List Bool} (st : KeptTo sizes c s here seen)
-    → (f : ℕ × Part) (next : FieldCursor) → fieldStep here s ≡ ok (item f next) → isKept sizes (c .columns) s (st .before) f ≡ false
+    → (f : ℕ × Part) (next : FieldCursor) → fieldStep here s ≡ ok (item f next) → standsBehind sizes (c .columns) s (st .before) f ≡ false
     → done (keepFields sizes c s) ≡ refuse 7 (here .at)
 kept-to-refused {sizes} {c} {s} {here} st f next e k = sym (st .rest) ∙ rw (keep-turn sizes c s (st .before) (here .at), stepped st f next e, k)
 

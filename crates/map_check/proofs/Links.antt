@@ -13,7 +13,7 @@ use Rattle.value.specs.declared.column.Dialect.{Dialect}
 use Rattle.table_map.specs.declared.event.Event.{Event}
 use Rattle.table_map.specs.declared.field.Fields.{Fields as FieldCursor}
 use Rattle.table_map.specs.Parts.{lentPart}
-use Rattle.map_check.specs.declared.column.Declared.{Declared}
+use Rattle.map_check.specs.declared.declare.Declared.{Declared}
 use Rattle.map_check.specs.declared.rank.Ranks.{Ranks}
 use Rattle.map_check.specs.Columns.{takeColumns, declareAll}
 use Rattle.map_check.specs.Ranks.{place, noRanks, sizesOf}

@@ -18,7 +18,7 @@ use Rattle.record.specs.declared.entry.Entry.{Entry}
 use Rattle.record.specs.Entries.{entryBytes}
 use Rattle.record.specs.Records.{headBytes, entriesBytes, recordBytes}
 use Rattle.record.proofs.Made.{made-length}
-use Rattle.map_check.specs.declared.column.Declared.{Declared}
+use Rattle.map_check.specs.declared.declare.Declared.{Declared}
 use Rattle.map_check.specs.declared.rank.Place.{Place}
 use Rattle.map_check.specs.declared.rank.Ranks.{Ranks}
 use Rattle.map_check.specs.declared.facts.Facts.{Facts}

@@ -14,8 +14,8 @@ use Rattle.table_map.specs.Lists.{step, walkSteps}
 use Rattle.table_map.specs.Fields.{signBits, countSignBits, contentsHold, fieldItem}
 use Rattle.map_check.specs.Ranks.{place, noRanks}
 use Rattle.map_check.specs.Contents.{every, listHolds, exactly, keyItem, contentsFull}
-use Rattle.map_check.specs.Fields.{stood, rivalOf, isKept, keepSteps, keepFields, firstOf}
-use Rattle.map_check.specs.Names.{listOf, stringAt, columnName, nameIn, namesBytes}
+use Rattle.map_check.specs.Fields.{stood, rivalOf, standsGiven, keepSteps, keepFields, firstOf}
+use Rattle.map_check.specs.Names.{listOf, stringAt, columnName, nameIn, namesPart}
 
 -- ---- names: "a" and "bc" in the map, "x" and "y" in the operator's list
 abbrev names : List ℕ
@@ -69,12 +69,12 @@ no-further = refl
 abbrev event : List ℕ → List ℕ
 event optional = 1 ∷ 0 ∷ 0 ∷ 0 ∷ 0 ∷ 0 ∷ 1 ∷ 0 ∷ 1 ∷ 0x74 ∷ 0 ∷ 1 ∷ 0x72 ∷ 0 ∷ 1 ∷ 1 ∷ 0 ∷ 0 ∷ optional
 
-of-map : namesBytes Document (event (1 ∷ 1 ∷ 128 ∷ 4 ∷ 2 ∷ 1 ∷ 97 ∷ [])) (readEvent (event (1 ∷ 1 ∷ 128 ∷ 4 ∷ 2 ∷ 1 ∷ 97 ∷ [])) 8) ≡ 1 ∷ 97 ∷ []
+of-map : namesPart Document (event (1 ∷ 1 ∷ 128 ∷ 4 ∷ 2 ∷ 1 ∷ 97 ∷ [])) (readEvent (event (1 ∷ 1 ∷ 128 ∷ 4 ∷ 2 ∷ 1 ∷ 97 ∷ [])) 8) ≡ part 23 2
 unfolding readEvent readNames readColumns leValue readPacked formOf within shortPart longPart step walkSteps signBits countSignBits hasSignBit isNumeric familyOf contentsHold fieldItem firstOf
 of-map = refl
 
 -- none behind a field that is refused
-behind-a-refusal : namesBytes Document (event (14 ∷ 0 ∷ 4 ∷ 2 ∷ 1 ∷ 97 ∷ [])) (readEvent (event (14 ∷ 0 ∷ 4 ∷ 2 ∷ 1 ∷ 97 ∷ [])) 8) ≡ []
+behind-a-refusal : namesPart Document (event (14 ∷ 0 ∷ 4 ∷ 2 ∷ 1 ∷ 97 ∷ [])) (readEvent (event (14 ∷ 0 ∷ 4 ∷ 2 ∷ 1 ∷ 97 ∷ [])) 8) ≡ part 0 0
 unfolding readEvent readNames readColumns leValue readPacked formOf within shortPart longPart step walkSteps signBits countSignBits hasSignBit isNumeric familyOf contentsHold fieldItem firstOf
 behind-a-refusal = refl
 
@@ -83,13 +83,13 @@ abbrev first : FieldCursor
 first = record { at = 0; numeric = 0; columns = 0 }
 
 side-by-side : keepFields noRanks first (8 ∷ 0 ∷ 12 ∷ 0 ∷ []) ≡ ok ((8, part 2 0) ∷ (12, part 4 0) ∷ [])
-unfolding keepSteps step fieldItem contentsHold longPart within readPacked formOf isKept stood rivalOf contentsFull exactly listHolds every walkSteps keyItem
+unfolding keepSteps step fieldItem contentsHold longPart within readPacked formOf standsGiven stood rivalOf contentsFull exactly listHolds every walkSteps keyItem
 side-by-side = refl
 
 twice : keepFields noRanks first (12 ∷ 0 ∷ 8 ∷ 0 ∷ 12 ∷ 0 ∷ []) ≡ refuse 7 4
-unfolding keepSteps step fieldItem contentsHold longPart within readPacked formOf isKept stood rivalOf contentsFull exactly listHolds every walkSteps keyItem
+unfolding keepSteps step fieldItem contentsHold longPart within readPacked formOf standsGiven stood rivalOf contentsFull exactly listHolds every walkSteps keyItem
 twice = refl
 
 rival : keepFields noRanks first (9 ∷ 0 ∷ 8 ∷ 0 ∷ []) ≡ refuse 7 2
-unfolding keepSteps step fieldItem contentsHold longPart within readPacked formOf isKept stood rivalOf contentsFull exactly listHolds every walkSteps keyItem
+unfolding keepSteps step fieldItem contentsHold longPart within readPacked formOf standsGiven stood rivalOf contentsFull exactly listHolds every walkSteps keyItem
 rival = refl

@@ -16,7 +16,7 @@ use Rattle.record.specs.declared.entry.Entry.{Entry}
 use Rattle.record.specs.Entries.{unsignedFlag, entryHolds}
 use Rattle.record.specs.Records.{recordBytes, recordValid}
 use Rattle.record.proofs.Made.{Kept, made-valid}
-use Rattle.map_check.specs.declared.column.Declared.{Declared}
+use Rattle.map_check.specs.declared.declare.Declared.{Declared}
 use Rattle.map_check.specs.declared.rank.Place.{Place}
 use Rattle.map_check.specs.declared.rank.Ranks.{Ranks}
 use Rattle.map_check.specs.declared.facts.Facts.{Facts}

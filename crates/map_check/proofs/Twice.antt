@@ -17,8 +17,8 @@ use Rattle.wire.proofs.Outcomes.{by-test, after-refuses, ok-not-refused, same-r
 use Rattle.table_map.specs.declared.part.Part.{Part}
 use Rattle.table_map.specs.Parts.{lentPart}
 use Rattle.table_map.specs.Lists.{step, walkSteps}
-use Rattle.map_check.specs.declared.field.Found.{Found}
-use Rattle.map_check.specs.declared.field.Found.the-variants.{Value, Nothing}
+use Rattle.map_check.specs.declared.found.Found.{Found}
+use Rattle.map_check.specs.declared.found.Found.the-variants.{Value, Nothing}
 use Rattle.map_check.specs.Contents.{keyItem}
 use Rattle.map_check.specs.Fields.{stood, firstOf}
 use Rattle.map_check.specs.Keys.{withPlace, keysFrom, keysOnce, onceIn, keysHold}

@@ -15,7 +15,7 @@ use Rattle.table_map.specs.Parts.{lentPart}
 use Rattle.table_map.specs.Events.{readEvent}
 use Rattle.record.specs.declared.entry.Entry.{Entry}
 use Rattle.record.specs.Records.{recordBytes}
-use Rattle.map_check.specs.declared.column.Declared.{Declared}
+use Rattle.map_check.specs.declared.declare.Declared.{Declared}
 use Rattle.map_check.specs.Columns.{takeColumns}
 use Rattle.map_check.specs.Ranks.{place, noRanks, ranksFrom, sizesOf}
 use Rattle.map_check.specs.Fields.{fieldsAt, keepSteps, keepFields}

@@ -6,8 +6,8 @@ use Rattle.wire.specs.Outcome.{Outcome, ok, refuse, after}
 use Rattle.table_map.specs.declared.part.Part.{Part}
 use Rattle.table_map.specs.Parts.{lentPart}
 use Rattle.table_map.specs.Lists.{Rule, walk, walkSteps}
-use Rattle.map_check.specs.declared.field.Found.{Found}
-use Rattle.map_check.specs.declared.field.Found.the-variants.{Value, Nothing}
+use Rattle.map_check.specs.declared.found.Found.{Found}
+use Rattle.map_check.specs.declared.found.Found.the-variants.{Value, Nothing}
 use Rattle.map_check.specs.Contents.{keyItem}
 use Rattle.map_check.specs.Fields.{stood, firstOf}
 

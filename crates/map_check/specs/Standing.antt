@@ -15,8 +15,8 @@ use Rattle.table_map.specs.Lists.{Stepped, end, item, walk, integerItem, pairIt
 use Rattle.record.specs.declared.entry.Entry.{Entry}
 use Rattle.map_check.specs.declared.contents.Meaning.the-variants.{Charset}
 use Rattle.map_check.specs.declared.rank.Rank.{Rank}
-use Rattle.map_check.specs.declared.field.Found.{Found}
-use Rattle.map_check.specs.declared.field.Found.the-variants.{Value, Nothing}
+use Rattle.map_check.specs.declared.found.Found.{Found}
+use Rattle.map_check.specs.declared.found.Found.the-variants.{Value, Nothing}
 use Rattle.map_check.specs.declared.facts.Facts.{Facts}
 use Rattle.map_check.specs.declared.facts.Charsets.{Charsets}
 use Rattle.map_check.specs.declared.charset.CharsetCursor.{CharsetCursor}

@@ -2,11 +2,11 @@
 use crate::charset::CharsetCursor;
 use crate::charset::charset_if;
 use crate::charset::first_charset;
-use crate::column::Declared;
-use crate::column::declare;
+use crate::declare::Declared;
+use crate::declare::declare;
 use crate::facts::Facts;
-use crate::field::Found;
-use crate::field::value_in;
+use crate::found::Found;
+use crate::found::value_in;
 use crate::rank::Place;
 use crate::rank::Rank;
 use crate::rank::Ranks;

@@ -1,5 +1,5 @@
 // What the record needs of a map besides its columns.
-use crate::field::Found;
+use crate::found::Found;
 use table_map::Part;
 
 // The two fields that tell the charsets of a class, of which one may stand.

@@ -1,38 +1,15 @@
 // The optional fields of a map, one by one.
 use crate::contents::contents_full;
+use crate::found::Found;
+use crate::found::Judged;
+use crate::rank::Place;
 use crate::rank::Ranks;
 use table_map::FieldStep;
 use table_map::Fields;
 use table_map::Part;
-use wire::Refusal;
 use wire::refusal::BAD_FIELD;
 ghost use mathlib.Core.Path.{_≡_};
-ghost use mathlib.Core.Bool.{_&&_, not};
-ghost use Rattle.table_map.specs.Parts.{lentPart};
-ghost use Rattle.map_check.specs.Contents.{contentsFull};
-ghost use Rattle.map_check.specs.Fields.{rivalOf, keepFields, firstOf, valueIn, fieldsFrom, done, judgedOf};
-
-// The value of a field, if it stands.
-pub(crate) enum Found {
-    Value(Part),
-    Nothing,
-}
-
-// Whether something passes, or why not.
-pub(crate) enum Judged {
-    Kept,
-    Refused(Refusal),
-}
-
-// The bytes of a value that was found.
-pub(crate) fn value_in(event: &[u8], found: Found) -> &[u8]
-    ensures { λ r. ⌜ now r ≡ valueIn (now (event .entry)) found ⌝ }
-{
-    match found {
-        Found::Value(part) => table_map::part_of(event, part),
-        Found::Nothing => &event[0..0],
-    }
-}
+ghost use Rattle.map_check.specs.Fields.{rivalOf, standsGiven, keepFields, firstOf, fieldsFrom, done, judgedOf};
 
 // The first field of a type, from a cursor on.
 pub(crate) fn find_field(event: &[u8], fields: Fields, kind: u8) -> Found
@@ -73,16 +50,16 @@ fn rival_of(kind: u8) -> u8
 }
 
 // Whether a field may stand, given whether its type and its rival stood before it.
-fn is_kept(
+fn stands_given(
     event: &[u8],
     sizes: Ranks,
-    n: usize,
+    columns: Place,
     twice: bool,
     rivalled: bool,
     kind: u8,
     value: Part,
 ) -> bool
-    ensures { λ r. ⌜ r ≡ (not twice && (not rivalled && contentsFull sizes n kind (lentPart (now (event .entry)) value))) ⌝ }
+    ensures { λ r. ⌜ r ≡ standsGiven sizes (columns .0) (now (event .entry)) twice rivalled (kind, value) ⌝ }
 {
     if twice {
         return false;
@@ -90,14 +67,14 @@ fn is_kept(
     if rivalled {
         return false;
     }
-    contents_full(sizes, n, kind, table_map::part_of(event, value))
+    contents_full(sizes, columns, kind, table_map::part_of(event, value))
 }
 
 // All fields from a cursor on, contents in full. A type is below 14, and so is its rival.
 pub(crate) fn keep_fields(event: &[u8], fields: Fields, sizes: Ranks) -> Judged
     ensures { λ r. ⌜ judgedOf r ≡ done (keepFields sizes fields (now (event .entry))) ⌝ }
 {
-    let columns = fields.columns;
+    let columns = Place(fields.columns);
     let mut cursor = fields;
     // which types stood
     let mut seen: [bool; 14] = [false; 14];
@@ -107,7 +84,7 @@ pub(crate) fn keep_fields(event: &[u8], fields: Fields, sizes: Ranks) -> Judged
             FieldStep::Field { kind, value, next } => {
                 let k = kind as usize;
                 let rival = rival_of(kind) as usize;
-                if !is_kept(event, sizes, columns, seen[k], seen[rival], kind, value) {
+                if !stands_given(event, sizes, columns, seen[k], seen[rival], kind, value) {
                     return Judged::Refused(wire::refuse(BAD_FIELD, at));
                 }
                 seen[k] = true;

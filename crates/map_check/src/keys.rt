@@ -1,6 +1,7 @@
 // The key indexes of a map, in its fields 8 and 9: all below n, and none twice.
-use crate::field::Found;
-use crate::field::Judged;
+use crate::found::Found;
+use crate::found::Judged;
+use crate::rank::Place;
 use wire::Packed;
 use wire::refusal::BAD_FIELD;
 ghost use mathlib.Core.Path.{_≡_};
@@ -39,11 +40,11 @@ pub(crate) fn key_at(value: &[u8], paired: bool, at: usize) -> Packed
     }
 }
 
-// Whether the value is keys, and all of them below n.
-pub(crate) fn keys_below(value: &[u8], paired: bool, n: usize) -> bool
-    ensures { λ r. ⌜ r ≡ listHolds (keyItem paired) (λ k. ltb k n) (now (value .entry)) 0 ⌝ }
+// Whether the value is keys, and each is the place of one of the map's columns.
+pub(crate) fn keys_below(value: &[u8], paired: bool, columns: Place) -> bool
+    ensures { λ r. ⌜ r ≡ listHolds (keyItem paired) (λ k. ltb k (columns .0)) (now (value .entry)) 0 ⌝ }
 {
-    let above = n as u64;
+    let above = columns.0 as u64;
     let mut at: usize = 0;
     while at < value.len() {
         match key_at(value, paired, at) {

@@ -1,5 +1,5 @@
 // Two ways of numbering columns: by their place in the table, and by their rank among the columns of a class.
-use crate::column::Declared;
+use crate::declare::Declared;
 use value::Dialect;
 ghost use mathlib.Core.Path.{_≡_};
 ghost use Prim.Native.Nat.{_≤_};

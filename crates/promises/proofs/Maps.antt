@@ -30,7 +30,7 @@ use Rattle.record.specs.Records.{recordBytes}
 use Rattle.map_check.specs.declared.rank.Ranks.{Ranks}
 use Rattle.map_check.specs.Columns.{metaBytes, declared, isAccepted, takeColumn, takeColumns}
 use Rattle.map_check.specs.Ranks.{sizesOf}
-use Rattle.map_check.specs.Fields.{isKept, keep, keepSteps, keepFields, fieldsAt}
+use Rattle.map_check.specs.Fields.{standsBehind, keep, keepSteps, keepFields, fieldsAt}
 use Rattle.map_check.specs.Keys.{keysHold}
 use Rattle.map_check.specs.Check.{fewEnough, checkEvent, checkMap, check}
 use Rattle.map_check.specs.Names.{met, stringAt}
@@ -196,11 +196,11 @@ module _ {ls : List Line} (s : List ℕ) (one : (p : ℕ) → p ≤ length s →
 
       go : ((kind next : ℕ) → next ≤ length s → Listed ls (keepSteps m sizes c s (kind ∷ before) next))
           → (x : Outcome (Stepped (ℕ × Part) ℕ)) → step rule s o ≡ x
-          → Listed ls (keep (λ kind next. keepSteps m sizes c s (kind ∷ before) next) (isKept sizes (c .columns) s before) o x)
+          → Listed ls (keep (λ kind next. keepSteps m sizes c s (kind ∷ before) next) (standsBehind sizes (c .columns) s before) o x)
       go again (ok end) e = done _
       go again (ok (item f next)) e =
           let l = item-moves rule (field-moves (c .numeric) (c .columns)) s o f next e .1 in
-          test (isKept sizes (c .columns) s before f)
+          test (standsBehind sizes (c .columns) s before f)
           (λ u. chain (keepSteps m sizes c s (f .0 ∷ before) next) _ (again (f .0) next l) (λ fs i. done _))
           (λ u. stop (seven o (item-read rule s o f next e .0)))
       go again (refused w) e = hand (step rule s o) w met e

@@ -113,7 +113,7 @@ pub record EveryCall : Type 1 where
   -- ---- `record`. `record_valid`, `entry_in`, `entry_holds` and `column_of` refuse nothing
   -- `read_record`
   pub read-record : (r : List ℕ) → Only (readRecord r) (11 at 0 ∷ [])
-  -- ---- `map_check`. `name_part` and the calls for the names field (`names_part`, `names_field`) hand back an empty part where there is a refusal
+  -- ---- `map_check`. `name_part` and `names_part` hand back an empty part where there is a refusal
   -- `check`: 1, 2, 6 and 7 at an offset of the event; 4 at a column, and 5 too, or at n for metadata left over, n being how many type bytes the event has
   pub check-map : (d : Dialect) (event : List ℕ) (postHeader : ℕ) (buf : List ℕ) (n : ℕ) → n ≡ length (partIn (λ e. e .types) event (readEvent event postHeader))
       → Only (check d event postHeader buf)

@@ -12,7 +12,7 @@ use Rattle.map_check.proofs.field.keep_fields.Statement.{statement}
 use Rattle.map_check.proofs.field.keep_fields.Tie as tie
 use Rattle.map_check.proofs.field.keep_fields.Reads as reads
 use Rattle.map_check.proofs.field.keep_fields.Lts as lts
-use Rattle.map_check.proofs.field.is_kept.Reads as is-kept-reads
+use Rattle.map_check.proofs.field.stands_given.Reads as stands-given-reads
 use Rattle.map_check.proofs.field.rival_of.Reads as rival-of-reads
 use Rattle.table_map.proofs.field.Fields.next.Reads as next-reads
 use Rattle.wire.proofs.refuse.Reads as refuse-reads
@@ -41,14 +41,14 @@ rival-of-requires c κs = search needs
 cast-rival : tie.Need-cast-rival Inv-loop μ-loop
 cast-rival c = search needs
 
-array-read-is-kept : tie.Need-array-read-is-kept Inv-loop μ-loop
-array-read-is-kept c = kind-low _ _ _ _ (sym (c .before .before .before .before .next .ensures) ∙ ap fieldOf (c .before .before .kind .given .1))
+array-read-stands-given : tie.Need-array-read-stands-given Inv-loop μ-loop
+array-read-stands-given c = kind-low _ _ _ _ (sym (c .before .before .before .before .next .ensures) ∙ ap fieldOf (c .before .before .kind .given .1))
 
-array-read-is-kept-2 : tie.Need-array-read-is-kept-2 Inv-loop μ-loop
-array-read-is-kept-2 c = rw (c .rival-of .ensures) (rival-low _)
+array-read-stands-given-2 : tie.Need-array-read-stands-given-2 Inv-loop μ-loop
+array-read-stands-given-2 c = rw (c .rival-of .ensures) (rival-low _)
 
-is-kept-requires : tie.Need-is-kept-requires Inv-loop μ-loop
-is-kept-requires c κs = search needs
+stands-given-requires : tie.Need-stands-given-requires Inv-loop μ-loop
+stands-given-requires c κs = search needs
 
 refuse-requires : tie.Need-refuse-requires Inv-loop μ-loop
 refuse-requires c κs = search needs
@@ -56,7 +56,7 @@ refuse-requires c κs = search needs
 returns : tie.Need-returns Inv-loop μ-loop
 returns c = let e = sym (c .before .before .before .before .before .before .before .next .ensures) ∙ ap fieldOf (c .before .before .before .before .before .kind .given .1) in
     let st = c .before .before .before .before .before .before .before .before .loop .inv in
-    let k = marks-tell st _ _ _ (kind-low _ _ _ _ e) (c .before .before .before .rival-of .ensures) (c .before .before .is-kept .ensures) ∙ not-true _ (c .before .if1 .taken) in
+    let k = marks-tell st _ _ _ (kind-low _ _ _ _ e) (c .before .before .before .rival-of .ensures) (c .before .before .stands-given .ensures) ∙ not-true _ (c .before .if1 .taken) in
     rw (c .refuse .ensures) (sym (kept-to-refused st _ _ e k))
 
 array-write-seen : tie.Need-array-write-seen Inv-loop μ-loop
@@ -69,7 +69,7 @@ loop-less c = let w = cursor-moves _ _ _ _ (sym (c .before .before .before .befo
 loop-again : tie.Need-loop-again Inv-loop μ-loop
 loop-again c = let e = sym (c .before .before .before .before .before .before .next .ensures) ∙ ap fieldOf (c .before .before .before .before .kind .given .1) in
     let st = c .before .before .before .before .before .before .before .loop .inv in
-    let k = marks-tell st _ _ _ (kind-low _ _ _ _ e) (c .before .before .rival-of .ensures) (c .before .is-kept .ensures) ∙ not-false _ (c .if1 .left) in
+    let k = marks-tell st _ _ _ (kind-low _ _ _ _ e) (c .before .before .rival-of .ensures) (c .before .stands-given .ensures) ∙ not-false _ (c .if1 .left) in
     kept-to-next st _ _ e k
 
 enum-told : tie.Need-enum-told Inv-loop μ-loop
@@ -96,9 +96,9 @@ keep-fields-spec =
     cast-k
     rival-of-requires
     cast-rival
-    array-read-is-kept
-    array-read-is-kept-2
-    is-kept-requires
+    array-read-stands-given
+    array-read-stands-given-2
+    stands-given-requires
     refuse-requires
     returns
     array-write-seen

@@ -8,7 +8,7 @@ use borrow.Author.Needs.{needs}
 use Rattle.wire.specs.declared.refusal.Refusal.{Refusal}
 use Rattle.wire.specs.Outcome.{refused}
 use Rattle.wire.specs.Packed.{packedOf}
-use Rattle.map_check.specs.declared.field.Judged.the-variants.{Kept}
+use Rattle.map_check.specs.declared.found.Judged.the-variants.{Kept}
 use Rattle.map_check.specs.Fields.{judgedOf}
 use Rattle.map_check.proofs.Repeats.{Reached, Compared, reached-first, reached-next, compared-none, compared-more, repeats, reads-again, ends-past, ends-stop}
 use Rattle.map_check.proofs.KeyItems.{key-moves}
