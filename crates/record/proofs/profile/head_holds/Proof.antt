@@ -1,14 +1,17 @@
 -- `record::profile::head_holds` meets its contract. Assumes nothing.
-use mathlib.Core.Path.{_∙_}
+use mathlib.Core.Path.{ap, _∙_}
+use native.Mathlib.Omega.{arith}
 use borrow.Author.Needs.{needs}
 use borrow.Author.Tests.{le-leb, eq-eqb, ne-eqb}
 use Rattle.wire.proofs.Rules.{tests}
-use Rattle.record.specs.Records.{headHolds}
+use Rattle.record.specs.Records.{entryAt, headHolds}
+use Rattle.record.proofs.Places.{place-few}
 use Rattle.record.proofs.profile.head_holds.Statement.{statement}
 use Rattle.record.proofs.profile.head_holds.Tie as tie
 use Rattle.record.proofs.profile.head_holds.Reads as reads
 use Rattle.record.proofs.profile.head_holds.Lts as lts
 use Rattle.record.proofs.profile.byte_at.Reads as byte-at-reads
+use Rattle.record.proofs.profile.entry_at.Reads as entry-at-reads
 use Rattle.record.proofs.profile.wide.Reads as wide-reads
 use Rattle.wire.proofs.read_le.Reads as read-le-reads
 
@@ -62,18 +65,16 @@ byte-at-requires-2 c κs = search needs
 wide-requires : tie.Need-wide-requires
 wide-requires c κs = search needs
 
-mul-result : tie.Need-mul-result
-mul-result c = search needs
-
-add-result : tie.Need-add-result
-add-result c = search needs
+entry-at-requires : tie.Need-entry-at-requires
+entry-at-requires c κs = search needs
 
 returns-5 : tie.Need-returns-5
 unfolding headHolds
 returns-5 c =
-    let z = c .before .before in
+    let z = c .before .before .before in
     let y = z .before .before in
     let x = y .before .before in
+    let n = c .before .wide .ensures ∙ c .before .before .byte-at2 .ensures in
     rw (
       le-leb 6 _ (x .before .before .if1 .left),
       ← x .before .read-le .ensures .0,
@@ -82,7 +83,7 @@ returns-5 c =
       eq-eqb _ _ (y .if3 .left),
       ← z .before .byte-at .ensures,
       eq-eqb _ _ (z .if4 .left),
-      c .wide .ensures ∙ c .before .byte-at2 .ensures,
+      c .entry-at .ensures ∙ place-few _ (omega arith) ∙ ap entryAt n,
     )
 
 pub head-holds-spec : {M : Type 1} → statement M
@@ -98,6 +99,5 @@ head-holds-spec =
     returns-4
     byte-at-requires-2
     wide-requires
-    mul-result
-    add-result
+    entry-at-requires
     returns-5)
