@@ -12,9 +12,9 @@ use lib.Seq.{getD-drop, drop-drop}
 use lib.Dec.{leb, ltb, eqb}
 use Rattle.wire.specs.Outcome.{Outcome, ok, refused}
 use Rattle.wire.specs.Packed.{readPacked}
+use Rattle.wire.specs.declared.part.Part.{Part}
+use Rattle.wire.specs.Parts.{lentPart}
 use Rattle.wire.proofs.Outcomes.{same-ok, ok-not-refused, both-true}
-use Rattle.table_map.specs.declared.part.Part.{Part}
-use Rattle.table_map.specs.Parts.{lentPart}
 use Rattle.table_map.specs.Lists.{Rule, Stepped, end, item, step, Walked, onward, walk, walkSteps, integerItem, pairItem}
 use Rattle.table_map.proofs.Items.{Moves, integer-moves, pair-moves}
 use Rattle.table_map.proofs.Walks.{walk-steps}

@@ -10,8 +10,8 @@ use lib.Seq.{getD-set-same, getD-set-other}
 use lib.Dec.{leb, eqb}
 use Rattle.wire.specs.declared.refusal.Refusal.{Refusal}
 use Rattle.wire.specs.Outcome.{Outcome, ok, refused, refuse, after}
+use Rattle.wire.specs.declared.part.Part.{Part}
 use Rattle.wire.proofs.Outcomes.{both-true}
-use Rattle.table_map.specs.declared.part.Part.{Part}
 use Rattle.table_map.specs.declared.field.Fields.{Fields as FieldCursor}
 use Rattle.table_map.specs.Lists.{Stepped, end, item, step, Walked, onward, walk}
 use Rattle.table_map.specs.Fields.{fieldItem, fieldStep}

@@ -12,10 +12,10 @@ use lib.ListN.{length, getD}
 use lib.Dec.{leb, eqb}
 use Rattle.wire.specs.declared.refusal.Refusal.{Refusal}
 use Rattle.wire.specs.Outcome.{Outcome, ok, refused}
+use Rattle.wire.specs.Parts.{lentPart}
+use Rattle.wire.specs.declared.part.Part.{Part}
 use Rattle.wire.proofs.Outcomes.{after-is-ok, by-test, ok-not-refused, same-ok, same-refused, both-true}
-use Rattle.table_map.specs.declared.part.Part.{Part}
 use Rattle.table_map.specs.declared.field.Fields.{Fields as FieldCursor}
-use Rattle.table_map.specs.Parts.{lentPart}
 use Rattle.table_map.specs.Lists.{Stepped, end, item, step, Walked, whole, onward, walkSteps, walk}
 use Rattle.table_map.specs.Fields.{isField, fieldItem}
 use Rattle.table_map.proofs.Steps.{item-read}

@@ -9,8 +9,8 @@ use borrow.Author.Tests.{leb-true}
 use lib.ListN.{length, drop, length-drop}
 use lib.Seq.{length-take-le}
 use lib.Dec.{leb}
-use Rattle.table_map.specs.declared.part.Part.{Part}
-use Rattle.table_map.specs.Parts.{partOf, lentPart}
+use Rattle.wire.specs.declared.part.Part.{Part}
+use Rattle.wire.specs.Parts.{partOf, lentPart}
 
 -- there are none, or they end within those lent
 pub lent-ends : (s : List ℕ) (p : Part) → (length (lentPart s p) ≡ 0) ⊎ (p .start + length (lentPart s p) ≤ length s)

@@ -5,7 +5,7 @@ use mathlib.Core.List.{List}
 use native.Mathlib.Omega.{arith}
 use Rattle.wire.specs.declared.refusal.Refusal.{Refusal}
 use Rattle.wire.specs.Outcome.{ok, refused, refuse}
-use Rattle.table_map.specs.declared.part.Part.{Part}
+use Rattle.wire.specs.declared.part.Part.{Part}
 use Rattle.table_map.specs.Lists.{end, item, step, stringItem}
 use Rattle.map_check.specs.Names.{stringAt}
 

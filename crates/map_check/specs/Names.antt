@@ -6,10 +6,10 @@ use mathlib.Core.List.{List, []}
 use lib.ListN.{length}
 use lib.Dec.{eqb}
 use Rattle.wire.specs.Outcome.{Outcome, ok, refused, refuse}
+use Rattle.wire.specs.declared.part.Part.{Part}
+use Rattle.wire.specs.Parts.{part, lentPart}
 use Rattle.value.specs.declared.column.Dialect.{Dialect}
 use Rattle.table_map.specs.declared.event.Event.{Event}
-use Rattle.table_map.specs.declared.part.Part.{Part}
-use Rattle.table_map.specs.Parts.{part, lentPart}
 use Rattle.table_map.specs.Lists.{Stepped, end, item, step, stringItem}
 use Rattle.map_check.specs.declared.rank.Place.{Place}
 use Rattle.map_check.specs.declared.found.Found.{Found}

@@ -8,9 +8,9 @@ use lib.ListN.{length, getD, drop}
 use lib.Dec.{eqb}
 use Rattle.wire.specs.Outcome.{Outcome, ok, refused}
 use Rattle.wire.specs.Packed.{readPacked}
+use Rattle.wire.specs.declared.part.Part.{Part}
+use Rattle.wire.specs.Parts.{lentPart}
 use Rattle.value.specs.declared.column.Dialect.{Dialect}
-use Rattle.table_map.specs.declared.part.Part.{Part}
-use Rattle.table_map.specs.Parts.{lentPart}
 use Rattle.table_map.specs.Lists.{Stepped, end, item, walk, integerItem, pairItem}
 use Rattle.record.specs.declared.entry.Entry.{Entry}
 use Rattle.map_check.specs.declared.contents.Meaning.the-variants.{Charset}

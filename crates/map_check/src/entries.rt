@@ -22,8 +22,8 @@ ghost use Prim.Native.Nat.{_+_, _*_, _≤_, _<_};
 ghost use lib.ListN.{length};
 ghost use Rattle.wire.specs.Bits.{bitLsb0};
 ghost use Rattle.wire.specs.Stored.{store, stored, answerOf, leftOf, writtenOf};
+ghost use Rattle.wire.specs.Parts.{lentPart};
 ghost use Rattle.value.specs.Columns.{isCharacter};
-ghost use Rattle.table_map.specs.Parts.{lentPart};
 ghost use Rattle.record.specs.Records.{entriesBytes, recordBytes};
 ghost use Rattle.map_check.specs.Columns.{declareAll};
 ghost use Rattle.map_check.specs.Ranks.{place, noRanks};
@@ -82,7 +82,7 @@ fn is_unsigned(event: &[u8], facts: Facts, column: Declared, rank: Rank) -> bool
 fn is_nullable(event: &[u8], facts: Facts, column: Place) -> bool
     ensures { λ r. ⌜ r ≡ bitLsb0 (lentPart (now (event .entry)) (facts .bits)) (column .0) ⌝ }
 {
-    wire::bit_lsb0(table_map::part_of(event, facts.bits), column.0)
+    wire::bit_lsb0(wire::part_of(event, facts.bits), column.0)
 }
 
 fn is_visible(event: &[u8], facts: Facts, column: Place) -> bool

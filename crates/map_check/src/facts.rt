@@ -1,6 +1,6 @@
 // What the record needs of a map besides its columns.
 use crate::found::Found;
-use table_map::Part;
+use wire::Part;
 
 // The two fields that tell the charsets of a class, of which one may stand.
 pub(crate) struct Charsets {

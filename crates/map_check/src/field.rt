@@ -6,7 +6,7 @@ use crate::rank::Place;
 use crate::rank::Ranks;
 use table_map::FieldStep;
 use table_map::Fields;
-use table_map::Part;
+use wire::Part;
 use wire::refusal::BAD_FIELD;
 ghost use mathlib.Core.Path.{_≡_};
 ghost use Rattle.map_check.specs.Fields.{rivalOf, standsGiven, keepFields, firstOf, fieldsFrom, done, judgedOf};
@@ -67,7 +67,7 @@ fn stands_given(
     if rivalled {
         return false;
     }
-    contents_full(sizes, columns, kind, table_map::part_of(event, value))
+    contents_full(sizes, columns, kind, wire::part_of(event, value))
 }
 
 // All fields from a cursor on, contents in full. A type is below 14, and so is its rival.

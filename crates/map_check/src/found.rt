@@ -1,5 +1,5 @@
 // What is told of optional fields: where the value of one stands, and whether something passes.
-use table_map::Part;
+use wire::Part;
 use wire::Refusal;
 ghost use mathlib.Core.Path.{_≡_};
 ghost use Rattle.map_check.specs.Fields.{valueIn};
@@ -21,7 +21,7 @@ pub(crate) fn value_in(event: &[u8], found: Found) -> &[u8]
     ensures { λ r. ⌜ now r ≡ valueIn (now (event .entry)) found ⌝ }
 {
     match found {
-        Found::Value(part) => table_map::part_of(event, part),
+        Found::Value(part) => wire::part_of(event, part),
         Found::Nothing => &event[0..0],
     }
 }

@@ -103,7 +103,7 @@ fn once_in(event: &[u8], paired: bool, field: Found) -> Judged
     match field {
         Found::Value(part) => {
             let start = part.start;
-            let value = table_map::part_of(event, part);
+            let value = wire::part_of(event, part);
             keys_once(value, paired, start)
         }
         Found::Nothing => Judged::Kept,

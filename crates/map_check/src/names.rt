@@ -4,10 +4,10 @@ use crate::found::Found;
 use crate::rank::Place;
 use table_map::EventRead;
 use table_map::Fields;
-use table_map::Part;
 use table_map::StringStep;
 use table_map::Strings;
 use value::Dialect;
+use wire::Part;
 use wire::Refusal;
 use wire::refusal::NO_COLUMN;
 ghost use mathlib.Core.Path.{_≡_};
@@ -35,7 +35,7 @@ pub fn name_part<'a>(names: &'a [u8], operator: &'a [u8], column: Place) -> &'a 
     ensures { λ r. ⌜ now r ≡ nameIn (listOf (now (names .entry)) (now (operator .entry))) (columnName (now (names .entry)) (now (operator .entry)) column) ⌝ }
 {
     match column_name(names, operator, column) {
-        NameRead::Name(part) => table_map::part_of(list_of(names, operator), part),
+        NameRead::Name(part) => wire::part_of(list_of(names, operator), part),
         NameRead::Refused(_) => &names[0..0],
     }
 }
@@ -50,7 +50,7 @@ pub fn names_part(event: &[u8], post_header: u8, dialect: Dialect) -> Part
     };
     let types = e.types;
     let optional = e.optional;
-    let fields = Fields::new(dialect, table_map::part_of(event, types), optional.start);
+    let fields = Fields::new(dialect, wire::part_of(event, types), optional.start);
     part_found(find_field(event, fields, NAMES))
 }
 

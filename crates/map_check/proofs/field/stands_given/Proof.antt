@@ -6,7 +6,7 @@ use Rattle.map_check.proofs.field.stands_given.Tie as tie
 use Rattle.map_check.proofs.field.stands_given.Reads as reads
 use Rattle.map_check.proofs.field.stands_given.Lts as lts
 use Rattle.map_check.proofs.contents.contents_full.Reads as contents-full-reads
-use Rattle.table_map.proofs.part_of.Reads as part-of-reads
+use Rattle.wire.proofs.part_of.Reads as part-of-reads
 
 returns : tie.Need-returns
 unfolding standsGiven

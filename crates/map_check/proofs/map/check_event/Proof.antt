@@ -16,7 +16,7 @@ use Rattle.map_check.proofs.field.find_field.Reads as find-field-reads
 use Rattle.map_check.proofs.field.keep_fields.Reads as keep-fields-reads
 use Rattle.map_check.proofs.keys.keys_checked.Reads as keys-checked-reads
 use Rattle.map_check.proofs.map.facts_of.Reads as facts-of-reads
-use Rattle.table_map.proofs.part_of.Reads as part-of-reads
+use Rattle.wire.proofs.part_of.Reads as part-of-reads
 use Rattle.table_map.proofs.field.Fields.new.Reads as new-reads
 use Rattle.wire.proofs.refuse.Reads as refuse-reads
 
