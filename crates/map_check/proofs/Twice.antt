@@ -22,7 +22,7 @@ use Rattle.map_check.specs.declared.found.Found.the-variants.{Value, Not
 use Rattle.map_check.specs.Contents.{keyItem}
 use Rattle.map_check.specs.Fields.{stood, firstOf}
 use Rattle.map_check.specs.Keys.{withPlace, keysFrom, keysOnce, onceIn, keysHold}
-use Rattle.map_check.proofs.Lent.{lent-ends}
+use Rattle.wire.proofs.Parts.{lent-ends}
 use Rattle.map_check.proofs.Repeats.{key-places}
 
 -- item j: its place, and its key

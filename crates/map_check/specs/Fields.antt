@@ -14,8 +14,6 @@ use Rattle.table_map.specs.Fields.{fieldItem, countSignBits}
 use Rattle.map_check.specs.declared.rank.Ranks.{Ranks}
 use Rattle.map_check.specs.declared.found.Found.{Found}
 use Rattle.map_check.specs.declared.found.Found.the-variants.{Value, Nothing}
-use Rattle.map_check.specs.declared.found.Judged.{Judged}
-use Rattle.map_check.specs.declared.found.Judged.the-variants.{Kept, Refused}
 use Rattle.map_check.specs.Contents.{contentsFull}
 
 -- whether a type stood before; `Keys` asks the same of a key
@@ -51,9 +49,13 @@ keepSteps (suc m) sizes c s before at =
     keep (λ kind next. keepSteps m sizes c s (kind ∷ before) next) (standsBehind sizes (c .columns) s before) at
     (step (fieldItem (c .numeric) (c .columns)) s at)
 
--- all of them, from where a walk stands; s is the event, so that places are places in it
+-- all of them from a place on, behind fields of some types; s is the event, so that places are places in it
+abbrev pub keepFrom : Ranks → FieldCursor → List ℕ → List ℕ → ℕ → Outcome (List (ℕ × Part))
+keepFrom sizes c s before at = keepSteps (suc (length s - at)) sizes c s before at
+
+-- and from where a walk stands
 abbrev pub keepFields : Ranks → FieldCursor → List ℕ → Outcome (List (ℕ × Part))
-keepFields sizes c s = keepSteps (suc (length s - c .at)) sizes c s [] (c .at)
+keepFields sizes c s = keepFrom sizes c s [] (c .at)
 
 -- ---- the value of the first field of a type
 unfoldable pub firstOf : ℕ → List (ℕ × Part) → Found
@@ -71,13 +73,3 @@ fieldsAt d types at = record { at = at; numeric = countSignBits d types; columns
 -- the fields of a walk, up to its end or to a refusal
 abbrev pub fieldsFrom : FieldCursor → List ℕ → List (ℕ × Part)
 fieldsFrom c s = walk (fieldItem (c .numeric) (c .columns)) s (c .at) .items
-
--- ---- what the answers say
--- whether something is there, without what it is
-abbrev pub done : {A : Type 0} → Outcome A → Outcome (Unit {0})
-done (ok a) = ok tt
-done (refused r) = refused r
-
-abbrev pub judgedOf : Judged → Outcome (Unit {0})
-judgedOf Kept = ok tt
-judgedOf (Refused r) = refused r

@@ -14,6 +14,7 @@ ghost use mathlib.Core.Path.{_≡_};
 ghost use Prim.Native.Nat.{_≤_};
 ghost use lib.ListN.{length, drop};
 ghost use Rattle.wire.specs.Outcome.{ok, after};
+ghost use Rattle.record.specs.Records.{mostColumns};
 ghost use Rattle.map_check.specs.Columns.{isReal, isAccepted, takeColumn, takeColumns, takenOf, sizesTold};
 ghost use Rattle.map_check.specs.Ranks.{sizesOf};
 
@@ -78,7 +79,7 @@ pub(crate) fn take_column(kind: u8, metadata: &[u8], at: usize, column: Place) -
 
 // All columns in turn, until one is refused. Behind the last there may be no metadata left.
 pub(crate) fn take_columns(dialect: Dialect, types: &[u8], metadata: &[u8]) -> Sizes
-    requires { ⌜ length (now types) ≤ 255 ⌝ }
+    requires { ⌜ length (now types) ≤ mostColumns ⌝ }
     ensures { λ r. ⌜ sizesTold r ≡ after (takeColumns (now (types .entry)) (now (metadata .entry)) 0) (λ cs. ok (sizesOf dialect cs)) ⌝ }
 {
     let mut ranks = no_ranks();

@@ -1,4 +1,4 @@
-// What the record needs of a map besides its columns.
+// What the check keeps of a map besides its columns.
 use crate::found::Found;
 use wire::Part;
 
@@ -10,6 +10,7 @@ pub(crate) struct Charsets {
     pub list: Found,
 }
 
+// What the record needs.
 pub(crate) struct Facts {
     // the nullable bits
     pub bits: Part,
@@ -20,4 +21,12 @@ pub(crate) struct Facts {
     pub characters: Charsets,
     // fields 10 and 11, of ENUM and SET columns
     pub choices: Charsets,
+}
+
+// What the check goes on with of a map's fields: those of keys, and what the record needs.
+pub(crate) struct KeptFields {
+    // fields 8 and 9
+    pub simple: Found,
+    pub prefixed: Found,
+    pub facts: Facts,
 }

@@ -1,15 +1,29 @@
 // The optional fields of a map, one by one.
 use crate::contents::contents_full;
+use crate::facts::Charsets;
+use crate::facts::Facts;
+use crate::facts::KeptFields;
 use crate::found::Found;
-use crate::found::Judged;
+use crate::found::stands;
 use crate::rank::Place;
 use crate::rank::Ranks;
 use table_map::FieldStep;
 use table_map::Fields;
 use wire::Part;
+use wire::Refusal;
 use wire::refusal::BAD_FIELD;
 ghost use mathlib.Core.Path.{_≡_};
-ghost use Rattle.map_check.specs.Fields.{rivalOf, standsGiven, keepFields, firstOf, fieldsFrom, done, judgedOf};
+ghost use lib.ListN.{getD};
+ghost use Rattle.wire.specs.Outcome.{ok, after};
+ghost use Rattle.map_check.specs.Fields.{rivalOf, standsGiven, keepFields, firstOf, fieldsFrom};
+ghost use Rattle.map_check.specs.Standing.{keptBy, keptOf};
+ghost use Rattle.map_check.specs.declared.found.Found.the-variants.{Nothing};
+
+// The fields of a map that are kept, or why one is not.
+pub(crate) enum FieldsKept {
+    Kept(KeptFields),
+    Refused(Refusal),
+}
 
 // The first field of a type, from a cursor on.
 pub(crate) fn find_field(event: &[u8], fields: Fields, kind: u8) -> Found
@@ -70,28 +84,55 @@ fn stands_given(
     contents_full(sizes, columns, kind, wire::part_of(event, value))
 }
 
-// All fields from a cursor on, contents in full. A type is below 14, and so is its rival.
-pub(crate) fn keep_fields(event: &[u8], fields: Fields, sizes: Ranks) -> Judged
-    ensures { λ r. ⌜ judgedOf r ≡ done (keepFields sizes fields (now (event .entry))) ⌝ }
+// What the check goes on with, of the fields that stood: each is looked up by its type.
+fn kept_of(bits: Part, places: [Found; 14]) -> KeptFields
+    ensures { λ r. ⌜ r ≡ keptBy bits (λ k. getD places k Nothing) ⌝ }
+{
+    let characters = Charsets {
+        default: places[2],
+        list: places[3],
+    };
+    let choices = Charsets {
+        default: places[10],
+        list: places[11],
+    };
+    let facts = Facts {
+        bits,
+        signs: places[1],
+        visibility: places[12],
+        characters,
+        choices,
+    };
+    KeptFields {
+        simple: places[8],
+        prefixed: places[9],
+        facts,
+    }
+}
+
+// All fields from a cursor on, contents in full, in one walk that notes where each stands. A type is below 14, and so is its rival.
+pub(crate) fn keep_fields(event: &[u8], fields: Fields, sizes: Ranks, bits: Part) -> FieldsKept
+    ensures { λ r. ⌜ keptOf r ≡ after (keepFields sizes fields (now (event .entry))) (λ fs. ok (keptBy bits (λ k. firstOf k fs))) ⌝ }
 {
     let columns = Place(fields.columns);
     let mut cursor = fields;
-    // which types stood
-    let mut seen: [bool; 14] = [false; 14];
+    let mut places: [Found; 14] = [Found::Nothing; 14];
     loop {
         let at = cursor.at;
         match cursor.next(event) {
             FieldStep::Field { kind, value, next } => {
                 let k = kind as usize;
                 let rival = rival_of(kind) as usize;
-                if !stands_given(event, sizes, columns, seen[k], seen[rival], kind, value) {
-                    return Judged::Refused(wire::refuse(BAD_FIELD, at));
+                let twice = stands(places[k]);
+                let rivalled = stands(places[rival]);
+                if !stands_given(event, sizes, columns, twice, rivalled, kind, value) {
+                    return FieldsKept::Refused(wire::refuse(BAD_FIELD, at));
                 }
-                seen[k] = true;
+                places[k] = Found::Value(value);
                 cursor = next;
             }
-            FieldStep::End => return Judged::Kept,
-            FieldStep::Refused(r) => return Judged::Refused(r),
+            FieldStep::End => return FieldsKept::Kept(kept_of(bits, places)),
+            FieldStep::Refused(r) => return FieldsKept::Refused(r),
         }
     }
 }

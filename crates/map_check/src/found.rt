@@ -1,19 +1,22 @@
-// What is told of optional fields: where the value of one stands, and whether something passes.
+// Where the value of an optional field stands, if the field does.
 use wire::Part;
-use wire::Refusal;
 ghost use mathlib.Core.Path.{_≡_};
 ghost use Rattle.map_check.specs.Fields.{valueIn};
+ghost use Rattle.map_check.specs.Profile.{stands};
 
 // The value of a field, if it stands.
 pub(crate) enum Found {
-    Value(Part),
     Nothing,
+    Value(Part),
 }
 
-// Whether something passes, or why not.
-pub(crate) enum Judged {
-    Kept,
-    Refused(Refusal),
+pub(crate) fn stands(found: Found) -> bool
+    ensures { λ r. ⌜ r ≡ stands found ⌝ }
+{
+    match found {
+        Found::Value(_) => true,
+        Found::Nothing => false,
+    }
 }
 
 // The bytes of a value that was found.

@@ -3,7 +3,7 @@ use mathlib.Core.Path.{ap}
 use mathlib.Core.Logic.{⊎-elim}
 use native.Mathlib.Omega.{arith}
 use lib.ListN.{length}
-use Rattle.map_check.proofs.Lent.{lent-ends}
+use Rattle.wire.proofs.Parts.{lent-ends}
 use borrow.Author.Needs.{needs}
 use Rattle.map_check.proofs.keys.once_in.Statement.{statement}
 use Rattle.map_check.proofs.keys.once_in.Tie as tie
