@@ -6,8 +6,8 @@ use mathlib.Core.List.{List, [], _∷_, _++_}
 use lib.Dec.{ltb, eqb}
 use Rattle.wire.specs.Outcome.{Outcome, ok, refused, refuse, after}
 use Rattle.wire.specs.declared.part.Part.{Part}
-use Rattle.value.specs.declared.column.Dialect.{Dialect}
-use Rattle.value.specs.declared.column.Dialect.the-variants.{Document, Mysql, Mariadb}
+use Rattle.value.specs.declared.classes.Dialect.{Dialect}
+use Rattle.value.specs.declared.classes.Dialect.the-variants.{Document, Mysql, Mariadb}
 use Rattle.value.specs.declared.datum.Value.the-variants.{Null}
 use Rattle.table_map.specs.Events.{readEvent}
 use Rattle.record.specs.declared.entry.Entry.{Entry}

@@ -12,7 +12,7 @@ use Rattle.value.proofs.Sorts.{not-bytes}
 use Rattle.value.specs.declared.datum.Value.{Value}
 use Rattle.value.specs.declared.datum.Value.the-variants.{Null, Int, Uint, Float, Double, Year, When, Bytes}
 use Rattle.value.specs.Reading.{datumOf}
-use Rattle.value.specs.Storing.{startOf, lenOf, isLent}
+use Rattle.value.specs.Storing.{bytesAt, isLent}
 use Rattle.image.specs.Rows.{isNull}
 use Rattle.image.specs.Part.{valueBytes}
 

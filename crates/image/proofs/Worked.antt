@@ -13,10 +13,12 @@ use Rattle.temporal.specs.Ranges.{dayFault}
 use Rattle.value.specs.declared.datum.Value.the-variants.{Null, Int, Uint, Bytes}
 use Rattle.value.specs.Data.{null, int, uint, bytes, tag, intIn, numberIn, bytesIn}
 use Rattle.value.specs.Domains.{domain}
-use Rattle.value.specs.Columns.{familyOf, isNumeric, isCharacter, isEnumOrSet, shapeIn, shapeOf, isTaken}
+use Rattle.value.specs.Types.{familyOf, isNumeric}
+use Rattle.value.specs.Columns.{shapeIn, shapeOf, isTaken}
+use Rattle.value.specs.Classes.{isCharacter, isEnumOrSet}
 use Rattle.value.specs.Shapes.{bytesOf, need, decode, fault}
 use Rattle.value.specs.Reading.{taken, cut, judged, readDatum, placed, readValue, datumOf}
-use Rattle.value.specs.Storing.{startOf, lenOf, isLent, isIn, storedBytes}
+use Rattle.value.specs.Storing.{bytesAt, isLent, isIn, storedBytes}
 use Rattle.record.specs.Entries.{flagsHold, charsetHolds, entryHolds, entryOf}
 use Rattle.record.specs.Records.{entryIn, entriesHold, headHolds, recordValid, readRecord}
 use Rattle.image.specs.Present.{countBits, shapeAt, presentFrom}
@@ -60,5 +62,5 @@ pub worked-back : (writeRow profile (7 ∷ []) (0 ∷ []) values (replicate 10 0
     × (writeRow profile (7 ∷ []) (0 ∷ []) values (replicate 8 0) ≡ refuse 8 0)
     -- NULL for the first column, whose null bit is not set
     × (writeRow profile (7 ∷ []) (0 ∷ []) (record { lent = []; value = Null } ∷ []) (replicate 10 0) ≡ refuse 13 0)
-unfolding leValue leBytes twosOf inHalves digit bitLsb0 stored store familyOf isNumeric isCharacter isEnumOrSet shapeIn shapeOf isTaken tag intIn numberIn bytesIn domain bytesOf taken datumOf startOf lenOf isLent isIn storedBytes flagsHold charsetHolds entryHolds entryOf entryIn entriesHold headHolds recordValid readRecord countBits shapeAt presentFrom slots slotsAt headOf isNull filled headNulls startImage slotBytes putOver putFrom putRow writeRow
+unfolding leValue leBytes twosOf inHalves digit bitLsb0 stored store familyOf isNumeric isCharacter isEnumOrSet shapeIn shapeOf isTaken tag intIn numberIn bytesIn domain bytesOf taken datumOf bytesAt isLent isIn storedBytes flagsHold charsetHolds entryHolds entryOf entryIn entriesHold headHolds recordValid readRecord countBits shapeAt presentFrom slots slotsAt headOf isNull filled headNulls startImage slotBytes putOver putFrom putRow writeRow
 worked-back = (refl, refl, refl)

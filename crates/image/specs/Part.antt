@@ -4,9 +4,9 @@ use mathlib.Core.Bool.{cond}
 use mathlib.Core.List.{List, []}
 use lib.ListN.{take, drop}
 use Rattle.value.specs.declared.datum.Value.{Value}
-use Rattle.value.specs.Storing.{startOf, lenOf, isLent}
+use Rattle.value.specs.Storing.{bytesAt, isLent}
 
 -- empty for a value that is not bytes, for a NULL, and where a made-up start and length run past the image
 unfoldable pub valueBytes : List ℕ → Value → List ℕ
-unfolding startOf lenOf isLent
+unfolding bytesAt isLent
 valueBytes im v = cond (isLent im v) (take (lenOf v) (drop (startOf v) im)) []

@@ -4,7 +4,8 @@ use mathlib.Core.Bool.{false}
 use mathlib.Core.Path.{_≡_, refl}
 use Rattle.value.specs.declared.shape.Shape.the-variants.{Unsigned, Fixed, Counted, NotTaken}
 use Rattle.value.specs.declared.column.Column.{Column}
-use Rattle.value.specs.Columns.{realType, charLength, decimalBytes, shapeOf}
+use Rattle.value.specs.Types.{realType}
+use Rattle.value.specs.Columns.{charLength, decimalBytes, shapeOf}
 
 -- a column that is not flagged unsigned
 abbrev column : ℕ → ℕ → ℕ → Column

@@ -12,9 +12,10 @@ use Rattle.temporal.proofs.Forms.{size-least}
 use Rattle.value.specs.declared.shape.Shape.{Shape}
 use Rattle.value.specs.declared.shape.Shape.the-variants.{Unsigned, Signed, FloatBits, DoubleBits, YearByte, Timed, Fixed, Counted, NotTaken}
 use Rattle.value.specs.declared.column.Column.{Column}
-use Rattle.value.specs.declared.column.Family.{Family}
-use Rattle.value.specs.declared.column.Family.the-variants.{Integer, Float, Double, Year, Timestamp, Date, Time, Datetime, Timestamp2, Datetime2, Time2, Varchar, Char, Blob, Json, Bit, Decimal, Enum, Set, Unknown}
-use Rattle.value.specs.Columns.{familyOf, shapeIn, shapeOf, isTaken, refusalOf, leftoverBytes, digitsBytes, decimalBytes, lengthBytes, charLength, or30}
+use Rattle.value.specs.declared.types.Family.{Family}
+use Rattle.value.specs.declared.types.Family.the-variants.{Integer, Float, Double, Year, Timestamp, Date, Time, Datetime, Timestamp2, Datetime2, Time2, Varchar, Char, Blob, Json, Bit, Decimal, Enum, Set, Unknown}
+use Rattle.value.specs.Types.{familyOf, or30}
+use Rattle.value.specs.Columns.{shapeIn, shapeOf, isTaken, refusalOf, leftoverBytes, digitsBytes, decimalBytes, lengthBytes, charLength}
 use Rattle.value.specs.Shapes.{Sized, need}
 use Rattle.value.proofs.Arms.{below, left, right}
 

@@ -9,10 +9,10 @@ use Rattle.temporal.specs.declared.kind.Kind.the-variants.{Timestamp as StoredT
 use Rattle.value.specs.declared.shape.Shape.{Shape}
 use Rattle.value.specs.declared.shape.Shape.the-variants.{Unsigned, Signed, FloatBits, DoubleBits, YearByte, Timed, Fixed, Counted, NotTaken}
 use Rattle.value.specs.declared.column.Column.{Column}
-use Rattle.value.specs.declared.column.Dialect.{Dialect}
-use Rattle.value.specs.declared.column.Dialect.the-variants.{Document, Mysql, Mariadb}
-use Rattle.value.specs.declared.column.Family.{Family}
-use Rattle.value.specs.declared.column.Family.the-variants.{Integer, Float, Double, Year, Timestamp, Date, Time, Datetime, Timestamp2, Datetime2, Time2, Varchar, Char, Blob, Json, Bit, Decimal, Enum, Set, Unknown}
+use Rattle.value.specs.declared.classes.Dialect.{Dialect}
+use Rattle.value.specs.declared.classes.Dialect.the-variants.{Document, Mysql, Mariadb}
+use Rattle.value.specs.declared.types.Family.{Family}
+use Rattle.value.specs.declared.types.Family.the-variants.{Integer, Float, Double, Year, Timestamp, Date, Time, Datetime, Timestamp2, Datetime2, Time2, Varchar, Char, Blob, Json, Bit, Decimal, Enum, Set, Unknown}
 
 -- ---- the table
 unfoldable pub familyOf : ℕ → Family

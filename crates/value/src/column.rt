@@ -8,8 +8,10 @@ ghost use mathlib.Core.Path.{_≡_};
 ghost use mathlib.Core.Bool.{false, cond, _&&_, _||_};
 ghost use Prim.Native.Nat.{_≤_, _<_};
 ghost use lib.Dec.{leb, eqb};
-ghost use Rattle.value.specs.Columns.{familyOf, metadataBytes, isKnown, or30, realType, lengthBytes, leftoverBytes, digitsBytes, decimalBytes, given, shapeIn, shapeOf, isTaken, isMysql, isMariadb, isNumeric, hasSignBit, isCharacter, hasCharset, isEnumOrSet};
-ghost use Rattle.value.specs.declared.column.Family.the-variants.{Char, Blob, Bit, Decimal, Enum, Set};
+ghost use Rattle.value.specs.Types.{familyOf, metadataBytes, isKnown, or30, realType, isNumeric};
+ghost use Rattle.value.specs.Columns.{lengthBytes, leftoverBytes, digitsBytes, decimalBytes, given, shapeIn, shapeOf, isTaken};
+ghost use Rattle.value.specs.Classes.{isMysql, isMariadb, hasSignBit, isCharacter, hasCharset, isEnumOrSet};
+ghost use Rattle.value.specs.declared.types.Family.the-variants.{Char, Blob, Bit, Decimal, Enum, Set};
 ghost use Rattle.value.specs.declared.shape.Shape.the-variants.{Unsigned, Signed};
 
 // Which columns a server counts where it gives signedness bits and charsets: document 01's lists, or those that servers of this

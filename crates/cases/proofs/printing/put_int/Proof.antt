@@ -8,7 +8,7 @@ use lib.IntN.{ℤ, natAbs}
 use lib.Signed.{nonNeg}
 use mir.Syntax.{w64}
 use mir.Val.{Fits}
-use Rattle.value.proofs.Signs.{turned, same}
+use Rattle.wire.proofs.Signs.{turned, same}
 use borrow.Author.Needs.{needs}
 use Rattle.cases.proofs.printing.put_int.Statement.{statement}
 use Rattle.cases.proofs.printing.put_int.Tie as tie

@@ -1,7 +1,7 @@
 -- `cases::values::parse_negative` is safe and ends. Signed machine numbers by the laws of `value`. Assumes nothing.
 use native.Mathlib.Omega.{arith}
 use Prim.Native.Nat.{_-_}
-use Rattle.value.proofs.Signs.{neg-fits}
+use Rattle.wire.proofs.Signs.{neg-fits}
 use borrow.Author.Needs.{needs}
 use Rattle.cases.proofs.values.parse_negative.Statement.{statement}
 use Rattle.cases.proofs.values.parse_negative.Tie as tie

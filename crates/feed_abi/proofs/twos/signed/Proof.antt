@@ -4,7 +4,7 @@ use mathlib.Core.Path.{_∙_}
 use native.Mathlib.Omega.{arith}
 use borrow.Author.Tests.{lt-ltb, le-ltb}
 use Rattle.wire.specs.Signed.{signedOf}
-use Rattle.value.proofs.Signs.{neg-fits, neg-is}
+use Rattle.wire.proofs.Signs.{neg-fits, neg-is}
 use borrow.Author.Needs.{needs}
 use Rattle.feed_abi.proofs.twos.signed.Statement.{statement}
 use Rattle.feed_abi.proofs.twos.signed.Tie as tie

@@ -7,7 +7,7 @@ use lib.IntN.{ℤ, natAbs}
 use lib.Signed.{nonNeg}
 use mir.Syntax.{w64}
 use mir.Val.{Fits}
-use Rattle.value.proofs.Signs.{turned, same, twos-neg, twos-pos}
+use Rattle.wire.proofs.Signs.{turned, same, twos-neg, twos-pos}
 use Rattle.feed_abi.proofs.twos.twos.Statement.{statement}
 use Rattle.feed_abi.proofs.twos.twos.Tie as tie
 use Rattle.feed_abi.proofs.twos.twos.Reads as reads

@@ -4,7 +4,7 @@ use mathlib.Core.Path.{_≡_, sym, _∙_}
 use native.Mathlib.Omega.{arith}
 use lib.ListN.{length}
 use Rattle.wire.proofs.Stores.{room}
-use Rattle.value.specs.Storing.{startOf, lenOf, isLent}
+use Rattle.value.specs.Storing.{bytesAt, isLent}
 use Rattle.image.specs.Part.{valueBytes}
 use Rattle.image.proofs.Sorts.{no-bytes}
 use borrow.Author.Needs.{needs}
@@ -35,7 +35,7 @@ part-result-end c = let v = c .before .before .before .value .given .0 in
     let r : v .0 + v .1 .0 ≤ length (c .before .before .before .before .before .before .args .image .now) = room _ _ _ _ (c .before .has-room .ensures) (c .if1 .taken) in omega arith
 
 returns : tie.Need-returns
-unfolding valueBytes isLent startOf lenOf
+unfolding valueBytes isLent bytesAt
 returns c = let v = c .before .before .before .before .value .given in
     let e : v .0 .0 + v .0 .1 .0 - v .0 .0 ≡ v .0 .1 .0 = omega arith in
     rw (v .1, sym (c .before .before .has-room .ensures) ∙ c .before .if1 .taken, e)
@@ -59,7 +59,7 @@ part-result-end-3 : tie.Need-part-result-end-3
 part-result-end-3 c = search needs
 
 returns-2 : tie.Need-returns-2
-unfolding valueBytes isLent startOf lenOf
+unfolding valueBytes isLent bytesAt
 returns-2 c = rw (c .before .before .before .before .value .given .1, sym (c .before .before .has-room .ensures) ∙ c .before .if1 .left)
 
 returns-3 : tie.Need-returns-3

@@ -1,6 +1,6 @@
 -- `value::column::family_of` meets its contract. At a key the definition computes; at no key each of its tests fails. Assumes nothing.
 use Rattle.wire.proofs.Rules.{tests}
-use Rattle.value.specs.Columns.{familyOf}
+use Rattle.value.specs.Types.{familyOf}
 use Rattle.value.proofs.column.family_of.Statement.{statement}
 use Rattle.value.proofs.column.family_of.Tie as tie
 use Rattle.value.proofs.column.family_of.Reads as reads

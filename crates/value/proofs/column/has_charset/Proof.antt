@@ -1,5 +1,5 @@
 -- `value::column::has_charset` meets its contract. Assumes nothing.
-use Rattle.value.specs.Columns.{hasCharset, isCharacter}
+use Rattle.value.specs.Classes.{hasCharset, isCharacter}
 use mathlib.Core.Bool.{or-false}
 use mathlib.Core.Path.{sym, refl}
 use borrow.Author.Tests.{ne-eqb}

@@ -1,5 +1,6 @@
 -- `value::column::has_sign_bit` meets its contract. Assumes nothing.
-use Rattle.value.specs.Columns.{hasSignBit, isNumeric, familyOf}
+use Rattle.value.specs.Types.{isNumeric, familyOf}
+use Rattle.value.specs.Classes.{hasSignBit}
 use mathlib.Core.Bool.{or-false}
 use mathlib.Core.Path.{sym, refl}
 use borrow.Author.Tests.{ne-eqb}

@@ -1,6 +1,6 @@
 -- `value::column::is_character` meets its contract. Assumes nothing.
 use Rattle.wire.proofs.Rules.{tests}
-use Rattle.value.specs.Columns.{isCharacter}
+use Rattle.value.specs.Classes.{isCharacter}
 use Rattle.value.proofs.column.is_character.Statement.{statement}
 use Rattle.value.proofs.column.is_character.Tie as tie
 use Rattle.value.proofs.column.is_character.Reads as reads

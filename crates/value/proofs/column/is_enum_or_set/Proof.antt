@@ -1,6 +1,6 @@
 -- `value::column::is_enum_or_set` meets its contract. Assumes nothing.
 use Rattle.wire.proofs.Rules.{tests}
-use Rattle.value.specs.Columns.{isEnumOrSet}
+use Rattle.value.specs.Classes.{isEnumOrSet}
 use Rattle.value.proofs.column.is_enum_or_set.Statement.{statement}
 use Rattle.value.proofs.column.is_enum_or_set.Tie as tie
 use Rattle.value.proofs.column.is_enum_or_set.Reads as reads

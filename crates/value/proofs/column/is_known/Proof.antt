@@ -1,5 +1,5 @@
 -- `value::column::is_known` meets its contract. Each arm's families have the same answer. Assumes nothing.
-use Rattle.value.specs.Columns.{isKnown}
+use Rattle.value.specs.Types.{isKnown}
 use mathlib.Core.Path.{sym, refl, _∙_}
 use Rattle.value.proofs.Arms.{at-arm, beq→eq}
 use mathlib.Core.Bool.{true, Bool·beq}

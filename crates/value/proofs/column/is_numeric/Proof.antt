@@ -1,5 +1,5 @@
 -- `value::column::is_numeric` meets its contract. Each arm's families have the same answer. Assumes nothing.
-use Rattle.value.specs.Columns.{isNumeric}
+use Rattle.value.specs.Types.{isNumeric}
 use mathlib.Core.Path.{sym, refl}
 use Rattle.value.proofs.Arms.{at-arm, beq→eq}
 use mathlib.Core.Bool.{true, false, Bool·beq}

@@ -1,5 +1,5 @@
 -- `value::column::metadata_bytes` meets its contract. Each arm's families have the same answer. Assumes nothing.
-use Rattle.value.specs.Columns.{metadataBytes}
+use Rattle.value.specs.Types.{metadataBytes}
 use mathlib.Core.Path.{sym, refl}
 use Rattle.value.proofs.Arms.{at-arm}
 use mathlib.Core.List.{[], _∷_}

@@ -1,6 +1,6 @@
 -- `value::column::real_type` meets its contract. Assumes nothing.
 use Rattle.wire.proofs.Rules.{tests}
-use Rattle.value.specs.Columns.{realType}
+use Rattle.value.specs.Types.{realType}
 use borrow.Author.Needs.{needs}
 use Rattle.value.proofs.column.real_type.Statement.{statement}
 use Rattle.value.proofs.column.real_type.Tie as tie
