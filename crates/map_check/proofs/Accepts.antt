@@ -12,7 +12,7 @@ use Rattle.value.specs.declared.types.Family.the-variants.{Integer, Float, Doub
 use Rattle.value.specs.declared.shape.Shape.the-variants.{Unsigned, Signed, NotTaken}
 use Rattle.value.specs.Types.{familyOf, or30, realType, isNumeric}
 use Rattle.value.specs.Columns.{given, shapeIn, shapeOf, isTaken}
-use Rattle.map_check.specs.declared.column.Declared.{Declared}
+use Rattle.map_check.specs.declared.declare.Declared.{Declared}
 use Rattle.map_check.specs.Columns.{metaByte, declared, isReal, realColumn, isAccepted}
 
 -- ---- the sign of a column decides nothing of whether it is taken

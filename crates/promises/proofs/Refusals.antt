@@ -15,7 +15,7 @@ use Rattle.map_check.specs.Names.{listOf, columnName}
 use Rattle.promises.specs.Refusals.{Line, _at_, _below_, _upTo_, OneOf, just, under, most, later, numberOf, refusalNumbers, isAmong, inTable, Only, EveryCall}
 use Rattle.promises.proofs.Only.{Listed, bytes-there, fixed, packed, room}
 use Rattle.promises.proofs.Values.{temporal-read, temporal-written, column-taken, value-read, value-written, value-sized, value-made}
-use Rattle.promises.proofs.Maps.{long-part, event-read, event-written, event-sized, pair-item, group-item, stepped, field-stepped, checked, string-found}
+use Rattle.promises.proofs.Maps.{long-part, event-read, event-written, event-sized, pair-item, group-item, stepped, field-stepped, field-cut, field-judged, checked, string-found}
 use Rattle.promises.proofs.Rows.{record-read, head-read, first-read, image-stepped, image-started, image-put}
 
 -- a refusal that is listed has a listed number, and those are in the table
@@ -82,6 +82,8 @@ refusals = record {
   write-event = λ p buf. only refl (event-written p buf just (second just));
   event-size = λ p. only refl (event-sized p just (second just));
   next-field = λ c s. only refl (field-stepped c s just (second just) (third just) (fourth just) (fifth just));
+  cut-field = λ s o. only refl (field-cut s o just (second just) (third just));
+  judge-field = λ c s f. only refl (field-judged (c .numeric) (c .columns) s (c .at) f just (second just));
   next-integer = λ s o. only refl (stepped integerItem s o (λ h. just) (λ h. packed s o just (second just)));
   next-string = λ s o. only refl (stepped stringItem s o (λ h. just) (λ h. long-part s o just (second just)));
   next-pair = λ s o. only refl (stepped pairItem s o (λ h. just) (λ h. pair-item s (λ p l. second (most l)) (λ p l. third (most l)) o (omega arith)));

@@ -3,7 +3,7 @@ use Rattle.wire.proofs.Views.{same-reach, same-packed, same-written, same-size}
 use Rattle.temporal.proofs.Views.{same-temporal}
 use Rattle.value.proofs.Views.{same-read}
 use Rattle.value_parts.proofs.Views.{same-made}
-use Rattle.table_map.proofs.Views.{same-event-read, same-integer, same-pair, same-string, same-group, same-charset, same-field}
+use Rattle.table_map.proofs.Views.{same-event-read, same-integer, same-pair, same-string, same-group, same-charset, same-field, same-cut, same-judged}
 use Rattle.record.proofs.Views.{same-record}
 use Rattle.map_check.proofs.Views.{same-name}
 use Rattle.image.proofs.Views.{same-step, same-first, same-head, same-put}
@@ -24,6 +24,8 @@ results = record {
   pair = same-pair;
   string = same-string;
   group = same-group;
+  cut = same-cut;
+  judged = same-judged;
   charset = same-charset;
   columns = same-record;
   name = same-name;

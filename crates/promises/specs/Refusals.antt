@@ -13,6 +13,7 @@ use Rattle.wire.specs.declared.refusal.Refusal.{Refusal}
 use Rattle.wire.specs.Outcome.{Outcome, refused, why}
 use Rattle.wire.specs.Packed.{readFixed, readPacked}
 use Rattle.wire.specs.Stored.{store, answerOf, leftOf}
+use Rattle.wire.specs.declared.part.Part.{Part}
 use Rattle.wire.specs.Parts.{within}
 use Rattle.temporal.specs.declared.kind.Kind.{Kind}
 use Rattle.temporal.specs.declared.parts.Temporal.{Temporal}
@@ -29,7 +30,7 @@ use Rattle.table_map.specs.declared.field.Fields.{Fields}
 use Rattle.table_map.specs.Events.{readEvent, partIn}
 use Rattle.table_map.specs.Writes.{Parts, writeEvent, eventSize}
 use Rattle.table_map.specs.Lists.{step, integerItem, pairItem, stringItem, groupItem, defaultCharset}
-use Rattle.table_map.specs.Fields.{fieldStep}
+use Rattle.table_map.specs.Fields.{cutField, judgeField, fieldStep}
 use Rattle.record.specs.Records.{countOf, readRecord}
 use Rattle.map_check.specs.declared.rank.Place.{Place}
 use Rattle.map_check.specs.Check.{check}
@@ -118,6 +119,10 @@ pub record EveryCall : Type 1 where
   pub event-size : (p : Parts) → Only (eventSize p) (13 at 0 ∷ 8 at 0 ∷ [])
   -- `Fields::next`: the field's type byte, or its length's first byte behind it; a cursor past the bytes is 1 where it stands
   pub next-field : (c : Fields) (s : List ℕ) → Only (fieldStep c s) (1 at c .at ∷ 1 at (c .at + 1) ∷ 2 at (c .at + 1) ∷ 6 at c .at ∷ 7 at c .at ∷ [])
+  -- `cut_field`: the place asked, if there is no type byte, or its length's first byte behind it
+  pub cut-field : (s : List ℕ) (o : ℕ) → Only (cutField s o) (1 at o ∷ 1 at (o + 1) ∷ 2 at (o + 1) ∷ [])
+  -- `Fields::judge`: where the cursor stands
+  pub judge-field : (c : Fields) (s : List ℕ) (f : ℕ × Part) → Only (judgeField (c .numeric) (c .columns) s (c .at) f) (6 at c .at ∷ 7 at c .at ∷ [])
   -- `next` of `Integers` and `Strings`: where the cursor stands
   pub next-integer : (s : List ℕ) (o : ℕ) → Only (step integerItem s o) (1 at o ∷ 2 at o ∷ [])
   pub next-string : (s : List ℕ) (o : ℕ) → Only (step stringItem s o) (1 at o ∷ 2 at o ∷ [])
@@ -129,7 +134,7 @@ pub record EveryCall : Type 1 where
   -- ---- `record`. `entry_at`, `entry_in`, `entry_holds` and `column_of` refuse nothing
   -- `read_record`
   pub read-record : (r : List ℕ) → Only (readRecord r) (11 at 0 ∷ [])
-  -- ---- `map_check`. `name_part` and the calls for the names field (`names_part`, `names_field`) hand back an empty part where there is a refusal
+  -- ---- `map_check`. `name_part` and `names_part` hand back an empty part where there is a refusal
   -- `check`: 1, 2, 6 and 7 at an offset of the event; 4 at a column, and 5 too, or at n for metadata left over, n being how many type bytes the event has
   pub check-map : (d : Dialect) (event : List ℕ) (postHeader : ℕ) (buf : List ℕ) (n : ℕ) → n ≡ length (partIn (λ e. e .types) event (readEvent event postHeader))
       → Only (check d event postHeader buf)

@@ -10,7 +10,7 @@ use Rattle.value.specs.Reading.{readOf}
 use Rattle.value_parts.specs.Parts.{madeOf}
 use Rattle.table_map.specs.Events.{eventOf}
 use Rattle.table_map.specs.Lists.{integerOf, pairOf, stringOf, groupOf, charsetOf}
-use Rattle.table_map.specs.Fields.{fieldOf}
+use Rattle.table_map.specs.Fields.{fieldOf, fieldCutOf, judgedOf}
 use Rattle.record.specs.Records.{recordOf}
 use Rattle.map_check.specs.Names.{nameOf}
 use Rattle.image.specs.Split.{told, firstTold, headTold}
@@ -43,6 +43,9 @@ pub record Results : Type 0 where
   pub pair : Apart pairOf
   pub string : Apart stringOf
   pub group : Apart groupOf
+  -- `cut_field`, `Fields::judge`
+  pub cut : Apart fieldCutOf
+  pub judged : Apart judgedOf
   -- `default_charset`
   pub charset : Apart charsetOf
   -- `read_record`

@@ -1,10 +1,10 @@
--- `map_check::field::value_in` meets its contract. Assumes nothing.
+-- `map_check::found::value_in` meets its contract. Assumes nothing.
 use borrow.Author.Needs.{needs}
-use Rattle.map_check.proofs.field.value_in.Statement.{statement}
-use Rattle.map_check.proofs.field.value_in.Tie as tie
-use Rattle.map_check.proofs.field.value_in.Reads as reads
-use Rattle.map_check.proofs.field.value_in.Lts as lts
-use Rattle.table_map.proofs.part_of.Reads as part-of-reads
+use Rattle.map_check.proofs.found.value_in.Statement.{statement}
+use Rattle.map_check.proofs.found.value_in.Tie as tie
+use Rattle.map_check.proofs.found.value_in.Reads as reads
+use Rattle.map_check.proofs.found.value_in.Lts as lts
+use Rattle.wire.proofs.part_of.Reads as part-of-reads
 
 enum-known-found : tie.Need-enum-known-found
 enum-known-found c = search needs

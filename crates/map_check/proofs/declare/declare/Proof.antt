@@ -1,12 +1,12 @@
--- `map_check::column::declare` meets its contract. Assumes nothing.
+-- `map_check::declare::declare` meets its contract. Assumes nothing.
 use mathlib.Core.Path.{refl}
 use borrow.Author.Needs.{needs}
 use Rattle.map_check.specs.Columns.{declared}
-use Rattle.map_check.proofs.column.declare.Statement.{statement}
-use Rattle.map_check.proofs.column.declare.Tie as tie
-use Rattle.map_check.proofs.column.declare.Reads as reads
-use Rattle.map_check.proofs.column.declare.Lts as lts
-use Rattle.map_check.proofs.column.meta_byte.Reads as meta-byte-reads
+use Rattle.map_check.proofs.declare.declare.Statement.{statement}
+use Rattle.map_check.proofs.declare.declare.Tie as tie
+use Rattle.map_check.proofs.declare.declare.Reads as reads
+use Rattle.map_check.proofs.declare.declare.Lts as lts
+use Rattle.map_check.proofs.declare.meta_byte.Reads as meta-byte-reads
 use Rattle.value.proofs.real_type.Reads as real-type-reads
 
 meta-byte-requires : tie.Need-meta-byte-requires

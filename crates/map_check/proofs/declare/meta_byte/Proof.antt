@@ -1,4 +1,4 @@
--- `map_check::column::meta_byte` meets its contract. Assumes nothing.
+-- `map_check::declare::meta_byte` meets its contract. Assumes nothing.
 use Prim.Native.Nat.{_-_, _≤_}
 use mathlib.Core.Path.{sym, refl}
 use native.Mathlib.Omega.{arith}
@@ -6,10 +6,10 @@ use borrow.Author.Tests.{le-leb}
 use borrow.Author.Needs.{needs}
 use Rattle.map_check.specs.Columns.{metaBytes, metaByte}
 use Rattle.map_check.proofs.Declares.{meta-past, meta-at}
-use Rattle.map_check.proofs.column.meta_byte.Statement.{statement}
-use Rattle.map_check.proofs.column.meta_byte.Tie as tie
-use Rattle.map_check.proofs.column.meta_byte.Reads as reads
-use Rattle.map_check.proofs.column.meta_byte.Lts as lts
+use Rattle.map_check.proofs.declare.meta_byte.Statement.{statement}
+use Rattle.map_check.proofs.declare.meta_byte.Tie as tie
+use Rattle.map_check.proofs.declare.meta_byte.Reads as reads
+use Rattle.map_check.proofs.declare.meta_byte.Lts as lts
 use Rattle.value.proofs.metadata_bytes.Reads as metadata-bytes-reads
 
 metadata-bytes-requires : tie.Need-metadata-bytes-requires
