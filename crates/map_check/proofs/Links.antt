@@ -11,7 +11,7 @@ use Rattle.wire.specs.Outcome.{Outcome, ok, refused, refuse, after}
 use Rattle.wire.specs.declared.part.Part.{Part}
 use Rattle.wire.specs.Parts.{lentPart}
 use Rattle.wire.proofs.Outcomes.{after-is-ok, after-refuses, ok-not-refused, same-ok}
-use Rattle.value.specs.declared.column.Dialect.{Dialect}
+use Rattle.value.specs.declared.classes.Dialect.{Dialect}
 use Rattle.table_map.specs.declared.event.Event.{Event}
 use Rattle.table_map.specs.declared.field.Fields.{Fields as FieldCursor}
 use Rattle.record.specs.Records.{mostColumns}

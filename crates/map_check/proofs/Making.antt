@@ -10,10 +10,11 @@ use Rattle.wire.specs.Number.{leBytes}
 use Rattle.wire.specs.Stored.{stored, store, leftOf}
 use Rattle.wire.specs.declared.store.Written.the-variants.{Done}
 use Rattle.wire.proofs.Stores.{length-stored, stored-none, stored-stored, store-fits, Wrote, wrote, wrote-two}
-use Rattle.value.specs.declared.column.Dialect.{Dialect}
-use Rattle.value.specs.declared.column.Family.{Family}
-use Rattle.value.specs.declared.column.Family.the-variants.{Integer, Float, Double, Year, Timestamp, Date, Time, Datetime, Timestamp2, Datetime2, Time2, Varchar, Char, Blob, Json, Bit, Decimal, Enum, Set, Unknown}
-use Rattle.value.specs.Columns.{familyOf, metadataBytes, isCharacter, hasCharset, isEnumOrSet}
+use Rattle.value.specs.declared.classes.Dialect.{Dialect}
+use Rattle.value.specs.declared.types.Family.{Family}
+use Rattle.value.specs.declared.types.Family.the-variants.{Integer, Float, Double, Year, Timestamp, Date, Time, Datetime, Timestamp2, Datetime2, Time2, Varchar, Char, Blob, Json, Bit, Decimal, Enum, Set, Unknown}
+use Rattle.value.specs.Types.{familyOf, metadataBytes}
+use Rattle.value.specs.Classes.{isCharacter, hasCharset, isEnumOrSet}
 use Rattle.record.specs.declared.entry.Entry.{Entry}
 use Rattle.record.specs.Entries.{entryBytes}
 use Rattle.record.specs.Records.{entryAt, headBytes, entriesBytes, recordBytes}

@@ -6,8 +6,9 @@ use Rattle.wire.specs.Outcome.{ok, refuse}
 use Rattle.wire.specs.Packed.{readPacked, formOf}
 use Rattle.wire.specs.Number.{leValue}
 use Rattle.wire.specs.Parts.{part, within}
-use Rattle.value.specs.Columns.{familyOf, isNumeric, hasSignBit}
-use Rattle.value.specs.declared.column.Dialect.the-variants.{Document}
+use Rattle.value.specs.Types.{familyOf, isNumeric}
+use Rattle.value.specs.Classes.{hasSignBit}
+use Rattle.value.specs.declared.classes.Dialect.the-variants.{Document}
 use Rattle.table_map.specs.declared.field.Fields.{Fields as FieldCursor}
 use Rattle.table_map.specs.Parts.{shortPart, longPart}
 use Rattle.table_map.specs.Events.{readNames, readColumns, readEvent}

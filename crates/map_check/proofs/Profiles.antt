@@ -8,7 +8,8 @@ use lib.Dec.{leb, ltb, eqb}
 use Rattle.wire.specs.Bits.{bitLsb0, bitMsb0}
 use Rattle.wire.specs.Parts.{lentPart}
 use Rattle.wire.specs.declared.part.Part.{Part}
-use Rattle.value.specs.Columns.{familyOf, isNumeric, isCharacter, isEnumOrSet}
+use Rattle.value.specs.Types.{familyOf, isNumeric}
+use Rattle.value.specs.Classes.{isCharacter, isEnumOrSet}
 use Rattle.table_map.specs.Lists.{integerItem}
 use Rattle.record.specs.Entries.{flagsHold, charsetHolds}
 use Rattle.map_check.specs.declared.declare.Declared.{Declared}

@@ -10,7 +10,7 @@ use lib.Dec.{leb, eqb}
 use Rattle.wire.specs.Outcome.{ok, why}
 use Rattle.wire.specs.Parts.{lentPart}
 use Rattle.wire.proofs.Outcomes.{after-is-ok, test-is-ok, same-ok}
-use Rattle.value.specs.declared.column.Dialect.{Dialect}
+use Rattle.value.specs.declared.classes.Dialect.{Dialect}
 use Rattle.table_map.specs.declared.event.Event.{Event}
 use Rattle.record.specs.declared.entry.Entry.{Entry}
 use Rattle.record.specs.Entries.{unsignedFlag, entryHolds}

@@ -4,11 +4,13 @@ use mathlib.Core.Path.{_≡_, refl}
 use mathlib.Core.List.{List, [], _∷_}
 use Rattle.wire.specs.Outcome.{ok, after}
 use Rattle.wire.specs.Parts.{within}
-use Rattle.value.specs.declared.column.Dialect.the-variants.{Document}
+use Rattle.value.specs.declared.classes.Dialect.the-variants.{Document}
 use Rattle.wire.specs.Number.{leValue, leBytes}
 use Rattle.wire.specs.Packed.{readPacked, formOf, longForm}
 use Rattle.wire.specs.Bits.{digit, bitLsb0, bitMsb0}
-use Rattle.value.specs.Columns.{familyOf, isKnown, metadataBytes, realType, leftoverBytes, decimalBytes, shapeIn, shapeOf, isTaken, isNumeric, hasSignBit, isCharacter, hasCharset, isEnumOrSet}
+use Rattle.value.specs.Types.{familyOf, isKnown, metadataBytes, realType, isNumeric}
+use Rattle.value.specs.Columns.{leftoverBytes, decimalBytes, shapeIn, shapeOf, isTaken}
+use Rattle.value.specs.Classes.{hasSignBit, isCharacter, hasCharset, isEnumOrSet}
 use Rattle.table_map.specs.Parts.{shortPart, longPart}
 use Rattle.table_map.specs.Events.{readNames, readColumns, readEvent}
 use Rattle.table_map.specs.Lists.{step, walkSteps, pairItem, strings, groupItem}

@@ -10,7 +10,7 @@ use Rattle.wire.specs.Outcome.{Outcome, ok, refuse, after}
 use Rattle.wire.specs.Stored.{store}
 use Rattle.wire.specs.declared.part.Part.{Part}
 use Rattle.wire.specs.Parts.{lentPart}
-use Rattle.value.specs.declared.column.Dialect.{Dialect}
+use Rattle.value.specs.declared.classes.Dialect.{Dialect}
 use Rattle.table_map.specs.declared.event.Event.{Event}
 use Rattle.table_map.specs.Events.{readEvent}
 use Rattle.record.specs.declared.entry.Entry.{Entry}

@@ -10,7 +10,7 @@ use Rattle.wire.specs.Outcome.{Outcome, ok, refused}
 use Rattle.wire.specs.Packed.{readPacked}
 use Rattle.wire.specs.declared.part.Part.{Part}
 use Rattle.wire.specs.Parts.{lentPart}
-use Rattle.value.specs.declared.column.Dialect.{Dialect}
+use Rattle.value.specs.declared.classes.Dialect.{Dialect}
 use Rattle.table_map.specs.Lists.{Stepped, end, item, walk, integerItem, pairItem}
 use Rattle.record.specs.declared.entry.Entry.{Entry}
 use Rattle.record.specs.Records.{mostColumns}

@@ -23,7 +23,7 @@ ghost use lib.ListN.{length};
 ghost use Rattle.wire.specs.Bits.{bitLsb0};
 ghost use Rattle.wire.specs.Stored.{store, stored, answerOf, leftOf, writtenOf};
 ghost use Rattle.wire.specs.Parts.{lentPart};
-ghost use Rattle.value.specs.Columns.{isCharacter};
+ghost use Rattle.value.specs.Classes.{isCharacter};
 ghost use Rattle.record.specs.Records.{mostColumns, entryAt, entriesBytes, recordBytes};
 ghost use Rattle.map_check.specs.Columns.{declareAll};
 ghost use Rattle.map_check.specs.Ranks.{place, noRanks};

@@ -17,7 +17,7 @@ use Rattle.temporal.specs.declared.parts.Temporal.{Temporal}
 use Rattle.temporal.specs.Domains.{domain}
 use Rattle.temporal.specs.Reading.{bytesOf, writeTemporal}
 use Rattle.value.specs.declared.column.Column.{Column}
-use Rattle.value.specs.declared.column.Dialect.{Dialect}
+use Rattle.value.specs.declared.classes.Dialect.{Dialect}
 use Rattle.value.specs.declared.datum.Value.{Value}
 use Rattle.value.specs.Columns.{shapeOf}
 use Rattle.value.specs.Storing.{storedBytes, writeValue}

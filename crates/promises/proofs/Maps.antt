@@ -14,8 +14,8 @@ use Rattle.wire.specs.Parts.{partOf, lentPart, within}
 use Rattle.wire.proofs.Outcomes.{after-is-ok, same-ok}
 use Rattle.wire.proofs.Parts.{within-ok}
 use Rattle.wire.proofs.Forms.{read-moves}
-use Rattle.value.specs.declared.column.Dialect.{Dialect}
-use Rattle.value.specs.Columns.{familyOf, isKnown}
+use Rattle.value.specs.declared.classes.Dialect.{Dialect}
+use Rattle.value.specs.Types.{familyOf, isKnown}
 use Rattle.table_map.specs.declared.event.Event.{Event}
 use Rattle.table_map.specs.declared.field.Fields.{Fields}
 use Rattle.table_map.specs.Parts.{shortPart, longPart}

@@ -1,7 +1,7 @@
 -- No contract leaves a choice of answer: the law of each enum, from its crate. Assumes nothing.
-use Rattle.wire.proofs.Views.{same-packed, same-written}
+use Rattle.wire.proofs.Views.{same-packed, same-written, same-size}
 use Rattle.temporal.proofs.Views.{same-temporal}
-use Rattle.value.proofs.Views.{same-read, same-size}
+use Rattle.value.proofs.Views.{same-read}
 use Rattle.table_map.proofs.Views.{same-event-read, same-integer, same-pair, same-string, same-group, same-charset, same-field, same-cut, same-judged}
 use Rattle.record.proofs.Views.{same-record}
 use Rattle.map_check.proofs.Views.{same-name}

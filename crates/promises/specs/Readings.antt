@@ -16,8 +16,10 @@ use Rattle.temporal.specs.declared.parts.Temporal.the-variants.{At, Lasts}
 use Rattle.temporal.specs.Ranges.{clockFault, dayFault}
 use Rattle.temporal.specs.Reading.{readTemporal}
 use Rattle.value.specs.declared.shape.Shape.the-variants.{Counted}
-use Rattle.value.specs.Columns.{charLength, shapeOf, familyOf, isKnown, metadataBytes, realType, leftoverBytes, decimalBytes, shapeIn, isTaken, isNumeric, hasSignBit, isCharacter, hasCharset, isEnumOrSet}
-use Rattle.value.specs.declared.column.Dialect.the-variants.{Document}
+use Rattle.value.specs.Types.{familyOf, isKnown, metadataBytes, realType, isNumeric}
+use Rattle.value.specs.Columns.{charLength, shapeOf, leftoverBytes, decimalBytes, shapeIn, isTaken}
+use Rattle.value.specs.Classes.{hasSignBit, isCharacter, hasCharset, isEnumOrSet}
+use Rattle.value.specs.declared.classes.Dialect.the-variants.{Document}
 use Rattle.wire.specs.Bits.{digit, bitLsb0, bitMsb0}
 use Rattle.table_map.specs.Parts.{shortPart, longPart}
 use Rattle.table_map.specs.Events.{readNames, readColumns, readEvent}

@@ -3,10 +3,9 @@
 -- answers. `results` in proofs/Results.antt proves it. Assumes nothing.
 use mathlib.Core.Path.{_≡_}
 use Rattle.wire.specs.Packed.{packedOf}
-use Rattle.wire.specs.Stored.{writtenOf}
+use Rattle.wire.specs.Stored.{writtenOf, sizeSaid}
 use Rattle.temporal.specs.Reading.{temporalOf}
 use Rattle.value.specs.Reading.{readOf}
-use Rattle.value.specs.Storing.{sizeSaid}
 use Rattle.table_map.specs.Events.{eventOf}
 use Rattle.table_map.specs.Lists.{integerOf, pairOf, stringOf, groupOf, charsetOf}
 use Rattle.table_map.specs.Fields.{fieldOf, fieldCutOf, judgedOf}

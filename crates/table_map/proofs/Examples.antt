@@ -5,8 +5,9 @@ use Rattle.wire.specs.Outcome.{ok, refuse, why}
 use Rattle.wire.specs.Number.{leValue}
 use Rattle.wire.specs.Packed.{readPacked, formOf, longForm}
 use Rattle.wire.specs.Parts.{part, within}
-use Rattle.value.specs.Columns.{familyOf, isNumeric, hasSignBit}
-use Rattle.value.specs.declared.column.Dialect.the-variants.{Document, Mysql}
+use Rattle.value.specs.Types.{familyOf, isNumeric}
+use Rattle.value.specs.Classes.{hasSignBit}
+use Rattle.value.specs.declared.classes.Dialect.the-variants.{Document, Mysql}
 use Rattle.table_map.specs.Parts.{longPart}
 use Rattle.table_map.specs.Lists.{whole, broken, step, walkSteps, walk, integerItem, pairItem, strings, groupItem}
 use Rattle.table_map.specs.Fields.{signBits, countSignBits, contentsHold, cutField, judgeField, fieldItem}

@@ -17,8 +17,8 @@ use Rattle.wire.specs.declared.part.Part.{Part}
 use Rattle.wire.specs.Parts.{partOf, lentPart, within}
 use Rattle.wire.proofs.Outcomes.{by-test, after-after, after-is-ok, ok-not-refused, same-ok, same-refused}
 use Rattle.wire.proofs.Parts.{within-ok, lent-is}
-use Rattle.value.specs.declared.column.Dialect.{Dialect}
-use Rattle.value.specs.Columns.{hasSignBit}
+use Rattle.value.specs.declared.classes.Dialect.{Dialect}
+use Rattle.value.specs.Classes.{hasSignBit}
 use Rattle.table_map.specs.declared.field.Fields.{Fields}
 use Rattle.table_map.specs.Parts.{longPart}
 use Rattle.table_map.specs.Lists.{Stepped, end, item, step, defaultCharset}

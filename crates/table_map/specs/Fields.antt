@@ -10,8 +10,8 @@ use Rattle.wire.specs.Outcome.{Outcome, ok, refused, refuse, after}
 use Rattle.wire.specs.Packed.{readPacked}
 use Rattle.wire.specs.declared.part.Part.{Part}
 use Rattle.wire.specs.Parts.{lentPart, within}
-use Rattle.value.specs.declared.column.Dialect.{Dialect}
-use Rattle.value.specs.Columns.{hasSignBit}
+use Rattle.value.specs.declared.classes.Dialect.{Dialect}
+use Rattle.value.specs.Classes.{hasSignBit}
 use Rattle.table_map.specs.declared.field.Fields.{Fields}
 use Rattle.table_map.specs.declared.field.FieldStep.{FieldStep}
 use Rattle.table_map.specs.declared.field.FieldStep.the-variants.{Field, End, Refused}

@@ -2,7 +2,7 @@
 use mathlib.Core.Path.{refl, _∙_}
 use native.Mathlib.Omega.{arith}
 use lib.ListN.{getD}
-use Rattle.value.specs.Columns.{familyOf}
+use Rattle.value.specs.Types.{familyOf}
 use Rattle.map_check.proofs.Counts.{at-most-wider}
 use Rattle.map_check.proofs.Making.{few-metadata, came}
 use borrow.Author.Needs.{needs}
