@@ -110,7 +110,7 @@ pub record EveryCall : Type 1 where
   -- ---- `value_parts`. `kind_of` and `parts_of` refuse nothing
   -- `value_of`: a kind and parts that make no value
   pub value-of : (kind : ℕ) (parts : List ℕ) → Only (valueOf kind parts) (13 at 0 ∷ [])
-  -- ---- `table_map`. `part_of`, `Fields::new` and `flag` refuse nothing; `database_name`, `table_name`, `column_types`, `column_metadata`, `nullable_bits` and `optional_metadata` hand back an
+  -- ---- `table_map`. `Fields::new` and `flag` refuse nothing; `database_name`, `table_name`, `column_types`, `column_metadata`, `nullable_bits` and `optional_metadata` hand back an
   -- empty part where the event is refused
   -- `read_event`: an offset of the event, or its end
   pub read-event : (event : List ℕ) (postHeader : ℕ) → Only (readEvent event postHeader) (1 upTo length event ∷ 2 upTo length event ∷ [])
