@@ -1,135 +1,70 @@
-// The cases of a lone value: `value` and `store`.
-use crate::output::put_bad;
-use crate::output::put_refused;
-use crate::output::put_spaced_number;
-use crate::output::put_text;
-use crate::printing::put_value;
-use crate::room::fill;
-use crate::room::put_unwritten;
-use crate::room::put_written;
-use crate::slices::part;
-use crate::values::ValueWord;
-use crate::values::read_value_word;
-use crate::words::Decimal;
-use crate::words::Decoded;
-use crate::words::Number8;
-use crate::words::last_bytes;
-use crate::words::last_number;
-use crate::words::read_number8;
-use value::Column;
+// The kinds `value`, `store`, `size` and `size-at`: one value of a column.
+use crate::room::written;
+use crate::turn::OWN;
+use crate::turn::Turn;
+use crate::turn::last;
+use crate::turn::one;
+use crate::turn::refused;
+use crate::words::column;
+use crate::words::index;
+use crate::words::text;
+use crate::words::value;
 use value::Read;
+use value::Size;
 use value::Value;
-use wire::Written;
 
-// The column, and the place of the next word.
-enum ColumnWords {
-    Found(Column, usize),
-    Bad,
-}
-
-// `TYPE M0 M1 UNSIGNED`
-fn read_column(line: &[u8], at: usize) -> ColumnWords {
-    let Number8::Found(kind, next) = read_number8(line, at) else {
-        return ColumnWords::Bad;
-    };
-    let Number8::Found(m0, next) = read_number8(line, next) else {
-        return ColumnWords::Bad;
-    };
-    let Number8::Found(m1, next) = read_number8(line, next) else {
-        return ColumnWords::Bad;
-    };
-    let Number8::Found(flag, next) = read_number8(line, next) else {
-        return ColumnWords::Bad;
-    };
-    if flag > 1 {
-        return ColumnWords::Bad;
-    }
-    let unsigned = flag == 1;
-    ColumnWords::Found(
-        Column {
+// A value's numbers, and one behind them.
+fn read(value: Value, next: usize) -> Turn {
+    let p = value_parts::parts_of(value);
+    let kind = value_parts::kind_of(value);
+    last(
+        OWN,
+        [
             kind,
-            m0,
-            m1,
-            unsigned,
-        },
-        next,
+            p[0],
+            p[1],
+            p[2],
+            p[3],
+            p[4],
+            p[5],
+            p[6],
+            next as u64,
+            0,
+            0,
+            0,
+            0,
+            0,
+        ],
     )
 }
 
-// What was read of `s`, and how many bytes it took; or the refusal.
-fn put_read(out: &mut [u8], used: usize, read: Read, s: &[u8]) -> usize {
-    match read {
-        Read::Got { value, next } => {
-            let used = put_text(out, used, b"ok ");
-            let used = put_value(out, used, value, s);
-            put_spaced_number(out, used, next as u64)
-        }
-        Read::Refused(refusal) => put_refused(out, used, refusal),
-    }
-}
-
 // `value TYPE M0 M1 UNSIGNED HEX`
-pub(crate) fn value_case(
-    line: &[u8],
-    at: usize,
-    arena: &mut [u8],
-    out: &mut [u8],
-    used: usize,
-) -> usize {
-    let ColumnWords::Found(column, next) = read_column(line, at) else {
-        return put_bad(out, used);
-    };
-    let Decoded::To(end) = last_bytes(line, next, arena, 0) else {
-        return put_bad(out, used);
-    };
-    let read = value::read_lone(column, part(arena, 0, end));
-    put_read(out, used, read, part(arena, 0, end))
-}
-
-// Writes the value into the room that was asked for; its bytes are in `lent`.
-fn store_into(
-    room: &mut [u8],
-    column: Column,
-    value: Value,
-    lent: &[u8],
-    out: &mut [u8],
-    used: usize,
-) -> usize {
-    fill(room);
-    match value::write_lone(column, value, lent, room) {
-        Written::Done { next } => put_written(out, used, room, 0, next),
-        Written::Refused(refusal) => put_unwritten(out, used, room, refusal),
+pub(crate) fn value_of(line: &[u8], args: &[u64]) -> Turn {
+    match value::read_lone(column(args), text(line, args, 5)) {
+        Read::Got { value, next } => read(value, next),
+        Read::Refused(refusal) => refused(refusal),
     }
 }
 
 // `store TYPE M0 M1 UNSIGNED VALUE ROOM`
-pub(crate) fn store_case(
-    line: &[u8],
-    at: usize,
-    arena: &mut [u8],
-    room: &mut [u8],
-    out: &mut [u8],
-    used: usize,
-) -> usize {
-    let ColumnWords::Found(column, next) = read_column(line, at) else {
-        return put_bad(out, used);
-    };
-    let ValueWord::Found(value, end, next) = read_value_word(line, next, arena, 0) else {
-        return put_bad(out, used);
-    };
-    let Decimal::Value(size) = last_number(line, next) else {
-        return put_bad(out, used);
-    };
-    let size = size as usize;
-    if size > room.len() {
-        return put_bad(out, used);
+pub(crate) fn store(line: &[u8], args: &[u64], room: &mut [u8]) -> Turn {
+    let answer = value::write_lone(column(args), value(args, 5), line, room);
+    written(room, answer)
+}
+
+pub(crate) fn told(size: Size) -> Turn {
+    match size {
+        Size::Takes(bytes) => one(bytes as u64),
+        Size::Refused(refusal) => refused(refusal),
     }
-    store_into(
-        &mut room[0..size],
-        column,
-        value,
-        part(arena, 0, end),
-        out,
-        used,
-    )
+}
+
+// `size TYPE M0 M1 UNSIGNED VALUE`
+pub(crate) fn size(line: &[u8], args: &[u64]) -> Turn {
+    told(value::lone_size(column(args), value(args, 5), line))
+}
+
+// `size-at TYPE M0 M1 UNSIGNED VALUE PLACE`
+pub(crate) fn size_at(line: &[u8], args: &[u64]) -> Turn {
+    told(value::value_size(column(args), value(args, 5), line, index(args, 6)))
 }

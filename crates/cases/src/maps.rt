@@ -1,71 +1,100 @@
-// The case of a table map that is read: `event`.
-use crate::output::put_bad;
-use crate::output::put_byte;
-use crate::output::put_hex;
-use crate::output::put_refused;
-use crate::output::put_spaced_number;
-use crate::printing::put_named;
-use crate::slices::cut;
-use crate::slices::part;
-use crate::words::Decoded;
-use crate::words::Number;
-use crate::words::last_bytes;
-use crate::words::read_number;
+// The kinds of a table map: `event`, `event-parts`, `write-event`, `event-size`.
+use crate::lone::told;
+use crate::room::written;
+use crate::turn::OWN;
+use crate::turn::Turn;
+use crate::turn::last;
+use crate::turn::refused;
+use crate::words::number;
+use crate::words::post_header;
+use crate::words::text;
 use table_map::Event;
 use table_map::EventRead;
 use table_map::Part;
 
-// The post-header length that a case names. All but 6 read alike, and a case may name one that no
-// byte holds.
-pub(crate) fn post_header(n: u64) -> u8 {
-    if n == 6 {
-        return 6;
-    }
-    8
+fn start(part: Part) -> u64 {
+    part.start as u64
 }
 
-// A space, and a part of `s`: one more word of an answer.
-fn put_spaced_part(out: &mut [u8], used: usize, s: &[u8], p: Part) -> usize {
-    let used = put_byte(out, used, b' ');
-    put_hex(out, used, cut(s, p.start, p.len))
+fn len(part: Part) -> u64 {
+    part.len as u64
 }
 
-// Three parts of `s`, a word each.
-fn put_parts(out: &mut [u8], used: usize, s: &[u8], a: Part, b: Part, c: Part) -> usize {
-    let used = put_spaced_part(out, used, s, a);
-    let used = put_spaced_part(out, used, s, b);
-    put_spaced_part(out, used, s, c)
-}
-
-// The event whose parts stand in `s`.
-fn put_event(out: &mut [u8], used: usize, s: &[u8], event: Event) -> usize {
-    let used = put_named(out, used, b"ok ", event.id);
-    let used = put_spaced_number(out, used, event.flags as u64);
-    let used = put_parts(out, used, s, event.database, event.table, event.types);
-    put_parts(out, used, s, event.metadata, event.bits, event.optional)
-}
-
-fn put_read(out: &mut [u8], used: usize, read: EventRead, s: &[u8]) -> usize {
-    match read {
-        EventRead::Read(event) => put_event(out, used, s, event),
-        EventRead::Refused(refusal) => put_refused(out, used, refusal),
-    }
+fn parts(e: Event) -> [u64; 14] {
+    [
+        e.id,
+        e.flags as u64,
+        start(e.database),
+        len(e.database),
+        start(e.table),
+        len(e.table),
+        start(e.types),
+        len(e.types),
+        start(e.metadata),
+        len(e.metadata),
+        start(e.bits),
+        len(e.bits),
+        start(e.optional),
+        len(e.optional),
+    ]
 }
 
 // `event POSTHEADER HEX`
-pub(crate) fn event_case(
-    line: &[u8],
-    at: usize,
-    arena: &mut [u8],
-    out: &mut [u8],
-    used: usize,
-) -> usize {
-    let Number::Found(length, next) = read_number(line, at) else {
-        return put_bad(out, used);
-    };
-    let Decoded::To(end) = last_bytes(line, next, arena, 0) else {
-        return put_bad(out, used);
-    };
-    let read = table_map::read_event(part(arena, 0, end), post_header(length));
-    put_read(out, used, read, part(arena, 0, end))
+pub(crate) fn event(line: &[u8], args: &[u64]) -> Turn {
+    match table_map::read_event(text(line, args, 2), post_header(args, 1)) {
+        EventRead::Read(event) => last(OWN, parts(event)),
+        EventRead::Refused(refusal) => refused(refusal),
+    }
+}
+
+// `event-parts POSTHEADER HEX`: which parts are asked for
+pub(crate) fn event_parts() -> Turn {
+    last(OWN, [0, 1, 2, 3, 4, 5, 0, 0, 0, 0, 0, 0, 0, 0])
+}
+
+// One of them, by its own call.
+pub(crate) fn event_part(event: &[u8], post_header: u8, which: u64) -> &[u8] {
+    match which {
+        0 => table_map::database_name(event, post_header),
+        1 => table_map::table_name(event, post_header),
+        2 => table_map::column_types(event, post_header),
+        3 => table_map::column_metadata(event, post_header),
+        4 => table_map::nullable_bits(event, post_header),
+        _ => table_map::optional_metadata(event, post_header),
+    }
+}
+
+// The flags of a line, held to their 16 bits.
+fn flags(args: &[u64]) -> u16 {
+    (number(args, 2) % 65536) as u16
+}
+
+// `write-event ID FLAGS DB TABLE TYPES METADATA BITS OPTIONAL ROOM`
+pub(crate) fn write_event(line: &[u8], args: &[u64], room: &mut [u8]) -> Turn {
+    let answer = table_map::write_event(
+        number(args, 1),
+        flags(args),
+        text(line, args, 3),
+        text(line, args, 4),
+        text(line, args, 5),
+        text(line, args, 6),
+        text(line, args, 7),
+        text(line, args, 8),
+        room,
+    );
+    written(room, answer)
+}
+
+// `event-size ID FLAGS DB TABLE TYPES METADATA BITS OPTIONAL`
+pub(crate) fn event_size(line: &[u8], args: &[u64]) -> Turn {
+    told(table_map::event_size(
+        number(args, 1),
+        flags(args),
+        text(line, args, 3),
+        text(line, args, 4),
+        text(line, args, 5),
+        text(line, args, 6),
+        text(line, args, 7),
+        text(line, args, 8),
+    ))
 }

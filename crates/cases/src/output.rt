@@ -2,7 +2,6 @@
 // answer costs no system call. `used` bytes of `out` wait; each function returns the new count.
 use crate::slices::part;
 use libc::STDOUT_FILENO;
-use wire::Refusal;
 ghost use Prim.Native.Nat.{_<_};
 
 // Writes what waits.
@@ -47,12 +46,6 @@ pub(crate) fn put_number(out: &mut [u8], used: usize, n: u64) -> usize {
     put_text(out, used, &digits[..count])
 }
 
-// A space, and a number: one more word of an answer.
-pub(crate) fn put_spaced_number(out: &mut [u8], used: usize, n: u64) -> usize {
-    let used = put_byte(out, used, b' ');
-    put_number(out, used, n)
-}
-
 fn hex_digit(n: u8) -> u8
     requires { ⌜ n < 16 ⌝ }
 {
@@ -79,22 +72,4 @@ pub(crate) fn put_hex(out: &mut [u8], used: usize, s: &[u8]) -> usize {
         i += 1;
     }
     now
-}
-
-// `ok`, and bytes in hex.
-pub(crate) fn put_ok(out: &mut [u8], used: usize, s: &[u8]) -> usize {
-    let used = put_text(out, used, b"ok ");
-    put_hex(out, used, s)
-}
-
-// The answer to a malformed line.
-pub(crate) fn put_bad(out: &mut [u8], used: usize) -> usize {
-    put_text(out, used, b"bad")
-}
-
-// A refusal's number and place.
-pub(crate) fn put_refused(out: &mut [u8], used: usize, refusal: Refusal) -> usize {
-    let used = put_text(out, used, b"refused ");
-    let used = put_number(out, used, refusal.number as u64);
-    put_spaced_number(out, used, refusal.place as u64)
 }

@@ -1,124 +1,176 @@
-// Values as words of an answer.
+// Answers, printed by their forms. In a form N stands for a number, H for bytes of the line's last byte
+// string and W for bytes of the room (two numbers each), V for a value (eight), I for an item of a list
+// (two), E for a part of the event (one: which), L for the name that the line asks for, and _ for a
+// number that is not shown; every other byte is itself.
+use crate::checks::name_asked;
+use crate::lists::put_item;
+use crate::maps::event_part;
 use crate::output::put_byte;
 use crate::output::put_hex;
 use crate::output::put_number;
-use crate::output::put_text;
 use crate::slices::cut;
-use temporal::Date;
-use temporal::Moment;
-use temporal::Stamp;
-use temporal::Temporal;
-use temporal::Time;
-use value::Value;
+use crate::slices::part;
+use crate::slices::plus;
+use crate::tables::row_numbered;
+use crate::tables::said_in;
+use crate::turn::OWN;
+use crate::turn::Turn;
+use crate::values::Numbers;
+use crate::values::put_value;
+use crate::words::nth;
+use crate::words::number;
+use crate::words::post_header;
+use crate::words::shown;
+use crate::words::text;
+ghost use Prim.Native.Nat.{_≤_};
 
-// A name, and a number behind it.
-pub(crate) fn put_named(out: &mut [u8], used: usize, name: &[u8], n: u64) -> usize {
-    let used = put_text(out, used, name);
-    put_number(out, used, n)
-}
+// The forms that all kinds share. The names are those of the constants in `turn`.
+const ANSWERS: [u8; 96] = *b"own|\n\
+    bad|bad\n\
+    spoiled|spoiled\n\
+    refused|refused N N\n\
+    end|end\n\
+    used|end N\n\
+    nothing|\n\
+    default|default:N \n";
 
-// A colon, and a number behind it.
-fn put_part(out: &mut [u8], used: usize, n: u64) -> usize {
-    let used = put_byte(out, used, b':');
-    put_number(out, used, n)
-}
-
-fn put_int(out: &mut [u8], used: usize, z: i64) -> usize {
-    if z < 0 {
-        let below = -1 - z;
-        return put_named(out, used, b"int:-", below as u64 + 1);
+// How many numbers a letter takes.
+fn taken(letter: u8) -> usize
+    ensures { λ r. ⌜ r ≤ 8 ⌝ }
+{
+    match letter {
+        b'N' | b'E' | b'_' => 1,
+        b'H' | b'W' | b'I' => 2,
+        b'V' => 8,
+        _ => 0,
     }
-    put_named(out, used, b"int:", z as u64)
 }
 
-fn put_stamp(out: &mut [u8], used: usize, stamp: Stamp) -> usize {
-    let used = put_named(out, used, b"seconds:", stamp.seconds as u64);
-    put_part(out, used, stamp.micros as u64)
+// The place behind the numbers that a letter takes. There are 14.
+fn next_place(at: usize, letter: u8) -> usize {
+    if 14 <= at {
+        return 14;
+    }
+    at + taken(letter)
 }
 
-fn put_date(out: &mut [u8], used: usize, name: &[u8], date: Date) -> usize {
-    let used = put_named(out, used, name, date.year as u64);
-    let used = put_part(out, used, date.month as u64);
-    put_part(out, used, date.day as u64)
+// The bytes of the line that a letter shows.
+fn bytes_of<'a>(letter: u8, first: u64, second: u64, line: &'a [u8], args: &[u64]) -> &'a [u8] {
+    match letter {
+        b'H' => cut(shown(line, args), first as usize, second as usize),
+        b'E' => event_part(text(line, args, 2), post_header(args, 1), first),
+        _ => name_asked(line, args),
+    }
 }
 
-// `:h:m:s:MICROS`, behind a date or a sign
-fn put_clock(
+// The value whose numbers stand at a place.
+fn value_at(numbers: [u64; 14], at: usize) -> Numbers {
+    Numbers {
+        kind: nth(&numbers, at),
+        parts: [
+            nth(&numbers, plus(at, 1)),
+            nth(&numbers, plus(at, 2)),
+            nth(&numbers, plus(at, 3)),
+            nth(&numbers, plus(at, 4)),
+            nth(&numbers, plus(at, 5)),
+            nth(&numbers, plus(at, 6)),
+            nth(&numbers, plus(at, 7)),
+        ],
+    }
+}
+
+// A letter that has two numbers, or bytes.
+fn put_pair(
     out: &mut [u8],
     used: usize,
-    hours: u16,
-    minutes: u8,
-    seconds: u8,
-    micros: u32,
+    letter: u8,
+    first: u64,
+    second: u64,
+    line: &[u8],
+    args: &[u64],
+    room: &[u8],
 ) -> usize {
-    let used = put_part(out, used, hours as u64);
-    let used = put_part(out, used, minutes as u64);
-    let used = put_part(out, used, seconds as u64);
-    put_part(out, used, micros as u64)
-}
-
-fn put_moment(out: &mut [u8], used: usize, moment: Moment) -> usize {
-    let date = Date {
-        year: moment.year,
-        month: moment.month,
-        day: moment.day,
-    };
-    let used = put_date(out, used, b"datetime:", date);
-    put_clock(
-        out,
-        used,
-        moment.hour as u16,
-        moment.minute,
-        moment.second,
-        moment.micros,
-    )
-}
-
-// `time:`, and the sign
-fn put_sign(out: &mut [u8], used: usize, negative: bool) -> usize {
-    if negative {
-        return put_text(out, used, b"time:-");
-    }
-    put_text(out, used, b"time:+")
-}
-
-fn put_time(out: &mut [u8], used: usize, time: Time) -> usize {
-    let used = put_sign(out, used, time.negative);
-    put_clock(
-        out,
-        used,
-        time.hours,
-        time.minutes,
-        time.seconds,
-        time.micros,
-    )
-}
-
-fn put_temporal(out: &mut [u8], used: usize, temporal: Temporal) -> usize {
-    match temporal {
-        Temporal::Since(stamp) => put_stamp(out, used, stamp),
-        Temporal::On(date) => put_date(out, used, b"date:", date),
-        Temporal::At(moment) => put_moment(out, used, moment),
-        Temporal::Lasts(time) => put_time(out, used, time),
+    match letter {
+        b'I' => put_item(out, used, number(args, 1), first, second, shown(line, args)),
+        b'W' => put_hex(out, used, part(room, first as usize, second as usize)),
+        _ => put_hex(out, used, bytes_of(letter, first, second, line, args)),
     }
 }
 
-// The bytes that stand at `start` of `s`.
-fn put_bytes(out: &mut [u8], used: usize, s: &[u8], start: usize, len: usize) -> usize {
-    let used = put_text(out, used, b"bytes:");
-    put_hex(out, used, cut(s, start, len))
+// One letter of a form, whose numbers start at a place.
+fn put_letter(
+    out: &mut [u8],
+    used: usize,
+    letter: u8,
+    numbers: [u64; 14],
+    at: usize,
+    line: &[u8],
+    args: &[u64],
+    room: &[u8],
+) -> usize {
+    let first = nth(&numbers, at);
+    match letter {
+        b'N' => put_number(out, used, first),
+        b'V' => put_value(out, used, value_at(numbers, at), shown(line, args)),
+        b'H' | b'W' | b'I' | b'E' | b'L' => {
+            let second = nth(&numbers, plus(at, 1));
+            put_pair(out, used, letter, first, second, line, args, room)
+        }
+        b'_' => used,
+        _ => put_byte(out, used, letter),
+    }
 }
 
-// A value, its bytes those of the slice that it was read from.
-pub(crate) fn put_value(out: &mut [u8], used: usize, value: Value, s: &[u8]) -> usize {
-    match value {
-        Value::Null => put_text(out, used, b"null"),
-        Value::Int(z) => put_int(out, used, z),
-        Value::Uint(n) => put_named(out, used, b"uint:", n),
-        Value::Float(bits) => put_named(out, used, b"float:", bits as u64),
-        Value::Double(bits) => put_named(out, used, b"double:", bits),
-        Value::Year(year) => put_named(out, used, b"year:", year as u64),
-        Value::When(temporal) => put_temporal(out, used, temporal),
-        Value::Bytes(part) => put_bytes(out, used, s, part.start, part.len),
+// An answer by its form.
+fn put_form(
+    out: &mut [u8],
+    used: usize,
+    form: &[u8],
+    numbers: [u64; 14],
+    line: &[u8],
+    args: &[u64],
+    room: &[u8],
+) -> usize {
+    let mut now = used;
+    let mut at: usize = 0;
+    let mut i: usize = 0;
+    while i < form.len() {
+        let letter = form[i];
+        now = put_letter(out, now, letter, numbers, at, line, args, room);
+        at = next_place(at, letter);
+        i += 1;
     }
+    now
+}
+
+// An answer by one of the forms that all kinds share.
+fn put_shared(
+    out: &mut [u8],
+    used: usize,
+    answers: &[u8],
+    turn: Turn,
+    line: &[u8],
+    args: &[u64],
+    room: &[u8],
+) -> usize {
+    let form = said_in(answers, row_numbered(answers, turn.form));
+    let numbers = turn.numbers;
+    put_form(out, used, form, numbers, line, args, room)
+}
+
+// What one turn says; `form` is the kind's own.
+pub(crate) fn put_turn(
+    out: &mut [u8],
+    used: usize,
+    form: &[u8],
+    turn: Turn,
+    line: &[u8],
+    args: &[u64],
+    room: &[u8],
+) -> usize {
+    let numbers = turn.numbers;
+    if turn.form == OWN {
+        return put_form(out, used, form, numbers, line, args, room);
+    }
+    put_shared(out, used, &ANSWERS, turn, line, args, room)
 }

@@ -1,10 +1,15 @@
 // The buffer that a writing case lends: filled before the call, and compared after it, so that a
 // byte that the call was not to write shows.
-use crate::output::put_ok;
-use crate::output::put_refused;
-use crate::output::put_text;
 use crate::slices::part;
+use crate::turn::SPOILED;
+use crate::turn::Turn;
+use crate::turn::four;
+use crate::turn::plain;
+use crate::turn::refused;
+use crate::turn::two;
+use image::Cursor;
 use wire::Refusal;
+use wire::Written;
 
 // What every byte holds before the call.
 const FILLER: u8 = 0xA5;
@@ -37,28 +42,35 @@ pub(crate) fn is_untouched_around(room: &[u8], from: usize, to: usize) -> bool {
     is_untouched(part(room, to, room.len()))
 }
 
-pub(crate) fn put_spoiled(out: &mut [u8], used: usize) -> usize {
-    put_text(out, used, b"spoiled")
+// The answer to a call that reports the bytes from `from` to `to`.
+pub(crate) fn wrote(room: &[u8], from: usize, to: usize) -> Turn {
+    if !is_untouched_around(room, from, to) {
+        return plain(SPOILED);
+    }
+    two(from as u64, to as u64)
 }
 
-// The answer to a call that reports the bytes from `from` to `to`.
-pub(crate) fn put_written(
-    out: &mut [u8],
-    used: usize,
-    room: &[u8],
-    from: usize,
-    to: usize,
-) -> usize {
+// The same for one that tells a cursor behind them.
+pub(crate) fn wrote_to(room: &[u8], from: usize, next: Cursor) -> Turn {
+    let to = next.offset;
     if !is_untouched_around(room, from, to) {
-        return put_spoiled(out, used);
+        return plain(SPOILED);
     }
-    put_ok(out, used, part(room, from, to))
+    four(from as u64, to as u64, next.column as u64, to as u64)
 }
 
 // The answer to a call that refused.
-pub(crate) fn put_unwritten(out: &mut [u8], used: usize, room: &[u8], refusal: Refusal) -> usize {
+pub(crate) fn wrote_nothing(room: &[u8], refusal: Refusal) -> Turn {
     if !is_untouched(room) {
-        return put_spoiled(out, used);
+        return plain(SPOILED);
     }
-    put_refused(out, used, refusal)
+    refused(refusal)
+}
+
+// What a writer answered that starts at the room's first byte.
+pub(crate) fn written(room: &[u8], answer: Written) -> Turn {
+    match answer {
+        Written::Done { next } => wrote(room, 0, next),
+        Written::Refused(refusal) => wrote_nothing(room, refusal),
+    }
 }

@@ -1,25 +1,20 @@
-// The cases of a row image that is written: `start`, `put` and `row`.
-use crate::images::put_cursor;
-use crate::output::put_bad;
-use crate::output::put_ok;
-use crate::output::put_refused;
-use crate::room::fill;
+// The kinds `start`, `put` and `row`: a row image that is written.
 use crate::room::is_untouched_around;
-use crate::room::put_spoiled;
-use crate::room::put_unwritten;
-use crate::room::put_written;
+use crate::room::wrote;
+use crate::room::wrote_nothing;
+use crate::room::wrote_to;
 use crate::slices::part;
-use crate::values::ValueWord;
-use crate::values::read_value_word;
-use crate::words::Bytes3;
-use crate::words::Decimal;
-use crate::words::Number;
-use crate::words::Number2;
-use crate::words::is_last;
-use crate::words::last_number;
-use crate::words::read_bytes3;
-use crate::words::read_number;
-use crate::words::read_number2;
+use crate::slices::plus;
+use crate::turn::BAD;
+use crate::turn::SPOILED;
+use crate::turn::Turn;
+use crate::turn::plain;
+use crate::turn::refused;
+use crate::turn::silent;
+use crate::words::count;
+use crate::words::index;
+use crate::words::text;
+use crate::words::value;
 use image::Cursor;
 use image::First;
 use image::Put;
@@ -28,169 +23,53 @@ use value::Value;
 use wire::Refusal;
 ghost use Prim.Native.Nat.{_≤_};
 
-// Where the record, the presence bits and the null bits of a line end in the arena. They stand
-// behind each other, from its start.
-struct Ends {
-    profile: usize,
-    presence: usize,
-    nulls: usize,
-}
-
-// The bytes that a call stored from `from` on, and its cursor.
-fn put_stored(out: &mut [u8], used: usize, room: &[u8], from: usize, next: Cursor) -> usize {
-    if !is_untouched_around(room, from, next.offset) {
-        return put_spoiled(out, used);
-    }
-    let used = put_ok(out, used, part(room, from, next.offset));
-    put_cursor(out, used, next)
-}
+// The words of a row before its first value: record, presence bits, null bits and room.
+const BEFORE_VALUES: usize = 4;
 
 // The writer's start, with the byte strings of a line.
-fn call_start(room: &mut [u8], arena: &[u8], ends: Ends) -> Put {
+fn call_start(line: &[u8], args: &[u64], room: &mut [u8]) -> Put {
     image::start(
-        part(arena, 0, ends.profile),
-        part(arena, ends.profile, ends.presence),
-        part(arena, ends.presence, ends.nulls),
+        text(line, args, 1),
+        text(line, args, 2),
+        text(line, args, 3),
         room,
     )
 }
 
-// The same for one step of the writer. The bytes of the value stand in the arena too.
-fn call_put(room: &mut [u8], arena: &[u8], ends: Ends, cursor: Cursor, value: Value) -> Put {
+// The same for one step of the writer. The bytes of the value stand in the line too.
+fn call_put(line: &[u8], args: &[u64], room: &mut [u8], cursor: Cursor, value: Value) -> Put {
     cursor.put(
-        part(arena, 0, ends.profile),
-        part(arena, ends.profile, ends.presence),
-        part(arena, ends.presence, ends.nulls),
+        text(line, args, 1),
+        text(line, args, 2),
+        text(line, args, 3),
         value,
-        arena,
+        line,
         room,
     )
 }
 
-// Starts an image in the room that was asked for.
-fn start_into(room: &mut [u8], arena: &[u8], ends: Ends, out: &mut [u8], used: usize) -> usize {
-    fill(room);
-    match call_start(room, arena, ends) {
-        Put::Next(next) => put_stored(out, used, room, 0, next),
-        Put::Refused(refusal) => put_unwritten(out, used, room, refusal),
+// What was stored from `from` on, and the next cursor.
+fn stored(room: &[u8], from: usize, answer: Put) -> Turn {
+    match answer {
+        Put::Next(next) => wrote_to(room, from, next),
+        Put::Refused(refusal) => wrote_nothing(room, refusal),
     }
 }
 
 // `start RECORD PRESENCE NULLS ROOM`
-pub(crate) fn start_case(
-    line: &[u8],
-    at: usize,
-    arena: &mut [u8],
-    room: &mut [u8],
-    out: &mut [u8],
-    used: usize,
-) -> usize {
-    let Bytes3::Found(profile, presence, nulls, next) = read_bytes3(line, at, arena) else {
-        return put_bad(out, used);
-    };
-    let Decimal::Value(size) = last_number(line, next) else {
-        return put_bad(out, used);
-    };
-    let size = size as usize;
-    if size > room.len() {
-        return put_bad(out, used);
-    }
-    let ends = Ends {
-        profile,
-        presence,
-        nulls,
-    };
-    start_into(&mut room[0..size], arena, ends, out, used)
-}
-
-// Stores one value at a cursor in the room that was asked for.
-fn put_into(
-    room: &mut [u8],
-    arena: &[u8],
-    ends: Ends,
-    cursor: Cursor,
-    value: Value,
-    out: &mut [u8],
-    used: usize,
-) -> usize {
-    fill(room);
-    match call_put(room, arena, ends, cursor, value) {
-        Put::Next(next) => put_stored(out, used, room, cursor.offset, next),
-        Put::Refused(refusal) => put_unwritten(out, used, room, refusal),
-    }
-}
-
-// The cursor, and the length of the room.
-enum Placing {
-    Found(Cursor, usize),
-    Bad,
-}
-
-// `COLUMN OFFSET ROOM`, the last words of a line
-fn read_placing(line: &[u8], at: usize) -> Placing {
-    let Number2::Found(column, offset, next) = read_number2(line, at) else {
-        return Placing::Bad;
-    };
-    let Decimal::Value(size) = last_number(line, next) else {
-        return Placing::Bad;
-    };
-    let column = column as usize;
-    let offset = offset as usize;
-    let size = size as usize;
-    Placing::Found(Cursor { column, offset }, size)
+pub(crate) fn start(line: &[u8], args: &[u64], room: &mut [u8]) -> Turn {
+    let answer = call_start(line, args, room);
+    stored(room, 0, answer)
 }
 
 // `put RECORD PRESENCE NULLS VALUE COLUMN OFFSET ROOM`
-pub(crate) fn put_case(
-    line: &[u8],
-    at: usize,
-    arena: &mut [u8],
-    room: &mut [u8],
-    out: &mut [u8],
-    used: usize,
-) -> usize {
-    let Bytes3::Found(profile, presence, nulls, next) = read_bytes3(line, at, arena) else {
-        return put_bad(out, used);
+pub(crate) fn put(line: &[u8], args: &[u64], room: &mut [u8]) -> Turn {
+    let cursor = Cursor {
+        column: index(args, 5),
+        offset: index(args, 6),
     };
-    let ValueWord::Found(value, _, next) = read_value_word(line, next, arena, nulls) else {
-        return put_bad(out, used);
-    };
-    let Placing::Found(cursor, size) = read_placing(line, next) else {
-        return put_bad(out, used);
-    };
-    if size > room.len() {
-        return put_bad(out, used);
-    }
-    let ends = Ends {
-        profile,
-        presence,
-        nulls,
-    };
-    put_into(&mut room[0..size], arena, ends, cursor, value, out, used)
-}
-
-// How many value words there are.
-enum Count {
-    Found(usize),
-    Bad,
-}
-
-// Counts the value words from `at` to the end of the line. Each is decoded, to see that it is good,
-// and the next is decoded over it. A line has fewer words than bytes, so the loop ends by a return.
-fn count_values(line: &[u8], at: usize, arena: &mut [u8], from: usize) -> Count {
-    let mut next = at;
-    let mut count: usize = 0;
-    while count < line.len() {
-        if is_last(next) {
-            return Count::Found(count);
-        }
-        let ValueWord::Found(_, _, after) = read_value_word(line, next, arena, from) else {
-            return Count::Bad;
-        };
-        next = after;
-        count += 1;
-    }
-    Count::Bad
+    let answer = call_put(line, args, room, cursor, value(args, 4));
+    stored(room, cursor.offset, answer)
 }
 
 // 1 for a column that is present, else 0.
@@ -217,12 +96,54 @@ fn count_present(profile: &[u8], presence: &[u8]) -> usize {
     present
 }
 
-// What became of a step of the writer: the next cursor, its refusal, or a byte changed that it was
-// not to change.
-enum Stored {
-    Next(Cursor),
+// A turn that prints nothing: the next one stores the value of the word at the cursor.
+fn at_value(word: usize, cursor: Cursor) -> Turn {
+    silent([word as u64, cursor.column as u64, cursor.offset as u64, 0])
+}
+
+// What became of the start of a row.
+fn begun(room: &[u8], answer: Put) -> Turn {
+    match answer {
+        Put::Next(first) => {
+            if is_untouched_around(room, 0, first.offset) {
+                return at_value(1 + BEFORE_VALUES, first);
+            }
+            plain(SPOILED)
+        }
+        Put::Refused(refusal) => wrote_nothing(room, refusal),
+    }
+}
+
+// Whether there is a value for each present column. A record that is not valid and presence bits of
+// wrong length are refused first: there is nothing to count by then.
+enum Fitting {
+    Yes,
+    No,
     Refused(Refusal),
-    Spoiled,
+}
+
+fn fits(profile: &[u8], presence: &[u8], words: usize) -> Fitting {
+    match image::first_cursor(profile, presence) {
+        First::At(_) => {
+            if words == plus(BEFORE_VALUES, count_present(profile, presence)) {
+                return Fitting::Yes;
+            }
+            Fitting::No
+        }
+        First::Refused(refusal) => Fitting::Refused(refusal),
+    }
+}
+
+// The first turn of a row.
+fn begin(line: &[u8], args: &[u64], room: &mut [u8]) -> Turn {
+    match fits(text(line, args, 1), text(line, args, 2), count(args)) {
+        Fitting::Yes => {
+            let answer = call_start(line, args, room);
+            begun(room, answer)
+        }
+        Fitting::No => plain(BAD),
+        Fitting::Refused(refusal) => refused(refusal),
+    }
 }
 
 // A cast by a call asks for no proof that the byte of a slice fits.
@@ -242,153 +163,48 @@ fn digest(s: &[u8]) -> u64 {
     sum
 }
 
-// Stores one value at a cursor. What was stored before must still be there, and nothing behind the
-// new cursor may have changed.
-fn put_checked(room: &mut [u8], arena: &[u8], ends: Ends, cursor: Cursor, value: Value) -> Stored {
-    let stored = digest(part(room, 0, cursor.offset));
-    let answer = call_put(room, arena, ends, cursor, value);
-    if digest(part(room, 0, cursor.offset)) != stored {
-        return Stored::Spoiled;
-    }
+// What became of the value of a word. Nothing behind the new cursor may have changed, or behind the old
+// one where there is no new one.
+fn went_on(room: &[u8], word: usize, at: Cursor, answer: Put) -> Turn {
     match answer {
         Put::Next(next) => {
             if is_untouched_around(room, 0, next.offset) {
-                return Stored::Next(next);
+                return at_value(word, next);
             }
-            Stored::Spoiled
+            plain(SPOILED)
         }
         Put::Refused(refusal) => {
-            if is_untouched_around(room, 0, cursor.offset) {
-                return Stored::Refused(refusal);
+            if is_untouched_around(room, 0, at.offset) {
+                return refused(refusal);
             }
-            Stored::Spoiled
+            plain(SPOILED)
         }
     }
 }
 
-// Stores the values of a line, one after the other, from the first cursor on. Like `count_values`,
-// which has found all of them good, it ends by a return.
-fn put_values(
-    room: &mut [u8],
-    line: &[u8],
-    at: usize,
-    arena: &mut [u8],
-    ends: Ends,
-    first: Cursor,
-    out: &mut [u8],
-    used: usize,
-) -> usize {
-    let mut cursor = first;
-    let mut next = at;
-    let mut left = line.len();
-    while left > 0 {
-        left -= 1;
-        if is_last(next) {
-            return put_written(out, used, room, 0, cursor.offset);
-        }
-        let ValueWord::Found(value, _, after) = read_value_word(line, next, arena, ends.nulls)
-        else {
-            return put_bad(out, used);
-        };
-        match put_checked(room, arena, ends, cursor, value) {
-            Stored::Next(behind) => {
-                cursor = behind;
-            }
-            Stored::Refused(refusal) => return put_refused(out, used, refusal),
-            Stored::Spoiled => return put_spoiled(out, used),
-        }
-        next = after;
+// Stores the value of a word. What was stored before must still be there.
+fn put_next(line: &[u8], args: &[u64], room: &mut [u8], word: usize, at: Cursor) -> Turn {
+    let stored = digest(part(room, 0, at.offset));
+    let answer = call_put(line, args, room, at, value(args, word));
+    if digest(part(room, 0, at.offset)) != stored {
+        return plain(SPOILED);
     }
-    put_bad(out, used)
+    went_on(room, plus(word, 1), at, answer)
 }
 
-// Writes a row into the room that was asked for, by the start and a step for each value.
-fn row_into(
-    room: &mut [u8],
-    line: &[u8],
-    at: usize,
-    arena: &mut [u8],
-    ends: Ends,
-    out: &mut [u8],
-    used: usize,
-) -> usize {
-    fill(room);
-    match call_start(room, arena, ends) {
-        Put::Next(first) => {
-            if !is_untouched_around(room, 0, first.offset) {
-                return put_spoiled(out, used);
-            }
-            put_values(room, line, at, arena, ends, first, out, used)
-        }
-        Put::Refused(refusal) => put_unwritten(out, used, room, refusal),
+// `row RECORD PRESENCE NULLS ROOM VALUE...`: the start, a turn for each value, and one that tells the
+// bytes
+pub(crate) fn row(line: &[u8], args: &[u64], room: &mut [u8], state: [u64; 4]) -> Turn {
+    let word = state[0] as usize;
+    if word == 0 {
+        return begin(line, args, room);
     }
-}
-
-// The words of a row: its byte strings, the room, where the values start and how many there are.
-enum RowWords {
-    Found(Ends, usize, usize, usize),
-    Bad,
-}
-
-// `RECORD PRESENCE NULLS ROOM VALUE...`
-fn read_row(line: &[u8], at: usize, arena: &mut [u8]) -> RowWords {
-    let Bytes3::Found(profile, presence, nulls, next) = read_bytes3(line, at, arena) else {
-        return RowWords::Bad;
+    let at = Cursor {
+        column: state[1] as usize,
+        offset: state[2] as usize,
     };
-    let Number::Found(size, next) = read_number(line, next) else {
-        return RowWords::Bad;
-    };
-    let Count::Found(values) = count_values(line, next, arena, nulls) else {
-        return RowWords::Bad;
-    };
-    let ends = Ends {
-        profile,
-        presence,
-        nulls,
-    };
-    RowWords::Found(ends, size as usize, next, values)
-}
-
-// Whether there is a value for each present column. A record that is not valid and presence bits of
-// wrong length are refused first: there is nothing to count by then.
-enum Fitting {
-    Yes,
-    No,
-    Refused(Refusal),
-}
-
-fn fits(profile: &[u8], presence: &[u8], values: usize) -> Fitting {
-    match image::first_cursor(profile, presence) {
-        First::At(_) => {
-            if values == count_present(profile, presence) {
-                return Fitting::Yes;
-            }
-            Fitting::No
-        }
-        First::Refused(refusal) => Fitting::Refused(refusal),
+    if count(args) < word {
+        return wrote(room, 0, at.offset);
     }
-}
-
-// `row RECORD PRESENCE NULLS ROOM VALUE...`
-pub(crate) fn row_case(
-    line: &[u8],
-    at: usize,
-    arena: &mut [u8],
-    room: &mut [u8],
-    out: &mut [u8],
-    used: usize,
-) -> usize {
-    let RowWords::Found(ends, size, next, values) = read_row(line, at, arena) else {
-        return put_bad(out, used);
-    };
-    if size > room.len() {
-        return put_bad(out, used);
-    }
-    let profile = part(arena, 0, ends.profile);
-    let presence = part(arena, ends.profile, ends.presence);
-    match fits(profile, presence, values) {
-        Fitting::Yes => row_into(&mut room[0..size], line, next, arena, ends, out, used),
-        Fitting::No => put_bad(out, used),
-        Fitting::Refused(refusal) => put_refused(out, used, refusal),
-    }
+    put_next(line, args, room, word, at)
 }

@@ -1,5 +1,7 @@
-// Parts of slices and comparison, total: each function tests what it is given, so that its callers
-// have nothing to prove.
+// Parts of slices, places and comparison, total: each function tests what it is given, so that its
+// callers have nothing to prove.
+ghost use Prim.Native.Nat.{_≤_};
+ghost use lib.ListN.{length};
 
 // The bytes from `from` to `to`, or none where there is no such part.
 pub(crate) fn part(s: &[u8], from: usize, to: usize) -> &[u8] {
@@ -17,8 +19,18 @@ pub(crate) fn cut(s: &[u8], start: usize, len: usize) -> &[u8] {
     part(part(s, start, s.len()), 0, len)
 }
 
+// The place `len` behind `at`, or the last that there is.
+pub(crate) fn plus(at: usize, len: usize) -> usize {
+    if usize::MAX - len < at {
+        return usize::MAX;
+    }
+    at + len
+}
+
 // The place of the first `sought` from `from` on, or the length where there is none.
-pub(crate) fn find(s: &[u8], from: usize, sought: u8) -> usize {
+pub(crate) fn find(s: &[u8], from: usize, sought: u8) -> usize
+    ensures { λ r. ⌜ r ≤ length (now (s .entry)) ⌝ }
+{
     let mut i = from;
     while i < s.len() {
         if s[i] == sought {

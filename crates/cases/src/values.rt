@@ -1,300 +1,169 @@
-// Value words: read into values, their bytes into the arena. A part is first held to its width; the
-// remainder that is taken where it is narrowed changes nothing, and shows that it fits.
+// Value words: a name, and parts behind colons. One table says for both ways which parts each has: its
+// rows are the kinds of `value_parts`, in their order, and a letter stands for each part, n for a
+// number, i for a signed one, s for a sign, h for bytes.
+use crate::digits::Decimal;
+use crate::digits::parse_decimal;
+use crate::digits::parse_int;
+use crate::digits::parse_sign;
+use crate::output::put_byte;
+use crate::output::put_hex;
+use crate::output::put_number;
+use crate::output::put_text;
+use crate::slices::cut;
 use crate::slices::find;
 use crate::slices::part;
-use crate::slices::same;
-use crate::words::Decimal;
-use crate::words::Decoded;
-use crate::words::Word;
-use crate::words::find_word;
-use crate::words::parse_bytes;
-use crate::words::parse_decimal;
-use temporal::Date;
-use temporal::Moment;
-use temporal::Stamp;
-use temporal::Temporal;
-use temporal::Time;
-use value::Value;
-use wire::Part;
+use crate::slices::plus;
+use crate::tables::Row;
+use crate::tables::name_in;
+use crate::tables::row_before;
+use crate::tables::row_named;
+use crate::tables::said_in;
+use value_parts::Made;
+use value_parts::kind::BYTES;
 
-// The most that a part of 8, 16, 32 bits can be.
-const MOST_8: u64 = 255;
+const VALUES: [u8; 99] = *b"null|\n\
+    int|i\n\
+    uint|n\n\
+    float|n\n\
+    double|n\n\
+    seconds|nn\n\
+    year|n\n\
+    date|nnn\n\
+    datetime|nnnnnnn\n\
+    time|snnnn\n\
+    bytes|h\n";
 
-const MOST_16: u64 = 65535;
+// The half of all numbers that two's complement takes for negative ones starts here.
+const FIRST_NEGATIVE: u64 = 9223372036854775808;
 
-const MOST_32: u64 = 4294967295;
-
-// The greatest of the signed integers, and the least without its minus.
-const MOST_INT: u64 = 9223372036854775807;
-
-const LEAST_INT: u64 = 9223372036854775808;
-
-// The digits that a signed integer has at most.
-const INT_DIGITS: usize = 19;
-
-// The value, the place in the arena after its bytes, and the place of the next word. The bytes of a
-// value start where the arena was free.
-pub(crate) enum ValueWord {
-    Found(Value, usize, usize),
-    Bad,
+// A value in numbers, kind 0 where the word is no value: its kind and parts.
+pub(crate) struct Numbers {
+    pub(crate) kind: u64,
+    pub(crate) parts: [u64; 7],
 }
 
-// What a word says that has no bytes.
-enum Plain {
-    Value(Value),
-    Bad,
+fn no_value() -> Numbers {
+    Numbers {
+        kind: 0,
+        parts: [0, 0, 0, 0, 0, 0, 0],
+    }
 }
 
-// One of the numbers that colons part, and the place after its colon.
-enum Part {
-    Number(u64, usize),
-    Bad,
+// One part of a word.
+fn parse_part(letter: u8, s: &[u8]) -> Decimal {
+    match letter {
+        b'n' => parse_decimal(s),
+        b'i' => parse_int(s),
+        b's' => parse_sign(s),
+        _ => Decimal::Bad,
+    }
 }
 
-// A number that is at most so much.
-fn parse_limited(s: &[u8], most: u64) -> Decimal {
-    let Decimal::Value(n) = parse_decimal(s) else {
-        return Decimal::Bad;
-    };
-    if n > most {
-        return Decimal::Bad;
-    }
-    Decimal::Value(n)
-}
-
-// The number that starts at `at` and has a colon behind it.
-fn first_part(s: &[u8], at: usize, most: u64) -> Part {
-    let colon = find(s, at, b':');
-    if s.len() <= colon {
-        return Part::Bad;
-    }
-    let Decimal::Value(n) = parse_limited(part(s, at, colon), most) else {
-        return Part::Bad;
-    };
-    Part::Number(n, colon + 1)
-}
-
-// The number that starts at `at` and ends the word.
-fn last_part(s: &[u8], at: usize, most: u64) -> Decimal {
-    parse_limited(part(s, at, s.len()), most)
-}
-
-// The digits of an integer that is not negative.
-fn parse_natural(s: &[u8]) -> Plain {
-    if s.len() > INT_DIGITS {
-        return Plain::Bad;
-    }
-    let Decimal::Value(n) = parse_decimal(s) else {
-        return Plain::Bad;
-    };
-    if n > MOST_INT {
-        return Plain::Bad;
-    }
-    Plain::Value(Value::Int(n as i64))
-}
-
-// The digits behind a minus.
-fn parse_negative(s: &[u8]) -> Plain {
-    if s.len() > INT_DIGITS {
-        return Plain::Bad;
-    }
-    let Decimal::Value(n) = parse_decimal(s) else {
-        return Plain::Bad;
-    };
-    if n > LEAST_INT {
-        return Plain::Bad;
-    }
-    if n == 0 {
-        return Plain::Value(Value::Int(0));
-    }
-    let below = (n - 1) as i64;
-    Plain::Value(Value::Int(-1 - below))
-}
-
-// `N` or `-N`
-fn parse_int(s: &[u8]) -> Plain {
-    if same(part(s, 0, 1), b"-") {
-        return parse_negative(part(s, 1, s.len()));
-    }
-    parse_natural(s)
-}
-
-// `S:MICROS`
-fn parse_stamp(s: &[u8]) -> Plain {
-    let Part::Number(seconds, at) = first_part(s, 0, MOST_32) else {
-        return Plain::Bad;
-    };
-    let Decimal::Value(micros) = last_part(s, at, MOST_32) else {
-        return Plain::Bad;
-    };
-    Plain::Value(Value::When(Temporal::Since(Stamp {
-        seconds: (seconds % 4294967296) as u32,
-        micros: (micros % 4294967296) as u32,
-    })))
-}
-
-// `Y:M:D`
-fn parse_date(s: &[u8]) -> Plain {
-    let Part::Number(year, at) = first_part(s, 0, MOST_16) else {
-        return Plain::Bad;
-    };
-    let Part::Number(month, at) = first_part(s, at, MOST_8) else {
-        return Plain::Bad;
-    };
-    let Decimal::Value(day) = last_part(s, at, MOST_8) else {
-        return Plain::Bad;
-    };
-    Plain::Value(Value::When(Temporal::On(Date {
-        year: (year % 65536) as u16,
-        month: (month % 256) as u8,
-        day: (day % 256) as u8,
-    })))
-}
-
-// `Y:M:D:h:m:s:MICROS`
-fn parse_moment(s: &[u8]) -> Plain {
-    let Part::Number(year, at) = first_part(s, 0, MOST_16) else {
-        return Plain::Bad;
-    };
-    let Part::Number(month, at) = first_part(s, at, MOST_8) else {
-        return Plain::Bad;
-    };
-    let Part::Number(day, at) = first_part(s, at, MOST_8) else {
-        return Plain::Bad;
-    };
-    let Part::Number(hour, at) = first_part(s, at, MOST_8) else {
-        return Plain::Bad;
-    };
-    let Part::Number(minute, at) = first_part(s, at, MOST_8) else {
-        return Plain::Bad;
-    };
-    let Part::Number(second, at) = first_part(s, at, MOST_8) else {
-        return Plain::Bad;
-    };
-    let Decimal::Value(micros) = last_part(s, at, MOST_32) else {
-        return Plain::Bad;
-    };
-    Plain::Value(Value::When(Temporal::At(Moment {
-        year: (year % 65536) as u16,
-        month: (month % 256) as u8,
-        day: (day % 256) as u8,
-        hour: (hour % 256) as u8,
-        minute: (minute % 256) as u8,
-        second: (second % 256) as u8,
-        micros: (micros % 4294967296) as u32,
-    })))
-}
-
-// `H:M:S:MICROS`, behind the sign
-fn parse_clock(negative: bool, s: &[u8]) -> Plain {
-    let Part::Number(hours, at) = first_part(s, 0, MOST_16) else {
-        return Plain::Bad;
-    };
-    let Part::Number(minutes, at) = first_part(s, at, MOST_8) else {
-        return Plain::Bad;
-    };
-    let Part::Number(seconds, at) = first_part(s, at, MOST_8) else {
-        return Plain::Bad;
-    };
-    let Decimal::Value(micros) = last_part(s, at, MOST_32) else {
-        return Plain::Bad;
-    };
-    Plain::Value(Value::When(Temporal::Lasts(Time {
-        negative,
-        hours: (hours % 65536) as u16,
-        minutes: (minutes % 256) as u8,
-        seconds: (seconds % 256) as u8,
-        micros: (micros % 4294967296) as u32,
-    })))
-}
-
-// `SIGN:H:M:S:MICROS`
-fn parse_time(s: &[u8]) -> Plain {
-    if same(part(s, 0, 2), b"+:") {
-        return parse_clock(false, part(s, 2, s.len()));
-    }
-    if same(part(s, 0, 2), b"-:") {
-        return parse_clock(true, part(s, 2, s.len()));
-    }
-    Plain::Bad
-}
-
-// The values that are one unsigned number.
-fn parse_single(name: &[u8], s: &[u8]) -> Plain {
-    let Decimal::Value(n) = parse_decimal(s) else {
-        return Plain::Bad;
-    };
-    if same(name, b"uint") {
-        return Plain::Value(Value::Uint(n));
-    }
-    if same(name, b"double") {
-        return Plain::Value(Value::Double(n));
-    }
-    if n > MOST_32 {
-        return Plain::Bad;
-    }
-    if same(name, b"float") {
-        return Plain::Value(Value::Float((n % 4294967296) as u32));
-    }
-    if n > MOST_16 {
-        return Plain::Bad;
-    }
-    if same(name, b"year") {
-        return Plain::Value(Value::Year((n % 65536) as u16));
-    }
-    Plain::Bad
-}
-
-// A word that has no bytes: `null`, or a name, a colon, and what the name asks for.
-fn parse_plain(word: &[u8]) -> Plain {
-    if same(word, b"null") {
-        return Plain::Value(Value::Null);
-    }
-    let colon = find(word, 0, b':');
-    if word.len() <= colon {
-        return Plain::Bad;
-    }
-    let name = part(word, 0, colon);
-    let rest = part(word, colon + 1, word.len());
-    if same(name, b"int") {
-        return parse_int(rest);
-    }
-    if same(name, b"seconds") {
-        return parse_stamp(rest);
-    }
-    if same(name, b"date") {
-        return parse_date(rest);
-    }
-    if same(name, b"datetime") {
-        return parse_moment(rest);
-    }
-    if same(name, b"time") {
-        return parse_time(rest);
-    }
-    parse_single(name, rest)
-}
-
-// A value, whose bytes are decoded into `arena` from `from` on.
-pub(crate) fn read_value_word(line: &[u8], at: usize, arena: &mut [u8], from: usize) -> ValueWord {
-    let Word::Found(to, next) = find_word(line, at) else {
-        return ValueWord::Bad;
-    };
-    let word = part(line, at, to);
-    if same(part(word, 0, 6), b"bytes:") {
-        let Decoded::To(end) = parse_bytes(part(word, 6, word.len()), arena, from) else {
-            return ValueWord::Bad;
-        };
-        if end < from {
-            return ValueWord::Bad;
+// The parts that stand in `s`, a colon before each, with a letter for each. Whether they fit the kind
+// is for `value_of` to say.
+fn parse_parts(kind: u64, letters: &[u8], s: &[u8]) -> Numbers {
+    let mut parts = [0u64; 7];
+    let mut at: usize = 0;
+    let mut i: usize = 0;
+    while i < letters.len() {
+        if 7 <= i {
+            return no_value();
         }
-        let value = Value::Bytes(Part {
-            start: from,
-            len: end - from,
-        });
-        return ValueWord::Found(value, end, next);
+        let from = plus(at, 1);
+        let to = find(s, from, b':');
+        let Decimal::Value(n) = parse_part(letters[i], part(s, from, to)) else {
+            return no_value();
+        };
+        parts[i] = n;
+        at = to;
+        i += 1;
     }
-    let Plain::Value(value) = parse_plain(word) else {
-        return ValueWord::Bad;
+    if at != s.len() {
+        return no_value();
+    }
+    Numbers { kind, parts }
+}
+
+// The word behind its name, which a row was found for.
+fn parse_behind(table: &[u8], row: Row, s: &[u8]) -> Numbers {
+    let kind = plus(row.number, 1) as u64;
+    let numbers = parse_parts(kind, said_in(table, row), s);
+    let parts = numbers.parts;
+    let Made::Value(_) = value_parts::value_of(numbers.kind, &parts) else {
+        return no_value();
     };
-    ValueWord::Found(value, from, next)
+    numbers
+}
+
+// A word by its name, which ends at its first colon.
+fn parse_by(table: &[u8], word: &[u8]) -> Numbers {
+    let colon = find(word, 0, b':');
+    let row = row_named(table, part(word, 0, colon));
+    parse_behind(table, row, part(word, colon, word.len()))
+}
+
+// A word that has no bytes.
+pub(crate) fn parse_value(word: &[u8]) -> Numbers {
+    parse_by(&VALUES, word)
+}
+
+fn put_int(out: &mut [u8], used: usize, n: u64) -> usize {
+    if n < FIRST_NEGATIVE {
+        return put_number(out, used, n);
+    }
+    let used = put_byte(out, used, b'-');
+    put_number(out, used, u64::MAX - n + 1)
+}
+
+fn put_sign(out: &mut [u8], used: usize, n: u64) -> usize {
+    if n == 1 {
+        return put_byte(out, used, b'-');
+    }
+    put_byte(out, used, b'+')
+}
+
+// One part of a word.
+fn put_part(out: &mut [u8], used: usize, letter: u8, n: u64) -> usize {
+    match letter {
+        b'i' => put_int(out, used, n),
+        b's' => put_sign(out, used, n),
+        _ => put_number(out, used, n),
+    }
+}
+
+// Parts, a colon before each.
+fn put_parts(out: &mut [u8], used: usize, letters: &[u8], parts: [u64; 7]) -> usize {
+    let mut now = used;
+    let mut i: usize = 0;
+    while i < letters.len() {
+        if 7 <= i {
+            return now;
+        }
+        now = put_byte(out, now, b':');
+        now = put_part(out, now, letters[i], parts[i]);
+        i += 1;
+    }
+    now
+}
+
+// The bytes of a value that stand in `s`, behind a colon.
+fn put_bytes(out: &mut [u8], used: usize, parts: [u64; 7], s: &[u8]) -> usize {
+    let used = put_byte(out, used, b':');
+    put_hex(out, used, cut(s, parts[0] as usize, parts[1] as usize))
+}
+
+// A value by the row of its kind.
+fn put_by(out: &mut [u8], used: usize, table: &[u8], value: Numbers, s: &[u8]) -> usize {
+    let row = row_before(table, value.kind);
+    let used = put_text(out, used, name_in(table, row));
+    let parts = value.parts;
+    if value.kind == BYTES {
+        return put_bytes(out, used, parts, s);
+    }
+    put_parts(out, used, said_in(table, row), parts)
+}
+
+// A value, its bytes those of the slice that it was read from.
+pub(crate) fn put_value(out: &mut [u8], used: usize, value: Numbers, s: &[u8]) -> usize {
+    put_by(out, used, &VALUES, value, s)
 }

@@ -6,10 +6,10 @@ use Rattle.cases.proofs.answer_all.Statement.{statement}
 use Rattle.cases.proofs.answer_all.Tie as tie
 
 abbrev Inv-loop : tie.InvT-loop
-Inv-loop block₀ line₀ arena₀ room₀ out₀ source₀ used₀ turns₀ block line arena room out source used turns = (length block ≡ length block₀) × (length line ≡ length line₀) × (length arena ≡ length arena₀) × (length room ≡ length room₀) × (length out ≡ length out₀)
+Inv-loop block₀ line₀ args₀ room₀ out₀ source₀ used₀ turns₀ block line args room out source used turns = (length block ≡ length block₀) × (length line ≡ length line₀) × (length args ≡ length args₀) × (length room ≡ length room₀) × (length out ≡ length out₀)
 
 abbrev μ-loop : tie.MeasureT-loop
-μ-loop block₀ line₀ arena₀ room₀ out₀ source₀ used₀ turns₀ block line arena room out source used turns = turns
+μ-loop block₀ line₀ args₀ room₀ out₀ source₀ used₀ turns₀ block line args room out source used turns = turns
 
 loop-holds : tie.Need-loop-holds Inv-loop μ-loop
 loop-holds c = search needs
@@ -20,8 +20,8 @@ sub-turns c = search needs
 answer-next-requires : tie.Need-answer-next-requires Inv-loop μ-loop
 answer-next-requires c κs = search needs
 
-enum-known-turn : tie.Need-enum-known-turn Inv-loop μ-loop
-enum-known-turn c = search needs
+enum-known-reply : tie.Need-enum-known-reply Inv-loop μ-loop
+enum-known-reply c = search needs
 
 enum-told : tie.Need-enum-told Inv-loop μ-loop
 enum-told c = search needs
@@ -77,7 +77,7 @@ answer-all-spec =
     loop-holds
     sub-turns
     answer-next-requires
-    enum-known-turn
+    enum-known-reply
     enum-told
     same-length
     same-length-2

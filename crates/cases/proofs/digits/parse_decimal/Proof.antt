@@ -1,9 +1,9 @@
--- `cases::words::parse_decimal` is safe and ends. The measure is the number of digits that are left; nothing has to hold from turn to turn. Assumes nothing.
+-- `cases::digits::parse_decimal` is safe and ends. The measure is the number of digits that are left; nothing has to hold from turn to turn. Assumes nothing.
 use Prim.Native.Nat.{_-_}
 use borrow.Author.Needs.{needs}
 use lib.ListN.{length}
-use Rattle.cases.proofs.words.parse_decimal.Statement.{statement}
-use Rattle.cases.proofs.words.parse_decimal.Tie as tie
+use Rattle.cases.proofs.digits.parse_decimal.Statement.{statement}
+use Rattle.cases.proofs.digits.parse_decimal.Tie as tie
 
 abbrev Inv-loop : tie.InvT-loop
 Inv-loop s value₀ i₀ value i = Unit {0}

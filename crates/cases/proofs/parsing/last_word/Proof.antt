@@ -1,0 +1,47 @@
+-- `cases::parsing::last_word` is safe and ends. The measure is the number of letters that are left; nothing has to hold from turn to turn. Assumes nothing.
+use Prim.Native.Nat.{_-_}
+use borrow.Author.Needs.{needs}
+use lib.ListN.{length}
+use Rattle.cases.proofs.parsing.last_word.Statement.{statement}
+use Rattle.cases.proofs.parsing.last_word.Tie as tie
+
+abbrev Inv-loop : tie.InvT-loop
+Inv-loop form letter word₀ i₀ word i = Unit {0}
+
+abbrev μ-loop : tie.MeasureT-loop
+μ-loop form letter word₀ i₀ word i = length form - i
+
+loop-holds : tie.Need-loop-holds Inv-loop μ-loop
+loop-holds c = search needs
+
+shared-slice-read-if1 : tie.Need-shared-slice-read-if1 Inv-loop μ-loop
+shared-slice-read-if1 c = search needs
+
+add-word : tie.Need-add-word Inv-loop μ-loop
+add-word c = search needs
+
+add-i : tie.Need-add-i Inv-loop μ-loop
+add-i c = search needs
+
+loop-less : tie.Need-loop-less Inv-loop μ-loop
+loop-less c = search needs
+
+loop-again : tie.Need-loop-again Inv-loop μ-loop
+loop-again c = search needs
+
+returns : tie.Need-returns Inv-loop μ-loop
+returns c = search needs
+
+pub last-word-spec : {M : Type 1} → statement M
+last-word-spec =
+    tie.close
+    (tie.spec
+    Inv-loop
+    μ-loop
+    loop-holds
+    shared-slice-read-if1
+    add-word
+    add-i
+    loop-less
+    loop-again
+    returns)

@@ -1,0 +1,56 @@
+-- `cases::printing::put_form` is safe and ends. The measure is the number of letters that are left; a turn keeps the length of the slice that it writes to. Assumes nothing.
+use Prim.Native.Nat.{_-_}
+use mathlib.Core.Path.{_≡_}
+use borrow.Author.Needs.{needs}
+use lib.ListN.{length}
+use Rattle.cases.proofs.printing.put_form.Statement.{statement}
+use Rattle.cases.proofs.printing.put_form.Tie as tie
+
+abbrev Inv-loop : tie.InvT-loop
+Inv-loop out₀ used form numbers line args room now₀ at₀ i₀ out now at i = length out ≡ length out₀
+
+abbrev μ-loop : tie.MeasureT-loop
+μ-loop out₀ used form numbers line args room now₀ at₀ i₀ out now at i = length form - i
+
+loop-holds : tie.Need-loop-holds Inv-loop μ-loop
+loop-holds c = search needs
+
+shared-slice-read-letter : tie.Need-shared-slice-read-letter Inv-loop μ-loop
+shared-slice-read-letter c = search needs
+
+put-letter-requires : tie.Need-put-letter-requires Inv-loop μ-loop
+put-letter-requires c κs = search needs
+
+next-place-requires : tie.Need-next-place-requires Inv-loop μ-loop
+next-place-requires c κs = search needs
+
+add-i : tie.Need-add-i Inv-loop μ-loop
+add-i c = search needs
+
+loop-less : tie.Need-loop-less Inv-loop μ-loop
+loop-less c = search needs
+
+loop-again : tie.Need-loop-again Inv-loop μ-loop
+loop-again c = search needs
+
+same-length : tie.Need-same-length Inv-loop μ-loop
+same-length c = search needs
+
+returns : tie.Need-returns Inv-loop μ-loop
+returns c = search needs
+
+pub put-form-spec : {M : Type 1} → statement M
+put-form-spec =
+    tie.close
+    (tie.spec
+    Inv-loop
+    μ-loop
+    loop-holds
+    shared-slice-read-letter
+    put-letter-requires
+    next-place-requires
+    add-i
+    loop-less
+    loop-again
+    same-length
+    returns)
