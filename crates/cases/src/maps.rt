@@ -10,7 +10,7 @@ use crate::words::post_header;
 use crate::words::text;
 use table_map::Event;
 use table_map::EventRead;
-use table_map::Part;
+use wire::Part;
 
 fn start(part: Part) -> u64 {
     part.start as u64
