@@ -38,13 +38,9 @@ use Rattle.map_check.specs.Check.{fewEnough, checkEvent, checkMap, check}
 use Rattle.map_check.specs.Names.{met, stringAt}
 use Rattle.map_check.proofs.Twice.{keys-told}
 use Rattle.promises.specs.Refusals.{Line, OneOf}
-use Rattle.promises.proofs.Only.{Listed, done, stop, hand, chain, test, packed, room}
+use Rattle.promises.proofs.Only.{Listed, done, stop, hand, chain, test, bytes-there, packed, room}
 
 -- ---- parts
-pub bytes-there : {ls : List Line} (s : List ℕ) (o n place : ℕ) → OneOf ls (why 1 place) → Listed ls (within s o n place)
-unfolding within
-bytes-there s o n place one = test (leb (o + n) (length s)) (λ u. done _) (λ u. stop one)
-
 short-part : {ls : List Line} (s : List ℕ) (o : ℕ) → OneOf ls (why 1 o) → Listed ls (shortPart s o)
 unfolding shortPart
 short-part s o one =
