@@ -19,30 +19,33 @@ pub(crate) enum Decimal {
     Bad,
 }
 
+// The value of a digit, lower-case where it is a letter.
+fn hex_value(b: u8) -> u8 {
+    match b {
+        b'0'..=b'9' => b - b'0',
+        b'a'..=b'f' => b - b'a' + 10,
+        _ => NO_DIGIT,
+    }
+}
+
 // The number with one more decimal digit.
 fn with_digit(value: u64, b: u8) -> Decimal {
-    if b < b'0' {
+    let digit = hex_value(b) as u64;
+    if 9 < digit {
         return Decimal::Bad;
     }
-    if b > b'9' {
-        return Decimal::Bad;
-    }
-    let digit = (b - b'0') as u64;
-    if value > u64::MAX / 10 {
-        return Decimal::Bad;
-    }
-    if value * 10 > u64::MAX - digit {
+    if (u64::MAX - digit) / 10 < value {
         return Decimal::Bad;
     }
     Decimal::Value(value * 10 + digit)
 }
 
-// The number that 1 to 20 decimal digits write. Leading zeros are taken.
-pub(crate) fn parse_decimal(s: &[u8]) -> Decimal {
+// The number that 1 to `most` decimal digits write. Leading zeros are taken.
+fn parse_digits(s: &[u8], most: usize) -> Decimal {
     if s.len() == 0 {
         return Decimal::Bad;
     }
-    if s.len() > 20 {
+    if s.len() > most {
         return Decimal::Bad;
     }
     let mut value: u64 = 0;
@@ -57,9 +60,9 @@ pub(crate) fn parse_decimal(s: &[u8]) -> Decimal {
     Decimal::Value(value)
 }
 
-// The number, held to a limit.
-pub(crate) fn parse_limited(s: &[u8], most: u64) -> Decimal {
-    let Decimal::Value(n) = parse_decimal(s) else {
+// Such a number, held to a limit.
+fn parse_held(s: &[u8], digits: usize, most: u64) -> Decimal {
+    let Decimal::Value(n) = parse_digits(s, digits) else {
         return Decimal::Bad;
     };
     if n > most {
@@ -68,12 +71,14 @@ pub(crate) fn parse_limited(s: &[u8], most: u64) -> Decimal {
     Decimal::Value(n)
 }
 
+// A number of 20 digits at most, held to a limit.
+pub(crate) fn parse_limited(s: &[u8], most: u64) -> Decimal {
+    parse_held(s, 20, most)
+}
+
 // The digits behind a minus, as two's complement in 64 bits.
 fn parse_negative(s: &[u8]) -> Decimal {
-    if s.len() > INT_DIGITS {
-        return Decimal::Bad;
-    }
-    let Decimal::Value(n) = parse_limited(s, LEAST_INT) else {
+    let Decimal::Value(n) = parse_held(s, INT_DIGITS, LEAST_INT) else {
         return Decimal::Bad;
     };
     if n == 0 {
@@ -87,10 +92,7 @@ pub(crate) fn parse_int(s: &[u8]) -> Decimal {
     if same(part(s, 0, 1), b"-") {
         return parse_negative(part(s, 1, s.len()));
     }
-    if s.len() > INT_DIGITS {
-        return Decimal::Bad;
-    }
-    parse_limited(s, MOST_INT)
+    parse_held(s, INT_DIGITS, MOST_INT)
 }
 
 // A sign: 1 where it is a minus.
@@ -104,57 +106,34 @@ pub(crate) fn parse_sign(s: &[u8]) -> Decimal {
     Decimal::Bad
 }
 
-// The value of a lower-case hex digit.
-fn hex_value(b: u8) -> u8 {
-    if b < b'0' {
-        return NO_DIGIT;
-    }
-    if b <= b'9' {
-        return b - b'0';
-    }
-    if b < b'a' {
-        return NO_DIGIT;
-    }
-    if b <= b'f' {
-        return b - b'a' + 10;
-    }
-    NO_DIGIT
-}
-
-// The byte of two hex digits, or a number that no byte is.
-fn hex_byte(high: u8, low: u8) -> u16 {
-    let h = hex_value(high);
-    let l = hex_value(low);
-    if h >= NO_DIGIT {
-        return 256;
-    }
-    if l >= NO_DIGIT {
-        return 256;
-    }
-    h as u16 * 16 + l as u16
-}
-
-// Decodes the pairs of hex digits from `from` to `to` into the bytes from `from` on; whether all were
-// digits.
-pub(crate) fn decode_hex(line: &mut [u8], from: usize, to: usize) -> bool {
-    if to < from {
-        return false;
-    }
-    if line.len() < to {
-        return false;
-    }
-    if (to - from) % 2 != 0 {
-        return false;
-    }
-    let count = (to - from) / 2;
+// Whether all are hex digits, two to a byte.
+pub(crate) fn is_hex(s: &[u8]) -> bool {
     let mut i: usize = 0;
-    while i < count {
-        let b = hex_byte(line[from + 2 * i], line[from + 2 * i + 1]);
-        if b > 255 {
+    while i < s.len() {
+        if hex_value(s[i]) >= NO_DIGIT {
             return false;
         }
-        line[from + i] = b as u8;
         i += 1;
     }
-    true
+    s.len() % 2 == 0
+}
+
+// The byte of two hex digits. The remainders change nothing of digits, and show that it fits.
+fn hex_byte(high: u8, low: u8) -> u8 {
+    hex_value(high) % 16 * 16 + hex_value(low) % 16
+}
+
+// Decodes so many pairs of hex digits from `start` on into the bytes from `start` on.
+pub(crate) fn decode_hex(line: &mut [u8], start: usize, pairs: usize) {
+    if line.len() < start {
+        return;
+    }
+    if (line.len() - start) / 2 < pairs {
+        return;
+    }
+    let mut i: usize = 0;
+    while i < pairs {
+        line[start + i] = hex_byte(line[start + 2 * i], line[start + 2 * i + 1]);
+        i += 1;
+    }
 }

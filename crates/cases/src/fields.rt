@@ -2,8 +2,8 @@
 use crate::turn::END;
 use crate::turn::OWN;
 use crate::turn::Turn;
+use crate::turn::alone;
 use crate::turn::few;
-use crate::turn::last;
 use crate::turn::onward;
 use crate::turn::plain;
 use crate::turn::refused;
@@ -27,13 +27,14 @@ fn state_of(fields: Fields) -> [u64; 4] {
 
 // `TYPE`, `START`, `LENGTH` and `NEXT` of a field
 fn found(kind: u8, value: Part, next: Fields) -> Turn {
-    let numbers = few(
+    let turn = few(
+        OWN,
         kind as u64,
         value.start as u64,
         value.len as u64,
         next.at as u64,
     );
-    onward(OWN, numbers, state_of(next))
+    onward(turn, state_of(next))
 }
 
 fn step(fields: Fields, optional: &[u8]) -> Turn {
@@ -81,6 +82,5 @@ pub(crate) fn fields_as(line: &[u8], args: &[u64], state: [u64; 4]) -> Turn {
 pub(crate) fn field(line: &[u8], args: &[u64]) -> Turn {
     let fields = Fields::new(dialect(args, 1), text(line, args, 2), index(args, 4));
     let turn = step(fields, text(line, args, 3));
-    let numbers = turn.numbers;
-    last(turn.form, numbers)
+    alone(turn)
 }

@@ -2,12 +2,13 @@
 use crate::turn::OWN;
 use crate::turn::Turn;
 use crate::turn::USED;
+use crate::turn::alone;
 use crate::turn::few;
-use crate::turn::last;
 use crate::turn::onward;
 use crate::turn::refused;
 use crate::turn::silent;
 use crate::turn::two;
+use crate::turn::valued;
 use crate::words::index;
 use crate::words::text;
 use image::Cursor;
@@ -23,30 +24,12 @@ pub(crate) fn first(line: &[u8], args: &[u64]) -> Turn {
     }
 }
 
-// A column's value, NULL too: the column, the value's numbers, and the next cursor, which the next turn
-// of a walk starts with.
+// A column's value, NULL too: the column and the next cursor, which the next turn of a walk starts with.
 fn found(column: usize, value: Value, next: Cursor) -> Turn {
-    let p = value_parts::parts_of(value);
-    let kind = value_parts::kind_of(value);
     let at = next.column as u64;
     let offset = next.offset as u64;
-    let numbers = [
-        column as u64,
-        kind,
-        p[0],
-        p[1],
-        p[2],
-        p[3],
-        p[4],
-        p[5],
-        p[6],
-        at,
-        offset,
-        0,
-        0,
-        0,
-    ];
-    onward(OWN, numbers, [1, at, offset, 0])
+    let turn = valued(few(OWN, column as u64, at, offset, 0), value);
+    onward(turn, [1, at, offset, 0])
 }
 
 fn step_in(profile: &[u8], presence: &[u8], image: &[u8], at: Cursor) -> Turn {
@@ -57,7 +40,7 @@ fn step_in(profile: &[u8], presence: &[u8], image: &[u8], at: Cursor) -> Turn {
             value,
             next,
         } => found(column, value, next),
-        Step::End { used } => last(USED, few(used as u64, 0, 0, 0)),
+        Step::End { used } => few(USED, used as u64, 0, 0, 0),
         Step::Refused(refusal) => refused(refusal),
     }
 }
@@ -73,8 +56,7 @@ fn step_from(line: &[u8], args: &[u64], column: usize, offset: usize) -> Turn {
 // `step RECORD PRESENCE IMAGE COLUMN OFFSET`
 pub(crate) fn step(line: &[u8], args: &[u64]) -> Turn {
     let turn = step_from(line, args, index(args, 4), index(args, 5));
-    let numbers = turn.numbers;
-    last(turn.form, numbers)
+    alone(turn)
 }
 
 // The first turn of a walk prints nothing.

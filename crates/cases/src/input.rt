@@ -9,10 +9,10 @@ pub(crate) struct Source {
 }
 
 // What came: a line of so many bytes, which stands at the start of the line buffer without its
-// newline; a line that the buffer cannot hold; or the end of the input.
+// newline, or the end of the input. A line that the buffer cannot hold comes as an empty one, which is
+// as bad.
 pub(crate) enum Next {
     Line(usize, Source),
-    TooLong(Source),
     End,
 }
 
@@ -47,10 +47,10 @@ fn next_byte(block: &mut [u8], source: Source) -> Byte {
     byte_at(part(block, 0, filled), 0)
 }
 
-// What a line with `length` bytes in the buffer is.
+// A line with `length` bytes in the buffer.
 fn ended(length: usize, is_too_long: bool, source: Source) -> Next {
     if is_too_long {
-        return Next::TooLong(source);
+        return Next::Line(0, source);
     }
     Next::Line(length, source)
 }

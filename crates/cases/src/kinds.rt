@@ -31,8 +31,8 @@ use crate::turn::BAD;
 use crate::turn::Turn;
 use crate::turn::plain;
 
-pub(crate) const KINDS: [u8; 488] = *b"packed|hn|ok N N\n\
-    value|bbbuh|ok V N\n\
+pub(crate) const KINDS: [u8; 487] = *b"packed|hn|ok N N\n\
+    value|bbbuh|ok * N\n\
     size|bbbuv|ok N\n\
     size-at|bbbuvn|ok N\n\
     event|nh|ok N N H H H H H H\n\
@@ -41,14 +41,14 @@ pub(crate) const KINDS: [u8; 488] = *b"packed|hn|ok N N\n\
     fields|hh|N@N+N \n\
     fields-as|dhh|N@N+N \n\
     field|dhhn|ok N N N N\n\
-    list|kh|I \n\
-    item|khn|ok I N\n\
+    list|kh|* \n\
+    item|khn|ok * N\n\
     record|h|ok N\n\
     name|hhn|ok L\n\
     names|dnh|ok N N\n\
     first|hh|ok N N\n\
-    step|hhhnn|ok N V N N\n\
-    image|hhh|_V \n\
+    step|hhhnn|ok N * N N\n\
+    image|hhh|* \n\
     pack|nr|ok W\n\
     store|bbbuvr|ok W\n\
     write-event|nwhhhhhhr|ok W\n\

@@ -1,10 +1,10 @@
 // The kinds `value`, `store`, `size` and `size-at`: one value of a column.
 use crate::room::written;
-use crate::turn::OWN;
 use crate::turn::Turn;
-use crate::turn::last;
 use crate::turn::one;
 use crate::turn::refused;
+use crate::turn::two;
+use crate::turn::valued;
 use crate::words::column;
 use crate::words::index;
 use crate::words::text;
@@ -13,29 +13,9 @@ use value::Read;
 use value::Value;
 use wire::Size;
 
-// A value's numbers, and one behind them.
+// What was read, and how many bytes it took.
 fn read(value: Value, next: usize) -> Turn {
-    let p = value_parts::parts_of(value);
-    let kind = value_parts::kind_of(value);
-    last(
-        OWN,
-        [
-            kind,
-            p[0],
-            p[1],
-            p[2],
-            p[3],
-            p[4],
-            p[5],
-            p[6],
-            next as u64,
-            0,
-            0,
-            0,
-            0,
-            0,
-        ],
-    )
+    valued(two(0, next as u64), value)
 }
 
 // `value TYPE M0 M1 UNSIGNED HEX`

@@ -10,32 +10,23 @@ use crate::words::post_header;
 use crate::words::text;
 use table_map::Event;
 use table_map::EventRead;
-use wire::Part;
-
-fn start(part: Part) -> u64 {
-    part.start as u64
-}
-
-fn len(part: Part) -> u64 {
-    part.len as u64
-}
 
 fn parts(e: Event) -> [u64; 14] {
     [
         e.id,
         e.flags as u64,
-        start(e.database),
-        len(e.database),
-        start(e.table),
-        len(e.table),
-        start(e.types),
-        len(e.types),
-        start(e.metadata),
-        len(e.metadata),
-        start(e.bits),
-        len(e.bits),
-        start(e.optional),
-        len(e.optional),
+        e.database.start as u64,
+        e.database.len as u64,
+        e.table.start as u64,
+        e.table.len as u64,
+        e.types.start as u64,
+        e.types.len as u64,
+        e.metadata.start as u64,
+        e.metadata.len as u64,
+        e.bits.start as u64,
+        e.bits.len as u64,
+        e.optional.start as u64,
+        e.optional.len as u64,
     ]
 }
 

@@ -1,57 +1,61 @@
-// Answers, printed by their forms. In a form N stands for a number, H for bytes of the line's last byte
-// string and W for bytes of the room (two numbers each), V for a value (eight), I for an item of a list
-// (two), E for a part of the event (one: which), L for the name that the line asks for, and _ for a
-// number that is not shown; every other byte is itself.
+// Answers, printed by their forms. In a form N stands for a number, I for a signed one, S for a sign, H
+// for bytes of the line's last byte string and W for bytes of the room (two numbers each), E for a part
+// of the event (one: which), L for the name that the line asks for; a star holds the place of a value
+// or an item, of the form's own numbers one before it; and every other byte is itself.
 use crate::checks::name_asked;
-use crate::lists::put_item;
 use crate::maps::event_part;
 use crate::output::put_byte;
 use crate::output::put_hex;
 use crate::output::put_number;
 use crate::slices::cut;
+use crate::slices::find;
 use crate::slices::part;
 use crate::slices::plus;
-use crate::tables::row_numbered;
-use crate::tables::said_in;
+use crate::tables::row_text;
 use crate::turn::OWN;
 use crate::turn::Turn;
-use crate::values::Numbers;
-use crate::values::put_value;
+use crate::values::FORMS;
 use crate::words::nth;
-use crate::words::number;
 use crate::words::post_header;
 use crate::words::shown;
 use crate::words::text;
-ghost use Prim.Native.Nat.{_≤_};
 
-// The forms that all kinds share. The names are those of the constants in `turn`.
-const ANSWERS: [u8; 96] = *b"own|\n\
-    bad|bad\n\
-    spoiled|spoiled\n\
-    refused|refused N N\n\
-    end|end\n\
-    used|end N\n\
-    nothing|\n\
-    default|default:N \n";
+// The forms that all kinds share, by the numbers in `turn`.
+const ANSWERS: [u8; 47] = *b"\n\
+    bad\n\
+    spoiled\n\
+    refused N N\n\
+    end\n\
+    end N\n\
+    \n\
+    default:N \n";
+
+// The half of all numbers that two's complement takes for negative ones starts here.
+const FIRST_NEGATIVE: u64 = 9223372036854775808;
 
 // How many numbers a letter takes.
-fn taken(letter: u8) -> usize
-    ensures { λ r. ⌜ r ≤ 8 ⌝ }
-{
+fn taken(letter: u8) -> usize {
     match letter {
-        b'N' | b'E' | b'_' => 1,
-        b'H' | b'W' | b'I' => 2,
-        b'V' => 8,
+        b'N' | b'I' | b'S' | b'E' => 1,
+        b'H' | b'W' => 2,
         _ => 0,
     }
 }
 
-// The place behind the numbers that a letter takes. There are 14.
-fn next_place(at: usize, letter: u8) -> usize {
-    if 14 <= at {
-        return 14;
+fn put_int(out: &mut [u8], used: usize, n: u64) -> usize {
+    if n < FIRST_NEGATIVE {
+        return put_number(out, used, n);
     }
-    at + taken(letter)
+    let used = put_byte(out, used, b'-');
+    put_number(out, used, u64::MAX - n + 1)
+}
+
+// The sign of a number that is 1 where it is negative.
+fn sign(n: u64) -> u8 {
+    if n == 1 {
+        return b'-';
+    }
+    b'+'
 }
 
 // The bytes of the line that a letter shows.
@@ -63,24 +67,8 @@ fn bytes_of<'a>(letter: u8, first: u64, second: u64, line: &'a [u8], args: &[u64
     }
 }
 
-// The value whose numbers stand at a place.
-fn value_at(numbers: [u64; 14], at: usize) -> Numbers {
-    Numbers {
-        kind: nth(&numbers, at),
-        parts: [
-            nth(&numbers, plus(at, 1)),
-            nth(&numbers, plus(at, 2)),
-            nth(&numbers, plus(at, 3)),
-            nth(&numbers, plus(at, 4)),
-            nth(&numbers, plus(at, 5)),
-            nth(&numbers, plus(at, 6)),
-            nth(&numbers, plus(at, 7)),
-        ],
-    }
-}
-
-// A letter that has two numbers, or bytes.
-fn put_pair(
+// One letter of a form, with the numbers that it may take.
+fn put_letter(
     out: &mut [u8],
     used: usize,
     letter: u8,
@@ -91,71 +79,87 @@ fn put_pair(
     room: &[u8],
 ) -> usize {
     match letter {
-        b'I' => put_item(out, used, number(args, 1), first, second, shown(line, args)),
-        b'W' => put_hex(out, used, part(room, first as usize, second as usize)),
-        _ => put_hex(out, used, bytes_of(letter, first, second, line, args)),
-    }
-}
-
-// One letter of a form, whose numbers start at a place.
-fn put_letter(
-    out: &mut [u8],
-    used: usize,
-    letter: u8,
-    numbers: [u64; 14],
-    at: usize,
-    line: &[u8],
-    args: &[u64],
-    room: &[u8],
-) -> usize {
-    let first = nth(&numbers, at);
-    match letter {
         b'N' => put_number(out, used, first),
-        b'V' => put_value(out, used, value_at(numbers, at), shown(line, args)),
-        b'H' | b'W' | b'I' | b'E' | b'L' => {
-            let second = nth(&numbers, plus(at, 1));
-            put_pair(out, used, letter, first, second, line, args, room)
-        }
-        b'_' => used,
+        b'I' => put_int(out, used, first),
+        b'S' => put_byte(out, used, sign(first)),
+        b'W' => put_hex(out, used, part(room, first as usize, second as usize)),
+        b'H' | b'E' | b'L' => put_hex(out, used, bytes_of(letter, first, second, line, args)),
         _ => put_byte(out, used, letter),
     }
 }
 
-// An answer by its form.
+// A form without a star, and its numbers, the first of which stands at `from`.
 fn put_form(
     out: &mut [u8],
     used: usize,
     form: &[u8],
-    numbers: [u64; 14],
+    numbers: &[u64],
+    from: usize,
     line: &[u8],
     args: &[u64],
     room: &[u8],
 ) -> usize {
     let mut now = used;
-    let mut at: usize = 0;
+    let mut at = from;
     let mut i: usize = 0;
     while i < form.len() {
         let letter = form[i];
-        now = put_letter(out, now, letter, numbers, at, line, args, room);
-        at = next_place(at, letter);
+        let first = nth(numbers, at);
+        let second = nth(numbers, plus(at, 1));
+        now = put_letter(out, now, letter, first, second, line, args, room);
+        at = plus(at, taken(letter));
         i += 1;
     }
     now
 }
 
-// An answer by one of the forms that all kinds share.
-fn put_shared(
+// A form without a star, and the turn's own numbers from `from` on.
+fn put_own(
     out: &mut [u8],
     used: usize,
-    answers: &[u8],
+    form: &[u8],
+    turn: Turn,
+    from: usize,
+    line: &[u8],
+    args: &[u64],
+    room: &[u8],
+) -> usize {
+    let numbers = turn.numbers;
+    put_form(out, used, form, &numbers, from, line, args, room)
+}
+
+// The value or the item of a turn.
+fn put_inner(
+    out: &mut [u8],
+    used: usize,
     turn: Turn,
     line: &[u8],
     args: &[u64],
     room: &[u8],
 ) -> usize {
-    let form = said_in(answers, row_numbered(answers, turn.form));
-    let numbers = turn.numbers;
-    put_form(out, used, form, numbers, line, args, room)
+    let parts = turn.parts;
+    let inner = row_text(&FORMS, turn.inner);
+    put_form(out, used, inner, &parts, 0, line, args, room)
+}
+
+// A form that may have a star.
+fn put_around(
+    out: &mut [u8],
+    used: usize,
+    form: &[u8],
+    turn: Turn,
+    line: &[u8],
+    args: &[u64],
+    room: &[u8],
+) -> usize {
+    let star = find(form, 0, b'*');
+    let used = put_own(out, used, part(form, 0, star), turn, 0, line, args, room);
+    if star == form.len() {
+        return used;
+    }
+    let used = put_inner(out, used, turn, line, args, room);
+    let behind = part(form, plus(star, 1), form.len());
+    put_own(out, used, behind, turn, 1, line, args, room)
 }
 
 // What one turn says; `form` is the kind's own.
@@ -168,9 +172,9 @@ pub(crate) fn put_turn(
     args: &[u64],
     room: &[u8],
 ) -> usize {
-    let numbers = turn.numbers;
     if turn.form == OWN {
-        return put_form(out, used, form, numbers, line, args, room);
+        return put_around(out, used, form, turn, line, args, room);
     }
-    put_shared(out, used, &ANSWERS, turn, line, args, room)
+    let shared = row_text(&ANSWERS, turn.form);
+    put_own(out, used, shared, turn, 0, line, args, room)
 }

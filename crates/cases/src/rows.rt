@@ -1,16 +1,16 @@
 // The kinds `start`, `put` and `row`: a row image that is written.
-use crate::room::is_untouched_around;
-use crate::room::wrote;
-use crate::room::wrote_nothing;
-use crate::room::wrote_to;
+use crate::room::unspoiled;
 use crate::slices::part;
 use crate::slices::plus;
 use crate::turn::BAD;
+use crate::turn::OWN;
 use crate::turn::SPOILED;
 use crate::turn::Turn;
+use crate::turn::few;
 use crate::turn::plain;
 use crate::turn::refused;
 use crate::turn::silent;
+use crate::turn::two;
 use crate::words::count;
 use crate::words::index;
 use crate::words::text;
@@ -19,12 +19,13 @@ use image::Cursor;
 use image::First;
 use image::Put;
 use record::RecordRead;
-use value::Value;
-use wire::Refusal;
 ghost use Prim.Native.Nat.{_≤_};
 
 // The words of a row before its first value: record, presence bits, null bits and room.
 const BEFORE_VALUES: usize = 4;
+
+// The state in which the writer is started: no word of a value has this place.
+const STARTS: u64 = 1;
 
 // The writer's start, with the byte strings of a line.
 fn call_start(line: &[u8], args: &[u64], room: &mut [u8]) -> Put {
@@ -36,13 +37,13 @@ fn call_start(line: &[u8], args: &[u64], room: &mut [u8]) -> Put {
     )
 }
 
-// The same for one step of the writer. The bytes of the value stand in the line too.
-fn call_put(line: &[u8], args: &[u64], room: &mut [u8], cursor: Cursor, value: Value) -> Put {
+// The same for one step of the writer, with the value of a word. The line lends it its bytes too.
+fn call_put(line: &[u8], args: &[u64], room: &mut [u8], cursor: Cursor, word: usize) -> Put {
     cursor.put(
         text(line, args, 1),
         text(line, args, 2),
         text(line, args, 3),
-        value,
+        value(args, word),
         line,
         room,
     )
@@ -51,8 +52,12 @@ fn call_put(line: &[u8], args: &[u64], room: &mut [u8], cursor: Cursor, value: V
 // What was stored from `from` on, and the next cursor.
 fn stored(room: &[u8], from: usize, answer: Put) -> Turn {
     match answer {
-        Put::Next(next) => wrote_to(room, from, next),
-        Put::Refused(refusal) => wrote_nothing(room, refusal),
+        Put::Next(next) => {
+            let to = next.offset;
+            let told = few(OWN, from as u64, to as u64, next.column as u64, to as u64);
+            unspoiled(room, from, to, told)
+        }
+        Put::Refused(refusal) => unspoiled(room, 0, 0, refused(refusal)),
     }
 }
 
@@ -68,7 +73,7 @@ pub(crate) fn put(line: &[u8], args: &[u64], room: &mut [u8]) -> Turn {
         column: index(args, 5),
         offset: index(args, 6),
     };
-    let answer = call_put(line, args, room, cursor, value(args, 4));
+    let answer = call_put(line, args, room, cursor, 4);
     stored(room, cursor.offset, answer)
 }
 
@@ -101,48 +106,17 @@ fn at_value(word: usize, cursor: Cursor) -> Turn {
     silent([word as u64, cursor.column as u64, cursor.offset as u64, 0])
 }
 
-// What became of the start of a row.
-fn begun(room: &[u8], answer: Put) -> Turn {
-    match answer {
-        Put::Next(first) => {
-            if is_untouched_around(room, 0, first.offset) {
-                return at_value(1 + BEFORE_VALUES, first);
-            }
-            plain(SPOILED)
-        }
-        Put::Refused(refusal) => wrote_nothing(room, refusal),
-    }
-}
-
-// Whether there is a value for each present column. A record that is not valid and presence bits of
-// wrong length are refused first: there is nothing to count by then.
-enum Fitting {
-    Yes,
-    No,
-    Refused(Refusal),
-}
-
-fn fits(profile: &[u8], presence: &[u8], words: usize) -> Fitting {
+// The first turn of a row: whether there is a value for each present column. A record that is not valid
+// and presence bits of wrong length are refused before that: there is nothing to count by then.
+fn judge(profile: &[u8], presence: &[u8], words: usize) -> Turn {
     match image::first_cursor(profile, presence) {
         First::At(_) => {
             if words == plus(BEFORE_VALUES, count_present(profile, presence)) {
-                return Fitting::Yes;
+                return silent([STARTS, 0, 0, 0]);
             }
-            Fitting::No
+            plain(BAD)
         }
-        First::Refused(refusal) => Fitting::Refused(refusal),
-    }
-}
-
-// The first turn of a row.
-fn begin(line: &[u8], args: &[u64], room: &mut [u8]) -> Turn {
-    match fits(text(line, args, 1), text(line, args, 2), count(args)) {
-        Fitting::Yes => {
-            let answer = call_start(line, args, room);
-            begun(room, answer)
-        }
-        Fitting::No => plain(BAD),
-        Fitting::Refused(refusal) => refused(refusal),
+        First::Refused(refusal) => refused(refusal),
     }
 }
 
@@ -163,48 +137,46 @@ fn digest(s: &[u8]) -> u64 {
     sum
 }
 
-// What became of the value of a word. Nothing behind the new cursor may have changed, or behind the old
-// one where there is no new one.
-fn went_on(room: &[u8], word: usize, at: Cursor, answer: Put) -> Turn {
+// What became of the start, or of the value before a word. Nothing behind the new cursor may have
+// changed, or behind the old one where there is no new one.
+fn went_on(room: &[u8], word: usize, at: usize, answer: Put) -> Turn {
     match answer {
-        Put::Next(next) => {
-            if is_untouched_around(room, 0, next.offset) {
-                return at_value(word, next);
-            }
-            plain(SPOILED)
-        }
-        Put::Refused(refusal) => {
-            if is_untouched_around(room, 0, at.offset) {
-                return refused(refusal);
-            }
-            plain(SPOILED)
-        }
+        Put::Next(next) => unspoiled(room, 0, next.offset, at_value(word, next)),
+        Put::Refused(refusal) => unspoiled(room, 0, at, refused(refusal)),
     }
 }
 
 // Stores the value of a word. What was stored before must still be there.
 fn put_next(line: &[u8], args: &[u64], room: &mut [u8], word: usize, at: Cursor) -> Turn {
     let stored = digest(part(room, 0, at.offset));
-    let answer = call_put(line, args, room, at, value(args, word));
+    let answer = call_put(line, args, room, at, word);
     if digest(part(room, 0, at.offset)) != stored {
         return plain(SPOILED);
     }
-    went_on(room, plus(word, 1), at, answer)
+    went_on(room, plus(word, 1), at.offset, answer)
 }
 
-// `row RECORD PRESENCE NULLS ROOM VALUE...`: the start, a turn for each value, and one that tells the
-// bytes
-pub(crate) fn row(line: &[u8], args: &[u64], room: &mut [u8], state: [u64; 4]) -> Turn {
+// The turns behind the second: one for each value, and one that tells the bytes.
+fn put_word(line: &[u8], args: &[u64], room: &mut [u8], state: [u64; 4]) -> Turn {
     let word = state[0] as usize;
-    if word == 0 {
-        return begin(line, args, room);
-    }
     let at = Cursor {
         column: state[1] as usize,
         offset: state[2] as usize,
     };
     if count(args) < word {
-        return wrote(room, 0, at.offset);
+        return unspoiled(room, 0, at.offset, two(0, at.offset as u64));
     }
     put_next(line, args, room, word, at)
+}
+
+// `row RECORD PRESENCE NULLS ROOM VALUE...`: the word whose value comes next, and its cursor
+pub(crate) fn row(line: &[u8], args: &[u64], room: &mut [u8], state: [u64; 4]) -> Turn {
+    match state[0] {
+        0 => judge(text(line, args, 1), text(line, args, 2), count(args)),
+        STARTS => {
+            let answer = call_start(line, args, room);
+            went_on(room, 1 + BEFORE_VALUES, 0, answer)
+        }
+        _ => put_word(line, args, room, state),
+    }
 }

@@ -3,20 +3,15 @@
 ghost use Prim.Native.Nat.{_≤_};
 ghost use lib.ListN.{length};
 
-// The bytes from `from` to `to`, or none where there is no such part.
-pub(crate) fn part(s: &[u8], from: usize, to: usize) -> &[u8] {
-    if to < from {
-        return &s[0..0];
+// The lesser of two.
+pub(crate) fn least(a: usize, b: usize) -> usize
+    ensures { λ r. ⌜ r ≤ a ⌝ }
+    ensures { λ r. ⌜ r ≤ b ⌝ }
+{
+    if a < b {
+        return a;
     }
-    if s.len() < to {
-        return &s[0..0];
-    }
-    &s[from..to]
-}
-
-// The `len` bytes from `start` on, or none where they are not all there.
-pub(crate) fn cut(s: &[u8], start: usize, len: usize) -> &[u8] {
-    part(part(s, start, s.len()), 0, len)
+    b
 }
 
 // The place `len` behind `at`, or the last that there is.
@@ -25,6 +20,26 @@ pub(crate) fn plus(at: usize, len: usize) -> usize {
         return usize::MAX;
     }
     at + len
+}
+
+// The bytes from `from` to `to`, as far as they are there.
+pub(crate) fn part(s: &[u8], from: usize, to: usize) -> &[u8] {
+    let end = least(to, s.len());
+    let start = least(from, end);
+    &s[start..end]
+}
+
+// The `len` bytes from `start` on, as far as they are there.
+pub(crate) fn cut(s: &[u8], start: usize, len: usize) -> &[u8] {
+    part(s, start, plus(start, len))
+}
+
+// The byte at a place, 0 where there is none.
+pub(crate) fn byte_at(s: &[u8], at: usize) -> u8 {
+    if s.len() <= at {
+        return 0;
+    }
+    s[at]
 }
 
 // The place of the first `sought` from `from` on, or the length where there is none.

@@ -1,6 +1,7 @@
 // What a kind answers, in numbers alone: so its function is lent no buffer for the output. A form says
 // how they are printed. A walk answers in turns, a word or more each, and each turn hands on where the
 // next one starts.
+use value::Value;
 use wire::Refusal;
 
 // The form that the table of kinds has for the kind, and the forms that all kinds share, by their rows
@@ -21,11 +22,14 @@ pub(crate) const NOTHING: usize = 6;
 
 pub(crate) const DEFAULT: usize = 7;
 
-// No answer has more numbers than that of an event: an id, flags, and a start and a length for each of
-// six parts.
+// The numbers of the form, of which none has more than that of an event: an id, flags, and a start and a
+// length for each of six parts. Where the form holds a value or an item, `inner` is the row of its form
+// in the table of `values`, and `parts` are its numbers.
 pub(crate) struct Turn {
     pub(crate) form: usize,
     pub(crate) numbers: [u64; 14],
+    pub(crate) inner: usize,
+    pub(crate) parts: [u64; 7],
     pub(crate) next: [u64; 4],
     pub(crate) is_last: bool,
 }
@@ -35,50 +39,63 @@ pub(crate) fn last(form: usize, numbers: [u64; 14]) -> Turn {
     Turn {
         form,
         numbers,
+        inner: 0,
+        parts: [0, 0, 0, 0, 0, 0, 0],
         next: [0, 0, 0, 0],
         is_last: true,
     }
 }
 
-// A turn with another behind it.
-pub(crate) fn onward(form: usize, numbers: [u64; 14], next: [u64; 4]) -> Turn {
-    Turn {
-        form,
-        numbers,
-        next,
-        is_last: false,
-    }
+// The same turn with another behind it.
+pub(crate) fn onward(mut turn: Turn, next: [u64; 4]) -> Turn {
+    turn.next = next;
+    turn.is_last = false;
+    turn
 }
 
-// A turn that prints nothing.
-pub(crate) fn silent(next: [u64; 4]) -> Turn {
-    onward(NOTHING, few(0, 0, 0, 0), next)
+// The same turn as the only one.
+pub(crate) fn alone(mut turn: Turn) -> Turn {
+    turn.is_last = true;
+    turn
+}
+
+// The same turn with the numbers of a value or an item.
+pub(crate) fn holding(mut turn: Turn, inner: usize, parts: [u64; 7]) -> Turn {
+    turn.inner = inner;
+    turn.parts = parts;
+    turn
+}
+
+// The same turn with a value.
+pub(crate) fn valued(turn: Turn, value: Value) -> Turn {
+    let kind = value_parts::kind_of(value) as usize;
+    holding(turn, kind, value_parts::parts_of(value))
 }
 
 // Four numbers at most; the others are not printed.
-pub(crate) fn few(a: u64, b: u64, c: u64, d: u64) -> [u64; 14] {
-    [a, b, c, d, 0, 0, 0, 0, 0, 0, 0, 0, 0, 0]
+pub(crate) fn few(form: usize, a: u64, b: u64, c: u64, d: u64) -> Turn {
+    last(form, [a, b, c, d, 0, 0, 0, 0, 0, 0, 0, 0, 0, 0])
 }
 
-// The kind's own answer, of one, two or four numbers.
+// The kind's own answer, of one or two numbers.
 pub(crate) fn one(a: u64) -> Turn {
-    last(OWN, few(a, 0, 0, 0))
+    few(OWN, a, 0, 0, 0)
 }
 
 pub(crate) fn two(a: u64, b: u64) -> Turn {
-    last(OWN, few(a, b, 0, 0))
-}
-
-pub(crate) fn four(a: u64, b: u64, c: u64, d: u64) -> Turn {
-    last(OWN, few(a, b, c, d))
+    few(OWN, a, b, 0, 0)
 }
 
 // An answer without a number.
 pub(crate) fn plain(form: usize) -> Turn {
-    last(form, few(0, 0, 0, 0))
+    few(form, 0, 0, 0, 0)
+}
+
+// A turn that prints nothing.
+pub(crate) fn silent(next: [u64; 4]) -> Turn {
+    onward(plain(NOTHING), next)
 }
 
 pub(crate) fn refused(refusal: Refusal) -> Turn {
-    let numbers = few(refusal.number as u64, refusal.place as u64, 0, 0);
-    last(REFUSED, numbers)
+    few(REFUSED, refusal.number as u64, refusal.place as u64, 0, 0)
 }

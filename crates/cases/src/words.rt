@@ -7,6 +7,8 @@ use value::Column;
 use value::Dialect;
 use value::Value;
 use value_parts::Made;
+use value_parts::kind::BYTES;
+use wire::Part;
 
 // How many numbers a slot has.
 const SLOT: usize = 8;
@@ -86,10 +88,37 @@ pub(crate) fn shown<'a>(line: &'a [u8], args: &[u64]) -> &'a [u8] {
     text(line, args, word as usize)
 }
 
+// Where the bytes of a word stand, which is a byte string or a value by its letter; no bytes where it is
+// neither.
+pub(crate) fn place_of(args: &[u64], word: usize, letter: u8) -> Part {
+    let numbers = slot(args, word);
+    let first = nth(numbers, 0);
+    let second = nth(numbers, 1);
+    match letter {
+        b'h' => place(first, second),
+        b'v' => value_place(first, second, nth(numbers, 2)),
+        _ => place(0, 0),
+    }
+}
+
+fn place(start: u64, len: u64) -> Part {
+    Part {
+        start: start as usize,
+        len: len as usize,
+    }
+}
+
+fn value_place(kind: u64, start: u64, len: u64) -> Part {
+    if kind == BYTES {
+        return place(start, len);
+    }
+    place(0, 0)
+}
+
 // A word that is a byte string.
 pub(crate) fn text<'a>(line: &'a [u8], args: &[u64], word: usize) -> &'a [u8] {
-    let place = slot(args, word);
-    cut(line, nth(place, 0) as usize, nth(place, 1) as usize)
+    let numbers = slot(args, word);
+    cut(line, nth(numbers, 0) as usize, nth(numbers, 1) as usize)
 }
 
 // A word that is a value; the line is what lends it its bytes.

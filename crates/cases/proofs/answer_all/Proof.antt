@@ -6,10 +6,10 @@ use Rattle.cases.proofs.answer_all.Statement.{statement}
 use Rattle.cases.proofs.answer_all.Tie as tie
 
 abbrev Inv-loop : tie.InvT-loop
-Inv-loop block₀ line₀ args₀ room₀ out₀ source₀ used₀ turns₀ block line args room out source used turns = (length block ≡ length block₀) × (length line ≡ length line₀) × (length args ≡ length args₀) × (length room ≡ length room₀) × (length out ≡ length out₀)
+Inv-loop kinds block₀ line₀ args₀ room₀ out₀ source₀ used₀ turns₀ block line args room out source used turns = (length block ≡ length block₀) × (length line ≡ length line₀) × (length args ≡ length args₀) × (length room ≡ length room₀) × (length out ≡ length out₀)
 
 abbrev μ-loop : tie.MeasureT-loop
-μ-loop block₀ line₀ args₀ room₀ out₀ source₀ used₀ turns₀ block line args room out source used turns = turns
+μ-loop kinds block₀ line₀ args₀ room₀ out₀ source₀ used₀ turns₀ block line args room out source used turns = turns
 
 loop-holds : tie.Need-loop-holds Inv-loop μ-loop
 loop-holds c = search needs
@@ -17,11 +17,11 @@ loop-holds c = search needs
 sub-turns : tie.Need-sub-turns Inv-loop μ-loop
 sub-turns c = search needs
 
-answer-next-requires : tie.Need-answer-next-requires Inv-loop μ-loop
-answer-next-requires c κs = search needs
+next-line-requires : tie.Need-next-line-requires Inv-loop μ-loop
+next-line-requires c κs = search needs
 
-enum-known-reply : tie.Need-enum-known-reply Inv-loop μ-loop
-enum-known-reply c = search needs
+enum-known-length : tie.Need-enum-known-length Inv-loop μ-loop
+enum-known-length c = search needs
 
 enum-told : tie.Need-enum-told Inv-loop μ-loop
 enum-told c = search needs
@@ -43,6 +43,9 @@ same-length-5 c = search needs
 
 returns : tie.Need-returns Inv-loop μ-loop
 returns c = search needs
+
+answer-requires : tie.Need-answer-requires Inv-loop μ-loop
+answer-requires c κs = search needs
 
 loop-less : tie.Need-loop-less Inv-loop μ-loop
 loop-less c = search needs
@@ -76,8 +79,8 @@ answer-all-spec =
     μ-loop
     loop-holds
     sub-turns
-    answer-next-requires
-    enum-known-reply
+    next-line-requires
+    enum-known-length
     enum-told
     same-length
     same-length-2
@@ -85,6 +88,7 @@ answer-all-spec =
     same-length-4
     same-length-5
     returns
+    answer-requires
     loop-less
     loop-again
     same-length-6

@@ -1,26 +1,25 @@
 -- `cases::digits::decode_hex` is safe and ends. The measure is the number of pairs that are left; a turn keeps the length of the slice that it writes to. Assumes nothing.
-use Prim.Native.Nat.{_+_, _-_, _≤_}
+use Prim.Native.Nat.{_*_, _+_, _-_, _≤_}
 use mathlib.Core.Path.{_≡_}
 use borrow.Author.Needs.{needs}
 use lib.ListN.{length}
-use Prim.Native.Nat.{_*_}
 use Rattle.cases.proofs.digits.decode_hex.Statement.{statement}
 use Rattle.cases.proofs.digits.decode_hex.Tie as tie
 
 abbrev Inv-loop : tie.InvT-loop
-Inv-loop line₀ from to count i₀ line i = (from + 2 * count ≤ length line₀) × (length line ≡ length line₀)
+Inv-loop line₀ start pairs i₀ line i = (start + 2 * pairs ≤ length line₀) × (length line ≡ length line₀)
 
 abbrev μ-loop : tie.MeasureT-loop
-μ-loop line₀ from to count i₀ line i = count - i
+μ-loop line₀ start pairs i₀ line i = pairs - i
 
 returns : tie.Need-returns Inv-loop μ-loop
 returns c = search needs
 
+sub-if2 : tie.Need-sub-if2 Inv-loop μ-loop
+sub-if2 c = search needs
+
 returns-2 : tie.Need-returns-2 Inv-loop μ-loop
 returns-2 c = search needs
-
-returns-3 : tie.Need-returns-3 Inv-loop μ-loop
-returns-3 c = search needs
 
 loop-holds : tie.Need-loop-holds Inv-loop μ-loop
 loop-holds c = search needs
@@ -49,15 +48,6 @@ slice-read-hex-byte-2 c = search needs
 hex-byte-requires : tie.Need-hex-byte-requires Inv-loop μ-loop
 hex-byte-requires c κs = search needs
 
-same-length : tie.Need-same-length Inv-loop μ-loop
-same-length c = search needs
-
-returns-4 : tie.Need-returns-4 Inv-loop μ-loop
-returns-4 c = search needs
-
-cast-line : tie.Need-cast-line Inv-loop μ-loop
-cast-line c = search needs
-
 add-line : tie.Need-add-line Inv-loop μ-loop
 add-line c = search needs
 
@@ -73,11 +63,11 @@ loop-less c = search needs
 loop-again : tie.Need-loop-again Inv-loop μ-loop
 loop-again c = search needs
 
-same-length-2 : tie.Need-same-length-2 Inv-loop μ-loop
-same-length-2 c = search needs
+same-length : tie.Need-same-length Inv-loop μ-loop
+same-length c = search needs
 
-returns-5 : tie.Need-returns-5 Inv-loop μ-loop
-returns-5 c = search needs
+returns-3 : tie.Need-returns-3 Inv-loop μ-loop
+returns-3 c = search needs
 
 pub decode-hex-spec : {M : Type 1} → statement M
 decode-hex-spec =
@@ -86,8 +76,8 @@ decode-hex-spec =
     Inv-loop
     μ-loop
     returns
+    sub-if2
     returns-2
-    returns-3
     loop-holds
     mul-hex-byte
     add-hex-byte
@@ -97,13 +87,10 @@ decode-hex-spec =
     add-hex-byte-3
     slice-read-hex-byte-2
     hex-byte-requires
-    same-length
-    returns-4
-    cast-line
     add-line
     slice-write-line
     add-i
     loop-less
     loop-again
-    same-length-2
-    returns-5)
+    same-length
+    returns-3)

@@ -7,10 +7,10 @@ use Rattle.cases.proofs.printing.put_form.Statement.{statement}
 use Rattle.cases.proofs.printing.put_form.Tie as tie
 
 abbrev Inv-loop : tie.InvT-loop
-Inv-loop out₀ used form numbers line args room now₀ at₀ i₀ out now at i = length out ≡ length out₀
+Inv-loop out₀ used form numbers from line args room now₀ at₀ i₀ out now at i = length out ≡ length out₀
 
 abbrev μ-loop : tie.MeasureT-loop
-μ-loop out₀ used form numbers line args room now₀ at₀ i₀ out now at i = length form - i
+μ-loop out₀ used form numbers from line args room now₀ at₀ i₀ out now at i = length form - i
 
 loop-holds : tie.Need-loop-holds Inv-loop μ-loop
 loop-holds c = search needs
@@ -18,11 +18,23 @@ loop-holds c = search needs
 shared-slice-read-letter : tie.Need-shared-slice-read-letter Inv-loop μ-loop
 shared-slice-read-letter c = search needs
 
+nth-requires : tie.Need-nth-requires Inv-loop μ-loop
+nth-requires c κs = search needs
+
+plus-requires : tie.Need-plus-requires Inv-loop μ-loop
+plus-requires c κs = search needs
+
+nth-requires-2 : tie.Need-nth-requires-2 Inv-loop μ-loop
+nth-requires-2 c κs = search needs
+
 put-letter-requires : tie.Need-put-letter-requires Inv-loop μ-loop
 put-letter-requires c κs = search needs
 
-next-place-requires : tie.Need-next-place-requires Inv-loop μ-loop
-next-place-requires c κs = search needs
+taken-requires : tie.Need-taken-requires Inv-loop μ-loop
+taken-requires c κs = search needs
+
+plus-requires-2 : tie.Need-plus-requires-2 Inv-loop μ-loop
+plus-requires-2 c κs = search needs
 
 add-i : tie.Need-add-i Inv-loop μ-loop
 add-i c = search needs
@@ -47,8 +59,12 @@ put-form-spec =
     μ-loop
     loop-holds
     shared-slice-read-letter
+    nth-requires
+    plus-requires
+    nth-requires-2
     put-letter-requires
-    next-place-requires
+    taken-requires
+    plus-requires-2
     add-i
     loop-less
     loop-again

@@ -6,10 +6,10 @@ use Rattle.cases.proofs.tables.row_named.Statement.{statement}
 use Rattle.cases.proofs.tables.row_named.Tie as tie
 
 abbrev Inv-loop : tie.InvT-loop
-Inv-loop table name at₀ number₀ at number = Unit {0}
+Inv-loop table bar name at₀ number₀ at number = Unit {0}
 
 abbrev μ-loop : tie.MeasureT-loop
-μ-loop table name at₀ number₀ at number = length table - number
+μ-loop table bar name at₀ number₀ at number = length table - number
 
 loop-holds : tie.Need-loop-holds Inv-loop μ-loop
 loop-holds c = search needs

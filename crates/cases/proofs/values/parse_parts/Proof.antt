@@ -26,6 +26,12 @@ plus-requires c κs = search needs
 find-requires : tie.Need-find-requires Inv-loop μ-loop
 find-requires c κs = search needs
 
+mul-parse-part : tie.Need-mul-parse-part Inv-loop μ-loop
+mul-parse-part c = search needs
+
+add-parse-part : tie.Need-add-parse-part Inv-loop μ-loop
+add-parse-part c = search needs
+
 shared-slice-read-parse-part : tie.Need-shared-slice-read-parse-part Inv-loop μ-loop
 shared-slice-read-parse-part c = search needs
 
@@ -82,6 +88,8 @@ parse-parts-spec =
     returns
     plus-requires
     find-requires
+    mul-parse-part
+    add-parse-part
     shared-slice-read-parse-part
     part-requires
     parse-part-requires

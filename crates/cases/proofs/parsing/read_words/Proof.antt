@@ -1,16 +1,16 @@
--- `cases::parsing::parse` is safe and ends. The measure is the number of bytes that are left; there are no more words than bytes, and a turn keeps the lengths of the slices that it writes to. Assumes nothing.
+-- `cases::parsing::read_words` is safe and ends. The measure is the number of bytes that are left; there are no more words than bytes, and a turn keeps the length of the slice that it writes to. Assumes nothing.
 use Prim.Native.Nat.{_-_, _≤_}
 use mathlib.Core.Path.{_≡_}
 use borrow.Author.Needs.{needs}
 use lib.ListN.{length}
-use Rattle.cases.proofs.parsing.parse.Statement.{statement}
-use Rattle.cases.proofs.parsing.parse.Tie as tie
+use Rattle.cases.proofs.parsing.read_words.Statement.{statement}
+use Rattle.cases.proofs.parsing.read_words.Tie as tie
 
 abbrev Inv-loop : tie.InvT-loop
-Inv-loop line₀ end form args₀ count₀ before₀ line args count before = (count ≤ before) × ((length line ≡ length line₀) × (length args ≡ length args₀))
+Inv-loop line end letters args₀ count₀ before₀ args count before = (count ≤ before) × (length args ≡ length args₀)
 
 abbrev μ-loop : tie.MeasureT-loop
-μ-loop line₀ end form args₀ count₀ before₀ line args count before = length line₀ - before
+μ-loop line end letters args₀ count₀ before₀ args count before = length line - before
 
 loop-holds : tie.Need-loop-holds Inv-loop μ-loop
 loop-holds c = search needs
@@ -24,23 +24,20 @@ find-requires c κs = search needs
 same-length : tie.Need-same-length Inv-loop μ-loop
 same-length c = search needs
 
-same-length-2 : tie.Need-same-length-2 Inv-loop μ-loop
-same-length-2 c = search needs
-
 returns : tie.Need-returns Inv-loop μ-loop
 returns c = search needs
 
 letter-of-requires : tie.Need-letter-of-requires Inv-loop μ-loop
 letter-of-requires c κs = search needs
 
+part-requires : tie.Need-part-requires Inv-loop μ-loop
+part-requires c κs = search needs
+
 read-word-requires : tie.Need-read-word-requires Inv-loop μ-loop
 read-word-requires c κs = search needs
 
-same-length-3 : tie.Need-same-length-3 Inv-loop μ-loop
-same-length-3 c = search needs
-
-same-length-4 : tie.Need-same-length-4 Inv-loop μ-loop
-same-length-4 c = search needs
+same-length-2 : tie.Need-same-length-2 Inv-loop μ-loop
+same-length-2 c = search needs
 
 returns-2 : tie.Need-returns-2 Inv-loop μ-loop
 returns-2 c = search needs
@@ -66,17 +63,14 @@ set-slot-requires-2 c κs = search needs
 is-whole-requires : tie.Need-is-whole-requires Inv-loop μ-loop
 is-whole-requires c κs = search needs
 
-same-length-5 : tie.Need-same-length-5 Inv-loop μ-loop
-same-length-5 c = search needs
-
-same-length-6 : tie.Need-same-length-6 Inv-loop μ-loop
-same-length-6 c = search needs
+same-length-3 : tie.Need-same-length-3 Inv-loop μ-loop
+same-length-3 c = search needs
 
 returns-3 : tie.Need-returns-3 Inv-loop μ-loop
 returns-3 c = search needs
 
-pub parse-spec : {M : Type 1} → statement M
-parse-spec =
+pub read-words-spec : {M : Type 1} → statement M
+read-words-spec =
     tie.close
     (tie.spec
     Inv-loop
@@ -85,12 +79,11 @@ parse-spec =
     add-at
     find-requires
     same-length
-    same-length-2
     returns
     letter-of-requires
+    part-requires
     read-word-requires
-    same-length-3
-    same-length-4
+    same-length-2
     returns-2
     add-count
     set-slot-requires
@@ -99,6 +92,5 @@ parse-spec =
     own-slot-requires
     set-slot-requires-2
     is-whole-requires
-    same-length-5
-    same-length-6
+    same-length-3
     returns-3)

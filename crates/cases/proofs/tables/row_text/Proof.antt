@@ -1,8 +1,8 @@
--- `cases::tables::row_numbered` is safe and ends. The measure is the number of rows that are left; nothing has to hold from turn to turn. Assumes nothing.
+-- `cases::tables::row_text` is safe and ends. The measure is the number of rows that are left; nothing has to hold from turn to turn. Assumes nothing.
 use Prim.Native.Nat.{_-_}
 use borrow.Author.Needs.{needs}
-use Rattle.cases.proofs.tables.row_numbered.Statement.{statement}
-use Rattle.cases.proofs.tables.row_numbered.Tie as tie
+use Rattle.cases.proofs.tables.row_text.Statement.{statement}
+use Rattle.cases.proofs.tables.row_text.Tie as tie
 
 abbrev Inv-loop : tie.InvT-loop
 Inv-loop table sought at₀ number₀ at number = Unit {0}
@@ -12,12 +12,6 @@ abbrev μ-loop : tie.MeasureT-loop
 
 loop-holds : tie.Need-loop-holds Inv-loop μ-loop
 loop-holds c = search needs
-
-row-at-requires : tie.Need-row-at-requires Inv-loop μ-loop
-row-at-requires c κs = search needs
-
-returns : tie.Need-returns Inv-loop μ-loop
-returns c = search needs
 
 find-requires : tie.Need-find-requires Inv-loop μ-loop
 find-requires c κs = search needs
@@ -34,25 +28,27 @@ loop-less c = search needs
 loop-again : tie.Need-loop-again Inv-loop μ-loop
 loop-again c = search needs
 
-row-at-requires-2 : tie.Need-row-at-requires-2 Inv-loop μ-loop
-row-at-requires-2 c κs = search needs
+find-requires-2 : tie.Need-find-requires-2 Inv-loop μ-loop
+find-requires-2 c κs = search needs
 
-returns-2 : tie.Need-returns-2 Inv-loop μ-loop
-returns-2 c = search needs
+part-requires : tie.Need-part-requires Inv-loop μ-loop
+part-requires c κs = search needs
 
-pub row-numbered-spec : {M : Type 1} → statement M
-row-numbered-spec =
+returns : tie.Need-returns Inv-loop μ-loop
+returns c = search needs
+
+pub row-text-spec : {M : Type 1} → statement M
+row-text-spec =
     tie.close
     (tie.spec
     Inv-loop
     μ-loop
     loop-holds
-    row-at-requires
-    returns
     find-requires
     plus-requires
     add-number
     loop-less
     loop-again
-    row-at-requires-2
-    returns-2)
+    find-requires-2
+    part-requires
+    returns)

@@ -1,15 +1,15 @@
--- `cases::digits::parse_decimal` is safe and ends. The measure is the number of digits that are left; nothing has to hold from turn to turn. Assumes nothing.
+-- `cases::digits::parse_digits` is safe and ends. The measure is the number of digits that are left; nothing has to hold from turn to turn. Assumes nothing.
 use Prim.Native.Nat.{_-_}
 use borrow.Author.Needs.{needs}
 use lib.ListN.{length}
-use Rattle.cases.proofs.digits.parse_decimal.Statement.{statement}
-use Rattle.cases.proofs.digits.parse_decimal.Tie as tie
+use Rattle.cases.proofs.digits.parse_digits.Statement.{statement}
+use Rattle.cases.proofs.digits.parse_digits.Tie as tie
 
 abbrev Inv-loop : tie.InvT-loop
-Inv-loop s value₀ i₀ value i = Unit {0}
+Inv-loop s most value₀ i₀ value i = Unit {0}
 
 abbrev μ-loop : tie.MeasureT-loop
-μ-loop s value₀ i₀ value i = length s - i
+μ-loop s most value₀ i₀ value i = length s - i
 
 returns : tie.Need-returns Inv-loop μ-loop
 returns c = search needs
@@ -47,8 +47,8 @@ loop-again c = search needs
 returns-4 : tie.Need-returns-4 Inv-loop μ-loop
 returns-4 c = search needs
 
-pub parse-decimal-spec : {M : Type 1} → statement M
-parse-decimal-spec =
+pub parse-digits-spec : {M : Type 1} → statement M
+parse-digits-spec =
     tie.close
     (tie.spec
     Inv-loop
