@@ -12,8 +12,8 @@ use crate::words::index;
 use crate::words::text;
 use table_map::FieldStep;
 use table_map::Fields;
-use table_map::Part;
 use value::Dialect;
+use wire::Part;
 
 // Where a walk stands, behind its first turn: what it counted of the map goes with it.
 fn state_of(fields: Fields) -> [u64; 4] {

@@ -10,8 +10,8 @@ use crate::words::index;
 use crate::words::text;
 use crate::words::value;
 use value::Read;
-use value::Size;
 use value::Value;
+use wire::Size;
 
 // What was read, and how many bytes it took.
 fn read(value: Value, next: usize) -> Turn {

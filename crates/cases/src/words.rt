@@ -3,12 +3,12 @@
 // seven parts. Slot 0 is the line's own. All readers are total: a word that is not there is 0, or has
 // no bytes.
 use crate::slices::cut;
-use table_map::Part;
 use value::Column;
 use value::Dialect;
 use value::Value;
 use value_parts::Made;
 use value_parts::kind::BYTES;
+use wire::Part;
 
 // How many numbers a slot has.
 const SLOT: usize = 8;

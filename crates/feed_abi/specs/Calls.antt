@@ -5,11 +5,11 @@ use mathlib.Core.Bool.{true, cond}
 use mathlib.Core.List.{List, [], _∷_, _++_}
 use lib.Dec.{ltb, eqb}
 use Rattle.wire.specs.Outcome.{Outcome, ok, refused, refuse, after}
-use Rattle.value.specs.declared.column.Dialect.{Dialect}
-use Rattle.value.specs.declared.column.Dialect.the-variants.{Document, Mysql, Mariadb}
+use Rattle.wire.specs.declared.part.Part.{Part}
+use Rattle.value.specs.declared.classes.Dialect.{Dialect}
+use Rattle.value.specs.declared.classes.Dialect.the-variants.{Document, Mysql, Mariadb}
 use Rattle.value.specs.declared.datum.Value.the-variants.{Null}
 use Rattle.value_parts.specs.Parts.{kindOf, partsOf, padded, valueOf, isHeld}
-use Rattle.table_map.specs.declared.part.Part.{Part}
 use Rattle.table_map.specs.Events.{readEvent}
 use Rattle.record.specs.declared.entry.Entry.{Entry}
 use Rattle.record.specs.Records.{entryIn, readRecord}

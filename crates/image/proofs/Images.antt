@@ -22,33 +22,32 @@ use Rattle.value.specs.Reading.{Fails, short as cut, range}
 use Rattle.record.specs.Records.{countOf, recordValid}
 use Rattle.image.specs.declared.cursor.Cursor.{Cursor}
 use Rattle.image.specs.Present.{Present, countBits, presentFrom, present}
-use Rattle.image.specs.Split.{Slot, slots, slotsAt, cursor, firstCursor, stepFrom}
-use Rattle.image.specs.Walk.{Walked, walkSteps, walkFrom, walk}
+use Rattle.image.specs.Split.{Slot, slots, slotsAt, cursor, slotsLeft, firstCursor}
+use Rattle.image.specs.Walk.{Walked, readSlots, walkFrom, walk}
 use Rattle.image.specs.Rows.{Row, inDomains, rowBytes, answersOf, Marks, Says, read, short, broken, Among, Refusals, in-nulls, at-column}
 use Rattle.image.proofs.Heads.{Over, nullBytes, head-is}
 use Rattle.image.proofs.Slots.{inCell}
-use Rattle.image.proofs.Splits.{readSlots, Split, through, stops, Each, each-at, read-split, split-back}
+use Rattle.image.proofs.Splits.{Split, through, stops, Each, each-at, read-split, split-back}
 use Rattle.image.proofs.Presents.{present-length, good-from, good-present, among-present, present-same, slots-same, slots-front, slots-all}
-use Rattle.image.proofs.Walks.{steps-read}
+use Rattle.image.proofs.Walks.{walk-goes}
 
--- ---- the walk, without steps
-walk-read : (r p nulls s : List ℕ) → Over r p → length nulls ≡ bytesFor (length (present r p))
+-- ---- the whole walk, without cursors
+pub walk-read : (r p nulls s : List ℕ) → Over r p → length nulls ≡ bytesFor (length (present r p))
     → walk r p (nulls ++ s) ≡ readSlots (slots (present r p) 0 nulls) s (length nulls)
 unfolding walk firstCursor
 walk-read r p nulls s u l =
-    let n = countOf r in
     let im = nulls ++ s in
     let cs = present r p in
     let e : nullBytes r p ≡ length nulls = ap bytesFor (sym (present-length r p)) ∙ sym l in
     let g : length nulls ≤ length im = simp length-append (omega arith) in
     let w : nullBytes r p ≤ length im = omega arith in
     rw (head-is r p u)
-    (steps-read (suc n) r p im (cursor 0 (nullBytes r p)) u w (omega arith) w (omega arith)
+    (walk-goes r p im (cursor 0 (nullBytes r p)) (head-is r p u) (omega arith) w w
     ∙ rw (slots-all r p im, slots-front cs nulls s (omega arith), e, drop-append-seam nulls s))
 
 -- null bits that are not whole
-walk-short : (r p im : List ℕ) → Over r p → length im < bytesFor (length (present r p)) → walk r p im ≡ record { answers = []; how = refuse 9 0 }
-unfolding walk firstCursor walkSteps stepFrom
+pub walk-short : (r p im : List ℕ) → Over r p → length im < bytesFor (length (present r p)) → walk r p im ≡ record { answers = []; how = refuse 9 0 }
+unfolding walk firstCursor walkFrom slotsLeft
 walk-short r p im u l =
     let s : length im < nullBytes r p = subst (λ (n : ℕ). length im < bytesFor n) (present-length r p) l in
     rw (head-is r p u, head-is r p u, le-ltb (countOf r) 0 (omega arith), lt-ltb (length im) (nullBytes r p) s)
@@ -80,7 +79,7 @@ pub every-cursor : (r p im : List ℕ) (c : Cursor) → Over r p → nullBytes r
 unfolding slotsAt
 every-cursor r p im c u w h b y =
     let n = countOf r in
-    rw (steps-read (suc n) r p im c u w h b (omega arith))
+    rw (walk-goes r p im c (head-is r p u) h w b)
     (read-split (presentFrom (n - c .column) r p (c .column)) (countBits p (c .column)) im (drop (c .offset) im) (c .offset) (good-from (n - c .column) r p (c .column) (u .valid) (omega arith))
     (bytes-drop (c .offset) im y))
 

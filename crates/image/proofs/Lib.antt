@@ -1,6 +1,6 @@
--- The laws of the crate. `Firsts`: the first present column from a column on. `Heads`: the tests before a call. `Steps`: what a step answers. `Sorts`: values by their tag. `Fills`: null
+-- The laws of the crate. `Firsts`: the first present column from a column on. `Heads`: the tests before a call. `Steps`: what a step answers. `Sorts`: which values are NULL. `Fills`: null
 -- bits with the spare bits set. `Puts`: what the writer answers and leaves. `Views`: no two answers look the same on paper. `Slots`: one present column, NULL or a value. `Splits`: all of them, one
--- after the other, both ways. `Presents`: the present columns of a record. `Walks`: the walk by steps is that reading. `Ways`: from any cursor the walk is a step and the walk from its cursor.
+-- after the other, both ways. `Presents`: the present columns of a record. `Walks`: steps over slots are that reading. `Ways`: from any cursor the walk is a step and the walk from its cursor.
 -- `Images`: demand 3. `WriteRows`: a row written, and read back. `Papers`: every row on paper can be given to the writer. `Worked`: document 01's worked reading, computed.
 pub mod Firsts
 pub mod Heads

@@ -7,13 +7,13 @@ use native.Mathlib.Omega.{arith}
 use borrow.Author.Tests.{le-leb}
 use lib.ListN.{length, getD, replicate, length-replicate}
 use lib.Seq.{take-length}
-use Rattle.wire.specs.Bits.{bytesFor, withDigit, lsb0}
+use Rattle.wire.specs.Bits.{bytesFor, lsb0}
 use Rattle.wire.specs.Stored.{stored}
 use Rattle.wire.proofs.Stores.{length-stored}
-use Rattle.wire.proofs.Digits.{lsb0-written, lsb0-kept}
+use Rattle.wire.proofs.Digits.{withDigit, lsb0-written, lsb0-kept}
 use Rattle.value.specs.Data.{Datum, null, int, uint, float, double, year, when, bytes, bytesIn}
 use Rattle.value.specs.Reading.{placed, datumOf}
-use Rattle.value.specs.Storing.{startOf, lenOf, isLent}
+use Rattle.value.specs.Storing.{bytesAt, isLent}
 use Rattle.record.specs.Records.{countOf, recordValid}
 use Rattle.image.specs.Present.{present}
 use Rattle.image.specs.Rows.{Row, isNull, inDomains, Marks}
@@ -39,7 +39,7 @@ give-says (bytes b) =
     rw z (ap bytes (take-length b))
 
 give-lent : (d : Datum) → isLent (give d .lent) (give d .value) ≡ true
-unfolding give bytesIn placed isLent startOf lenOf
+unfolding give bytesIn placed isLent bytesAt
 give-lent null = refl
 give-lent (int z) = refl
 give-lent (uint n) = refl

@@ -27,7 +27,7 @@ use Rattle.image.specs.declared.cursor.Head.{Head}
 use Rattle.image.specs.declared.put.Put.{Put}
 use Rattle.image.specs.declared.put.Put.the-variants.{Next, Refused as Refused₂}
 use Rattle.image.specs.declared.step.Standing.{Standing}
-use Rattle.image.specs.Present.{countBits, firstFrom, shapeAt}
+use Rattle.image.specs.Present.{firstFrom, shapeAt}
 use Rattle.image.specs.Split.{cursor, slotsAt}
 use Rattle.image.specs.Inner.{Placed, cursorOf}
 use Rattle.image.specs.Rows.{isNull}
@@ -57,29 +57,26 @@ module _ (r p nulls buf : List ℕ) {h : Head} (e : headNulls r p nulls ≡ ok h
   tested = head-tested r p (nulls-tested r p nulls e .0)
 
   -- the null bits are as many bytes as one for each present column take
-  pub nulls-size : (n : ℕ) → n ≡ countBits p (h .columns) → length nulls ≡ bytesFor n
-  nulls-size n k = nulls-tested r p nulls e .1 ∙ tested .nulls ∙ ap bytesFor (sym k)
+  pub nulls-size : length nulls ≡ bytesFor (h .present)
+  nulls-size = nulls-tested r p nulls e .1 ∙ tested .nulls
 
   pub nulls-fit : h .nulls ≤ length buf → length nulls ≤ length buf
   nulls-fit l = omega (arith, nulls-tested r p nulls e .1)
 
-  filled-size : length (filled (countBits p (h .columns)) nulls) ≡ h .nulls
-  filled-size = fill-length (countBits p (h .columns)) nulls (nulls-size (countBits p (h .columns)) refl) ∙ nulls-tested r p nulls e .1
+  filled-size : length (filled (h .present) nulls) ≡ h .nulls
+  filled-size = fill-length (h .present) nulls nulls-size ∙ nulls-tested r p nulls e .1
 
   pub start-full : length buf < h .nulls → startImage r p nulls buf ≡ refuse 8 0
   unfolding startImage
-  start-full l = rw (e, store-full buf (filled (countBits p (h .columns)) nulls) 0 (omega (arith, filled-size)))
+  start-full l = rw (e, store-full buf (filled (h .present) nulls) 0 (omega (arith, filled-size)))
 
-  start-goes : h .nulls ≤ length buf → startImage r p nulls buf ≡ ok (cursor 0 (h .nulls), stored buf 0 (filled (countBits p (h .columns)) nulls))
+  start-goes : h .nulls ≤ length buf → startImage r p nulls buf ≡ ok (cursor 0 (h .nulls), stored buf 0 (filled (h .present) nulls))
   unfolding startImage
-  start-goes l = rw (e, store-fits buf (filled (countBits p (h .columns)) nulls) 0 (omega (arith, filled-size)))
+  start-goes l = rw (e, store-fits buf (filled (h .present) nulls) 0 (omega (arith, filled-size)))
 
-  -- n being the count that the code made, and x the buffer
-  pub start-done : (n : ℕ) (x : List ℕ) → n ≡ countBits p (h .columns) → x ≡ stored buf 0 (filled n nulls) → h .nulls ≤ length buf
-      → Puts buf (startImage r p nulls buf) (Next (cursor 0 (h .nulls))) x
-  start-done n x k y l =
-      let z : x ≡ stored buf 0 (filled (countBits p (h .columns)) nulls) = y ∙ ap (λ (m : ℕ). stored buf 0 (filled m nulls)) k in
-      put-next buf (start-goes l ∙ ap (λ (b : List ℕ). ok (cursor 0 (h .nulls), b)) (sym z))
+  -- x being the buffer that the code left
+  pub start-done : (x : List ℕ) → x ≡ stored buf 0 (filled (h .present) nulls) → h .nulls ≤ length buf → Puts buf (startImage r p nulls buf) (Next (cursor 0 (h .nulls))) x
+  start-done x y l = put-next buf (start-goes l ∙ ap (λ (b : List ℕ). ok (cursor 0 (h .nulls), b)) (sym y))
 
 -- ---- a step
 -- the cursor behind a value takes the place after it
@@ -106,28 +103,28 @@ module _
 
   module _ (u : f ≡ n → ⊥) where
     -- NULL for a column whose bit says a value
-    pub put-unmarked : isNull (datumOf lent v) ≡ true → bitLsb0 nulls (s .rank) ≡ false → put ≡ refuse 13 f
+    pub put-unmarked : isNull (datumOf lent v) ≡ true → bitLsb0 nulls (s .bit .0) ≡ false → put ≡ refuse 13 f
     unfolding putOver slotBytes
     put-unmarked i b = rw (slots-some h e nulls u, i, b)
 
     -- and a value for one whose bit says NULL
-    pub put-marked : isNull (datumOf lent v) ≡ false → bitLsb0 nulls (s .rank) ≡ true → put ≡ refuse 13 f
+    pub put-marked : isNull (datumOf lent v) ≡ false → bitLsb0 nulls (s .bit .0) ≡ true → put ≡ refuse 13 f
     unfolding putOver slotBytes
     put-marked i b = rw (slots-some h e nulls u, i, b)
 
     -- NULL takes no bytes, but the offset must be in the buffer
-    put-null : isNull (datumOf lent v) ≡ true → bitLsb0 nulls (s .rank) ≡ true → put ≡ behind (f + 1) (store buf (s .offset) [])
+    put-null : isNull (datumOf lent v) ≡ true → bitLsb0 nulls (s .bit .0) ≡ true → put ≡ behind (f + 1) (store buf (s .offset) [])
     unfolding putOver slotBytes
     put-null i b = rw (slots-some h e nulls u, i, b)
 
-    pub put-null-full : isNull (datumOf lent v) ≡ true → bitLsb0 nulls (s .rank) ≡ true → length buf < s .offset → put ≡ refuse 8 0
+    pub put-null-full : isNull (datumOf lent v) ≡ true → bitLsb0 nulls (s .bit .0) ≡ true → length buf < s .offset → put ≡ refuse 8 0
     put-null-full i b l = put-null i b ∙ ap (behind (f + 1)) (store-full buf [] (s .offset) (omega arith))
 
-    pub put-null-goes : isNull (datumOf lent v) ≡ true → bitLsb0 nulls (s .rank) ≡ true → s .offset ≤ length buf → put ≡ ok (cursor (f + 1) (s .offset), buf)
+    pub put-null-goes : isNull (datumOf lent v) ≡ true → bitLsb0 nulls (s .bit .0) ≡ true → s .offset ≤ length buf → put ≡ ok (cursor (f + 1) (s .offset), buf)
     put-null-goes i b l = put-null i b ∙ ap (behind (f + 1)) (store-none buf (s .offset) l)
 
     -- the value as the record's column stores it
-    module _ (i : isNull (datumOf lent v) ≡ false) (b : bitLsb0 nulls (s .rank) ≡ false) {k : Column} (g : k ≡ columnOf (entryIn r f)) where
+    module _ (i : isNull (datumOf lent v) ≡ false) (b : bitLsb0 nulls (s .bit .0) ≡ false) {k : Column} (g : k ≡ columnOf (entryIn r f)) where
       put-value : put ≡ behind (f + 1) (writeValue (shapeOf k) f lent v buf (s .offset))
       unfolding putOver slotBytes writeValue shapeAt
       put-value =

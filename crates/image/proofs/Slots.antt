@@ -7,7 +7,7 @@ use native.Mathlib.Omega.{arith}
 use borrow.Author.Tests.{eqb-true}
 use lib.ListN.{length, take}
 use Rattle.wire.specs.declared.refusal.Refusal.{Refusal}
-use Rattle.wire.specs.Outcome.{Outcome, ok, refused, refuse}
+use Rattle.wire.specs.Outcome.{ok, refused, refuse}
 use Rattle.wire.specs.Number.{Bytes}
 use Rattle.wire.proofs.Outcomes.{same-ok, ok-not-refused}
 use Rattle.value.specs.declared.shape.Shape.{Shape}
@@ -16,11 +16,12 @@ use Rattle.value.specs.Data.{Datum, null, tag}
 use Rattle.value.specs.Domains.{domain}
 use Rattle.value.specs.Columns.{isTaken}
 use Rattle.value.specs.Shapes.{bytesOf, Sized}
-use Rattle.value.specs.Reading.{readDatum, Fails}
+use Rattle.value.specs.Reading.{Fails}
 use Rattle.value.proofs.Facts.{made, is-made}
 use Rattle.value.proofs.Laws.{back, sound, fails, fails-back}
 use Rattle.image.specs.Present.{Present}
 use Rattle.image.specs.Split.{Slot}
+use Rattle.image.specs.Walk.{readSlot}
 use Rattle.image.specs.Rows.{isNull}
 
 -- ---- NULL is one datum, and no column's domain has it
@@ -57,11 +58,6 @@ inCell c d = cond (isNull d) true (domain (c .shape) d)
 
 abbrev pub cell : Present → Datum → List ℕ
 cell c d = cond (isNull d) [] (bytesOf (c .shape) d)
-
--- what stands in a slot, the bytes from there on being s, and how many bytes it takes
-unfoldable pub readSlot : Slot → List ℕ → Outcome (Datum × ℕ)
-unfolding readDatum
-readSlot i s = cond (i .null) (ok (null, 0)) (readDatum (i .present .shape) (i .present .column) s)
 
 -- read-back
 pub slot-back : (i : Slot) (d : Datum) (rest : List ℕ) → inCell (i .present) d ≡ true → i .null ≡ isNull d

@@ -1,20 +1,16 @@
--- Which sort a value is of, by the tag that a match looks at. Assumes nothing.
+-- Which values are NULL, by the tag that a match looks at. Assumes nothing.
 use Prim.Native.Nat.{ℕ}
 use mathlib.Core.Path.{_≡_, refl}
-use mathlib.Core.Bool.{Bool, true, false, cond}
+use mathlib.Core.Bool.{false}
 use mathlib.Core.List.{List, [], _∷_}
-use lib.ListN.{take, drop}
 use types.Run.{OneOf, miss}
 use denote.Enum.Declared.{tagOf}
 use Rattle.value.proofs.datum.Value.{the-type}
 use Rattle.value.proofs.Writers.{tag-any}
-use Rattle.value.proofs.Sorts.{not-bytes}
 use Rattle.value.specs.declared.datum.Value.{Value}
 use Rattle.value.specs.declared.datum.Value.the-variants.{Null, Int, Uint, Float, Double, Year, When, Bytes}
 use Rattle.value.specs.Reading.{datumOf}
-use Rattle.value.specs.Storing.{startOf, lenOf, isLent}
 use Rattle.image.specs.Rows.{isNull}
-use Rattle.image.specs.Part.{valueBytes}
 
 -- NULL is NULL whatever bytes stand beside it
 pub null-anywhere : (s t : List ℕ) (v : Value) → isNull (datumOf s v) ≡ isNull (datumOf t v)
@@ -31,13 +27,4 @@ others-not-null (Float n) o = refl
 others-not-null (Double n) o = refl
 others-not-null (Year n) o = refl
 others-not-null (When w) o = refl
-others-not-null (Bytes start len) o = refl
-
-none-of : (lent : Bool) (start len : ℕ) (im : List ℕ) → len ≡ 0 → cond lent (take len (drop start im)) [] ≡ []
-none-of true start len im e = rw e refl
-none-of false start len im e = refl
-
--- a value that is not bytes names none
-pub no-bytes : (im : List ℕ) (v : Value) → OneOf (0 ∷ 1 ∷ 2 ∷ 3 ∷ 4 ∷ 5 ∷ 6 ∷ []) (tagOf the-type v) → valueBytes im v ≡ []
-unfolding valueBytes
-no-bytes im v o = none-of (isLent im v) (startOf v) (lenOf v) im (not-bytes v o .1)
+others-not-null (Bytes p) o = refl

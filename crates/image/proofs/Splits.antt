@@ -18,21 +18,11 @@ use Rattle.value.specs.Shapes.{Sized}
 use Rattle.value.specs.Reading.{Fails}
 use Rattle.image.specs.Present.{Present}
 use Rattle.image.specs.Split.{Slot, slots}
-use Rattle.image.specs.Walk.{Walked, stopped, withAnswer}
+use Rattle.image.specs.Walk.{Walked, stopped, withAnswer, readSlot, answered, readSlots}
 use Rattle.image.specs.Rows.{Row, inDomains, rowBytes, answersOf, Marks}
-use Rattle.image.proofs.Slots.{inCell, cell, readSlot, slot-back, Held, slot-sound, slot-fails, slot-fails-back}
+use Rattle.image.proofs.Slots.{inCell, cell, slot-back, Held, slot-sound, slot-fails, slot-fails-back}
 
--- ---- the reading: s is what is left of the image at offset o
-abbrev pub answered : ℕ → (ℕ → Walked) → Outcome (Datum × ℕ) → Walked
-answered j f (ok x) = withAnswer (j, x .0) (f (x .1))
-answered j f (refused w) = stopped (refused w)
-
-unfoldable pub readSlots : List Slot → List ℕ → ℕ → Walked
-unfolding readSlot
-readSlots [] s o = stopped (ok o)
-readSlots (i ∷ is) s o = answered (i .present .column) (λ n. readSlots is (drop n s) (o + n)) (readSlot i s)
-
--- what the bytes s must be for the answers that they get: the values of the columns one after the other; or up to a column whose bytes are no value
+-- what the bytes s, which stand at offset o, must be for the answers that they get: the values of the columns one after the other; or up to a column whose bytes are no value
 pub data Split (cs : List Present) (k : ℕ) (nulls s : List ℕ) (o : ℕ) : Walked → Type 0 where
   through : (ds : Row) (rest : List ℕ) → inDomains cs ds ≡ true → Marks nulls k ds → s ≡ rowBytes cs ds ++ rest
       → Split cs k nulls s o (record { answers = answersOf cs ds; how = ok (o + length (rowBytes cs ds)) })

@@ -4,11 +4,13 @@ use Rattle.wire.specs.Outcome.{Outcome, ok, refused}
 use Rattle.wire.proofs.Outcomes.{back-read, same-by-back}
 use Rattle.image.specs.declared.cursor.First.{First}
 use Rattle.image.specs.declared.cursor.First.the-variants.{At, Refused}
+use Rattle.image.specs.declared.cursor.HeadRead.{HeadRead}
+use Rattle.image.specs.declared.cursor.HeadRead.the-variants.{Read, Refused as Refused₄}
 use Rattle.image.specs.declared.step.Step.{Step}
 use Rattle.image.specs.declared.step.Step.the-variants.{Null, Value as Value₂, End, Refused as Refused₂}
 use Rattle.image.specs.declared.put.Put.{Put}
 use Rattle.image.specs.declared.put.Put.the-variants.{Next, Refused as Refused₃}
-use Rattle.image.specs.Split.{Told, null, value, end, told, firstTold}
+use Rattle.image.specs.Split.{Told, null, value, end, told, firstTold, headTold}
 use Rattle.image.specs.Puts.{putTold}
 
 -- the way back from what a step says
@@ -35,6 +37,14 @@ first-way (Refused r) = refl
 -- of first cursors
 pub same-first : (a b : First) → firstTold a ≡ firstTold b → a ≡ b
 same-first = same-by-back firstTold (back-read At Refused) first-way
+
+head-way : (a : HeadRead) → back-read Read Refused₄ (headTold a) ≡ a
+head-way (Read h) = refl
+head-way (Refused₄ r) = refl
+
+-- of heads
+pub same-head : (a b : HeadRead) → headTold a ≡ headTold b → a ≡ b
+same-head = same-by-back headTold (back-read Read Refused₄) head-way
 
 put-way : (a : Put) → back-read Next Refused₃ (putTold a) ≡ a
 put-way (Next c) = refl

@@ -1,5 +1,5 @@
--- The walk by steps is the reading of the present columns one after the other, from any cursor. Assumes nothing.
-use Prim.Native.Nat.{ℕ, zero, suc, _+_, _-_, _≤_, _<_}
+-- Steps over slots are the reading of the slots one after the other. Assumes nothing.
+use Prim.Native.Nat.{ℕ, _+_, _-_, _≤_, _<_}
 use mathlib.Core.Path.{_≡_, refl}
 use mathlib.Core.Bool.{Bool, true, false}
 use mathlib.Core.Logic.{dite}
@@ -16,14 +16,13 @@ use Rattle.value.specs.Reading.{readDatum, readValue, placed}
 use Rattle.value.proofs.Laws.{took, said-read}
 use Rattle.record.specs.Records.{countOf}
 use Rattle.image.specs.declared.cursor.Cursor.{Cursor}
+use Rattle.image.specs.declared.cursor.Head.{Head}
 use Rattle.image.specs.Present.{firstFrom}
-use Rattle.image.specs.Split.{Slot, slotsAt, cursor, value, stepOver}
-use Rattle.image.specs.Walk.{Walked, onward, walkSteps}
-use Rattle.image.proofs.Firsts.{first-is, slotAt, slots-end, slots-first}
-use Rattle.image.proofs.Heads.{Over, nullBytes, head-is}
-use Rattle.image.proofs.Steps.{step-goes}
-use Rattle.image.proofs.Slots.{readSlot}
-use Rattle.image.proofs.Splits.{answered, readSlots}
+use Rattle.image.specs.Split.{Slot, slotsAt, cursor, headOf, value, stepOver}
+use Rattle.image.specs.Walk.{Walked, readSlot, answered, readSlots, walkFrom, onward}
+use Rattle.image.proofs.Firsts.{slotAt, slots-end, slots-first}
+use Rattle.image.proofs.Heads.{head-tested}
+use Rattle.image.proofs.Steps.{left-goes}
 
 -- ---- a step and then the rest
 -- no column is left
@@ -50,20 +49,23 @@ onward-more w i is im o l h = go (i .null) refl
     go true e = rw (e, h o l, add-zero o)
     go false e = rw e (read (readDatum (i .present .shape) (i .present .column) (drop o im)) refl)
 
--- ---- from any cursor within the image, m being enough steps
-pub steps-read : (m : ℕ) (r p im : List ℕ) (c : Cursor) → Over r p → nullBytes r p ≤ length im → c .column ≤ countOf r → c .offset ≤ length im → countOf r - c .column < m
-    → walkSteps m r p im c ≡ readSlots (slotsAt r p im (c .column)) (drop (c .offset) im) (c .offset)
-unfolding walkSteps
-steps-read zero r p im c u w h b l = absurd (omega arith)
-steps-read (suc m) r p im c u w h b l =
+-- ---- from a cursor that passes the tests
+pub walk-goes : (r p im : List ℕ) (c : Cursor) {h : Head} → headOf r p ≡ ok h → c .column ≤ h .columns → h .nulls ≤ length im → c .offset ≤ length im
+    → walkFrom r p im c ≡ readSlots (slotsAt r p im (c .column)) (drop (c .offset) im) (c .offset)
+unfolding walkFrom
+walk-goes r p im c e a b d = rw (left-goes r p im c e a b d)
+
+-- a step over its slots, and then the walk from the step's cursor
+pub onward-slots : (r p im : List ℕ) (j o : ℕ) {h : Head} → headOf r p ≡ ok h → j ≤ h .columns → h .nulls ≤ length im → o ≤ length im
+    → onward (walkFrom r p im) im (stepOver (slotsAt r p im j) im o) ≡ readSlots (slotsAt r p im j) (drop o im) o
+onward-slots r p im j o {h} e a b d =
     let n = countOf r in
-    let j = c .column in
     let f = firstFrom (n - j) p j in
-    let i = first-is (n - j) p j in
-    rw (step-goes r p im c (head-is r p u) h w b)
-    (dite (decLe n f)
-    (λ a. rw (slots-end r p im j h a) (onward-end (λ c. walkSteps m r p im c) im (c .offset)))
-    (λ a. let g : f < n = omega arith in
-    rw (slots-first r p im j h g)
-    (onward-more (λ c. walkSteps m r p im c) (slotAt r p im f) (slotsAt r p im (f + 1)) im (c .offset) b
-    (λ o′ b′. steps-read m r p im (cursor (f + 1) o′) u w (omega arith) b′ (omega (arith, i .low))))))
+    let k : h .columns ≡ n = head-tested r p e .columns in
+    let l : j ≤ n = omega arith in
+    dite (decLe n f)
+    (λ g. rw (slots-end r p im j l g) (onward-end (walkFrom r p im) im o))
+    (λ g. let m : f < n = omega arith in
+    rw (slots-first r p im j l m)
+    (onward-more (walkFrom r p im) (slotAt r p im f) (slotsAt r p im (f + 1)) im o d
+    (λ o′ d′. walk-goes r p im (cursor (f + 1) o′) e (omega arith) b d′)))

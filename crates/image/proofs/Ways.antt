@@ -1,37 +1,28 @@
--- From any cursor, made up or not, under any record: the walk is the step's answer and then the walk from the step's cursor. Assumes nothing.
+-- From any cursor, made up or not, under any record: the walk is the step's answer and then the walk from the step's cursor, and no other walk is. Assumes nothing.
 use Prim.Native.Nat.{ℕ, zero, suc, _+_, _-_, _≤_, _<_}
-use mathlib.Core.Path.{_≡_, refl, ap}
+use mathlib.Core.Path.{_≡_, refl, sym, ap, _∙_}
 use mathlib.Core.Bool.{Bool, true, false, cond}
 use mathlib.Core.Logic.{dite}
 use mathlib.Core.List.{List, [], _∷_}
 use native.Mathlib.Decide.{decLe}
 use native.Mathlib.Omega.{arith}
-use lib.ListN.{length}
-use lib.Dec.{ltb}
-use Rattle.wire.specs.declared.refusal.Refusal.{Refusal}
-use Rattle.wire.specs.Outcome.{Outcome, ok, refused, why, after}
+use lib.ListN.{drop}
+use Rattle.wire.specs.Outcome.{Outcome, ok, refused, after}
 use Rattle.value.specs.declared.datum.Value.{Value}
 use Rattle.value.specs.Data.{null}
 use Rattle.value.specs.Reading.{readValue, datumOf}
 use Rattle.record.specs.Records.{countOf}
 use Rattle.image.specs.declared.cursor.Cursor.{Cursor}
-use Rattle.image.specs.declared.cursor.Head.{Head}
 use Rattle.image.specs.Present.{firstFrom}
-use Rattle.image.specs.Split.{Slot, slots, slotsAt, cursor, headOf, Told, null as null₁, value, stepOver, stepFrom}
-use Rattle.image.specs.Walk.{Walked, withAnswer, onward, walkSteps, walkFrom}
+use Rattle.image.specs.Split.{Slot, slots, slotsAt, cursor, Told, null as null₁, value, stepOver, slotsLeft, stepFrom}
+use Rattle.image.specs.Walk.{Walked, withAnswer, goingOn, readSlots, walkFrom, onward}
 use Rattle.image.proofs.Firsts.{first-is, slotAt, present-end, slots-end, slots-first}
+use Rattle.image.proofs.Steps.{left-stands}
+use Rattle.image.proofs.Walks.{onward-slots}
 
 -- two ways on that agree on every cursor that a step can give agree behind the step
 abbrev Agree : List ℕ → (Cursor → Walked) → (Cursor → Walked) → Outcome Told → Type 0
 Agree im f g x = onward f im x ≡ onward g im x
-
-agree-test : (im : List ℕ) (f g : Cursor → Walked) (b : Bool) (w : Refusal) (x : Outcome Told) → Agree im f g x → Agree im f g (cond b (refused w) x)
-agree-test im f g true w x e = refl
-agree-test im f g false w x e = e
-
-agree-after : (im : List ℕ) (f g : Cursor → Walked) (x : Outcome Head) (k : Head → Outcome Told) → ((h : Head) → Agree im f g (k h)) → Agree im f g (after x k)
-agree-after im f g (ok h) k e = e h
-agree-after im f g (refused w) k e = refl
 
 agree-end : (im : List ℕ) (f g : Cursor → Walked) (o : ℕ) → Agree im f g (stepOver [] im o)
 unfolding stepOver
@@ -76,20 +67,28 @@ agree-slots r p im j o f g h =
 agree : (r p im : List ℕ) (c : Cursor) (f g : Cursor → Walked) → ((c′ : Cursor) → c .column < c′ .column → c′ .column ≤ countOf r → f c′ ≡ g c′)
     → Agree im f g (stepFrom r p im c)
 unfolding stepFrom
-agree r p im c f g h =
-    agree-after im f g (headOf r p) _ (λ x.
-    agree-test im f g (ltb (x .columns) (c .column)) (why 14 (c .column)) _
-    (agree-test im f g (ltb (length im) (x .nulls)) (why 9 0) _
-    (agree-test im f g (ltb (length im) (c .offset)) (why 9 (c .column)) _ (agree-slots r p im (c .column) (c .offset) f g h))))
+agree r p im c f g h = go (slotsLeft r p im c) refl
+  where
+    go : (x : Outcome (List Slot)) → slotsLeft r p im c ≡ x → Agree im f g (after x (λ is. stepOver is im (c .offset)))
+    go (ok is) e = rw (← left-stands r p im c is e .slots) (agree-slots r p im (c .column) (c .offset) f g h)
+    go (refused w) e = refl
 
--- more steps than enough change nothing
-pub enough : (m : ℕ) (r p im : List ℕ) (c : Cursor) → countOf r - c .column < m → walkSteps m r p im c ≡ walkSteps (suc m) r p im c
-unfolding walkSteps
-enough zero r p im c l = absurd (omega arith)
-enough (suc m) r p im c l = agree r p im c (λ c′. walkSteps m r p im c′) (λ c′. walkSteps (suc m) r p im c′) (λ c′ a b. enough m r p im c′ (omega arith))
+-- the walk is the step's answer and then the walk from the step's cursor
+pub walk-on : (r p im : List ℕ) (c : Cursor) → walkFrom r p im c ≡ onward (walkFrom r p im) im (stepFrom r p im c)
+unfolding walkFrom stepFrom
+walk-on r p im c = go (slotsLeft r p im c) refl
+  where
+    go : (x : Outcome (List Slot)) → slotsLeft r p im c ≡ x
+        → goingOn (λ is. readSlots is (drop (c .offset) im) (c .offset)) x ≡ onward (walkFrom r p im) im (after x (λ is. stepOver is im (c .offset)))
+    go (ok is) e =
+        let s = left-stands r p im c is e in
+        rw (← s .slots) (sym (onward-slots r p im (c .column) (c .offset) (s .tested) (s .column) (s .nulls) (s .offset)))
+    go (refused w) e = refl
 
-pub walk-on : (r p im : List ℕ) (c : Cursor) → walkFrom r p im c ≡ onward (λ c′. walkFrom r p im c′) im (stepFrom r p im c)
-unfolding walkSteps
-walk-on r p im c =
-    let n = countOf r in
-    agree r p im c (λ c′. walkSteps n r p im c′) (λ c′. walkSteps (suc n) r p im c′) (λ c′ a b. enough n r p im c′ (omega arith))
+-- and no other walk is, for each step's cursor stands further on
+pub only-walk : (r p im : List ℕ) (w : Cursor → Walked) → ((c : Cursor) → w c ≡ onward w im (stepFrom r p im c)) → (c : Cursor) → w c ≡ walkFrom r p im c
+only-walk r p im w h c = go (suc (countOf r)) c (omega arith)
+  where
+    go : (m : ℕ) (c : Cursor) → countOf r - c .column < m → w c ≡ walkFrom r p im c
+    go zero c l = absurd (omega arith)
+    go (suc m) c l = h c ∙ agree r p im c w (walkFrom r p im) (λ c′ a b. go m c′ (omega arith)) ∙ sym (walk-on r p im c)

@@ -9,19 +9,22 @@ use Rattle.wire.specs.Number.{leValue, leBytes}
 use Rattle.wire.specs.Signed.{signedOf, twosOf, inHalves}
 use Rattle.wire.specs.Stored.{stored, store}
 use Rattle.wire.specs.Bits.{digit, bitLsb0}
+use Rattle.wire.specs.Parts.{part}
 use Rattle.temporal.specs.Ranges.{dayFault}
 use Rattle.value.specs.declared.datum.Value.the-variants.{Null, Int, Uint, Bytes}
 use Rattle.value.specs.Data.{null, int, uint, bytes, tag, intIn, numberIn, bytesIn}
 use Rattle.value.specs.Domains.{domain}
-use Rattle.value.specs.Columns.{familyOf, isNumeric, isCharacter, isEnumOrSet, shapeIn, shapeOf, isTaken}
+use Rattle.value.specs.Types.{familyOf, isNumeric}
+use Rattle.value.specs.Columns.{shapeIn, shapeOf, isTaken}
+use Rattle.value.specs.Classes.{isCharacter, isEnumOrSet}
 use Rattle.value.specs.Shapes.{bytesOf, need, decode, fault}
-use Rattle.value.specs.Reading.{taken, cut, judged, readDatum, placed, readValue, datumOf}
-use Rattle.value.specs.Storing.{startOf, lenOf, isLent, isIn, storedBytes}
+use Rattle.value.specs.Reading.{taken, cut, judged, readDatum, datumOf}
+use Rattle.value.specs.Storing.{bytesAt, isLent, isIn, storedBytes}
 use Rattle.record.specs.Entries.{flagsHold, charsetHolds, entryHolds, entryOf}
 use Rattle.record.specs.Records.{entryIn, entriesHold, headHolds, recordValid, readRecord}
 use Rattle.image.specs.Present.{countBits, shapeAt, presentFrom}
-use Rattle.image.specs.Split.{cursor, slots, slotsAt, headOf, firstCursor, stepOver, stepFrom}
-use Rattle.image.specs.Walk.{walkSteps, walk}
+use Rattle.image.specs.Split.{cursor, slots, slotsAt, headOf, firstCursor, slotsLeft}
+use Rattle.image.specs.Walk.{readSlot, readSlots, walkFrom, walk}
 use Rattle.image.specs.Rows.{isNull}
 use Rattle.image.specs.Puts.{filled, headNulls, startImage, slotBytes, putOver, putFrom}
 use Rattle.image.specs.WriteRow.{LentValue, putRow, writeRow}
@@ -49,16 +52,16 @@ pub worked : (walk profile (7 ∷ []) row ≡ record { answers = (0, int (negsuc
     -- a record of another length, and presence bits of another length
     × (walk (take 23 profile) (7 ∷ []) row ≡ record { answers = []; how = refuse 11 0 })
     × (walk profile (7 ∷ 0 ∷ []) row ≡ record { answers = []; how = refuse 12 0 })
-unfolding leValue signedOf dayFault digit bitLsb0 familyOf isNumeric isCharacter isEnumOrSet shapeIn shapeOf isTaken need decode fault taken cut judged readDatum placed readValue datumOf flagsHold charsetHolds entryHolds entryOf entryIn entriesHold headHolds recordValid readRecord countBits shapeAt presentFrom slots slotsAt headOf firstCursor stepOver stepFrom walkSteps walk
+unfolding leValue signedOf dayFault digit bitLsb0 familyOf isNumeric isCharacter isEnumOrSet shapeIn shapeOf isTaken need decode fault taken cut judged readDatum flagsHold charsetHolds entryHolds entryOf entryIn entriesHold headHolds recordValid readRecord countBits shapeAt presentFrom slots slotsAt headOf firstCursor slotsLeft readSlot readSlots walkFrom walk
 worked = (refl, refl, refl, refl, refl, refl, refl)
 
 -- the same image written, its null bits lent with no spare bit set; and with a byte less of room
 abbrev values : List LentValue
-values = record { lent = []; value = Int (negsuc 1) } ∷ record { lent = 0x7a ∷ 0x61 ∷ 0x62 ∷ []; value = Bytes 1 2 } ∷ record { lent = []; value = Uint 200 } ∷ []
+values = record { lent = []; value = Int (negsuc 1) } ∷ record { lent = 0x7a ∷ 0x61 ∷ 0x62 ∷ []; value = Bytes (part 1 2) } ∷ record { lent = []; value = Uint 200 } ∷ []
 
 pub worked-back : (writeRow profile (7 ∷ []) (0 ∷ []) values (replicate 10 0) ≡ ok (cursor 3 9, row ++ (0 ∷ [])))
     × (writeRow profile (7 ∷ []) (0 ∷ []) values (replicate 8 0) ≡ refuse 8 0)
     -- NULL for the first column, whose null bit is not set
     × (writeRow profile (7 ∷ []) (0 ∷ []) (record { lent = []; value = Null } ∷ []) (replicate 10 0) ≡ refuse 13 0)
-unfolding leValue leBytes twosOf inHalves digit bitLsb0 stored store familyOf isNumeric isCharacter isEnumOrSet shapeIn shapeOf isTaken tag intIn numberIn bytesIn domain bytesOf taken datumOf startOf lenOf isLent isIn storedBytes flagsHold charsetHolds entryHolds entryOf entryIn entriesHold headHolds recordValid readRecord countBits shapeAt presentFrom slots slotsAt headOf isNull filled headNulls startImage slotBytes putOver putFrom putRow writeRow
+unfolding leValue leBytes twosOf inHalves digit bitLsb0 stored store familyOf isNumeric isCharacter isEnumOrSet shapeIn shapeOf isTaken tag intIn numberIn bytesIn domain bytesOf taken datumOf bytesAt isLent isIn storedBytes flagsHold charsetHolds entryHolds entryOf entryIn entriesHold headHolds recordValid readRecord countBits shapeAt presentFrom slots slotsAt headOf isNull filled headNulls startImage slotBytes putOver putFrom putRow writeRow
 worked-back = (refl, refl, refl)

@@ -66,7 +66,7 @@ pub record Lent (r p nulls : List ℕ) : Type 0 where
   pub over : Over r p
   pub size : length nulls ≡ nullBytes r p
 
-nulls-is : (r p nulls : List ℕ) → Lent r p nulls → headNulls r p nulls ≡ ok (headWith (countOf r) (nullBytes r p))
+nulls-is : (r p nulls : List ℕ) → Lent r p nulls → headNulls r p nulls ≡ ok (headWith (countOf r) (countBits p (countOf r)))
 unfolding headNulls
 nulls-is r p nulls u = rw (head-is r p (u .over), eq-eqb (length nulls) (nullBytes r p) (u .size))
 

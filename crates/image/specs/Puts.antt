@@ -13,7 +13,6 @@ use Rattle.image.specs.declared.cursor.Cursor.{Cursor}
 use Rattle.image.specs.declared.cursor.Head.{Head}
 use Rattle.image.specs.declared.put.Put.{Put}
 use Rattle.image.specs.declared.put.Put.the-variants.{Next, Refused}
-use Rattle.image.specs.Present.{countBits}
 use Rattle.image.specs.Split.{Slot, cursor, slotsAt, headOf}
 use Rattle.image.specs.Rows.{isNull}
 
@@ -33,10 +32,10 @@ headNulls r p nulls = after (headOf r p) (λ h. cond (eqb (length nulls) (h .nul
 
 -- the start: the first cursor, and the buffer with the null bits at its head
 unfoldable pub startImage : List ℕ → List ℕ → List ℕ → List ℕ → Outcome (Cursor × List ℕ)
-unfolding headNulls filled store countBits
+unfolding headNulls filled store
 startImage r p nulls buf =
     after (headNulls r p nulls) (λ h.
-    after (store buf 0 (filled (countBits p (h .columns)) nulls)) (λ x.
+    after (store buf 0 (filled (h .present) nulls)) (λ x.
     ok (cursor 0 (h .nulls), x .1)))
 
 -- the bytes of a value or NULL in a slot: 13 where value and bit disagree on NULL, or the column does not take the value

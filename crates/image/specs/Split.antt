@@ -39,13 +39,14 @@ unfoldable pub slotsAt : List ℕ → List ℕ → List ℕ → ℕ → List Slo
 unfolding presentFrom countBits slots
 slotsAt r p nulls j = slots (presentFrom (countOf r - j) r p j) (countBits p j) nulls
 
--- ---- the tests before a call on an image goes on: 11, then 12 for the presence bits. What they tell is how many columns there are, and how many bytes of null bits
+-- ---- the tests before a call on an image goes on: 11, then 12 for the presence bits. What they tell is how many columns there are, how many of them are present, and how many bytes of null
+-- bits these have
 abbrev pub headWith : ℕ → ℕ → Head
-headWith columns nulls = record { columns = columns; nulls = nulls }
+headWith columns present = record { columns = columns; present = present; nulls = bytesFor present }
 
 unfoldable pub headOf : List ℕ → List ℕ → Outcome Head
 unfolding readRecord countBits
-headOf r p = after (readRecord r) (λ n. cond (eqb (length p) (bytesFor n)) (ok (headWith n (bytesFor (countBits p n)))) (refuse 12 0))
+headOf r p = after (readRecord r) (λ n. cond (eqb (length p) (bytesFor n)) (ok (headWith n (countBits p n))) (refuse 12 0))
 
 -- the first cursor: column 0, behind the null bits
 unfoldable pub firstCursor : List ℕ → List ℕ → Outcome Cursor
@@ -68,15 +69,20 @@ stepOver (i ∷ is) im o =
     (after (readValue (i .present .shape) (i .present .column) im o) (λ x.
     ok (value (i .present .column) (x .0) (cursor (i .present .column + 1) (x .1)))))
 
--- from any cursor: 14 for a column above n; 9 at 0 for null bits that are not whole; 9 at the cursor's column for an offset past the image
-unfoldable pub stepFrom : List ℕ → List ℕ → List ℕ → Cursor → Outcome Told
-unfolding headOf slotsAt stepOver
-stepFrom r p im c =
+-- the slots that are left from any cursor on: 14 for a column above n; 9 at 0 for null bits that are not whole; 9 at the cursor's column for an offset past the image
+unfoldable pub slotsLeft : List ℕ → List ℕ → List ℕ → Cursor → Outcome (List Slot)
+unfolding headOf slotsAt
+slotsLeft r p im c =
     after (headOf r p) (λ h.
     cond (ltb (h .columns) (c .column)) (refuse 14 (c .column))
     (cond (ltb (length im) (h .nulls)) (refuse 9 0)
     (cond (ltb (length im) (c .offset)) (refuse 9 (c .column))
-    (stepOver (slotsAt r p im (c .column)) im (c .offset)))))
+    (ok (slotsAt r p im (c .column))))))
+
+-- a step from any cursor
+unfoldable pub stepFrom : List ℕ → List ℕ → List ℕ → Cursor → Outcome Told
+unfolding slotsLeft stepOver
+stepFrom r p im c = after (slotsLeft r p im c) (λ is. stepOver is im (c .offset))
 
 -- ---- what the answers say
 abbrev pub told : Step → Outcome Told

@@ -1,12 +1,13 @@
--- The whole walk, by steps: the answers up to the end or up to a refusal. Assumes nothing.
-use Prim.Native.Nat.{ℕ, zero, suc}
+-- The whole walk: the slots from a cursor on, one after the other, up to the end or up to a refusal. Assumes nothing.
+use Prim.Native.Nat.{ℕ, _+_}
+use mathlib.Core.Bool.{cond}
 use mathlib.Core.List.{List, [], _∷_}
+use lib.ListN.{drop}
 use Rattle.wire.specs.Outcome.{Outcome, ok, refused}
 use Rattle.value.specs.Data.{Datum, null}
-use Rattle.value.specs.Reading.{datumOf}
-use Rattle.record.specs.Records.{countOf}
+use Rattle.value.specs.Reading.{readDatum, datumOf}
 use Rattle.image.specs.declared.cursor.Cursor.{Cursor}
-use Rattle.image.specs.Split.{Told, null as null₁, value, end, stepFrom, firstCursor}
+use Rattle.image.specs.Split.{Slot, Told, null as null₁, value, end, slotsLeft, firstCursor}
 
 -- an answer for each column that was met, NULL or a value; and the bytes used, or why the walk stopped
 pub record Walked : Type 0 where
@@ -20,28 +21,40 @@ stopped how = record { answers = []; how = how }
 abbrev pub withAnswer : ℕ × Datum → Walked → Walked
 withAnswer a w = record { answers = a ∷ w .answers; how = w .how }
 
--- what a step told, and then the walk f from its cursor
+-- a walk that goes on from what was read, or stops at a refusal
+abbrev pub goingOn : {A : Type 0} → (A → Walked) → Outcome A → Walked
+goingOn f (ok a) = f a
+goingOn f (refused w) = stopped (refused w)
+
+-- ---- slots
+-- what stands in a slot, s being the image from there on, and how many bytes it takes: NULL takes none
+unfoldable pub readSlot : Slot → List ℕ → Outcome (Datum × ℕ)
+unfolding readDatum
+readSlot i s = cond (i .null) (ok (null, 0)) (readDatum (i .present .shape) (i .present .column) s)
+
+-- the answer of column j, and then the walk f from so many bytes on
+abbrev pub answered : ℕ → (ℕ → Walked) → Outcome (Datum × ℕ) → Walked
+answered j f = goingOn (λ x. withAnswer (j, x .0) (f (x .1)))
+
+-- slots one after the other, s being the image from offset o on
+unfoldable pub readSlots : List Slot → List ℕ → ℕ → Walked
+unfolding readSlot
+readSlots [] s o = stopped (ok o)
+readSlots (i ∷ is) s o = answered (i .present .column) (λ n. readSlots is (drop n s) (o + n)) (readSlot i s)
+
+-- ---- the walk from a cursor on
+unfoldable pub walkFrom : List ℕ → List ℕ → List ℕ → Cursor → Walked
+unfolding slotsLeft readSlots
+walkFrom r p im c = goingOn (λ is. readSlots is (drop (c .offset) im) (c .offset)) (slotsLeft r p im c)
+
+-- the whole walk
+unfoldable pub walk : List ℕ → List ℕ → List ℕ → Walked
+unfolding firstCursor walkFrom
+walk r p im = goingOn (walkFrom r p im) (firstCursor r p)
+
+-- ---- by steps: what a step told, and then the walk f from its cursor
 abbrev pub onward : (Cursor → Walked) → List ℕ → Outcome Told → Walked
 onward f im (ok (null₁ j c)) = withAnswer (j, null) (f c)
 onward f im (ok (value j v c)) = withAnswer (j, datumOf im v) (f c)
 onward f im (ok (end used)) = stopped (ok used)
 onward f im (refused r) = stopped (refused r)
-
--- at most m steps, which are enough if m is more than the columns left
-unfoldable pub walkSteps : ℕ → List ℕ → List ℕ → List ℕ → Cursor → Walked
-unfolding stepFrom
-walkSteps zero r p im c = stopped (ok 0)
-walkSteps (suc m) r p im c = onward (walkSteps m r p im) im (stepFrom r p im c)
-
--- the walk from a cursor on
-abbrev pub walkFrom : List ℕ → List ℕ → List ℕ → Cursor → Walked
-walkFrom r p im c = walkSteps (suc (countOf r)) r p im c
-
-abbrev pub fromFirst : (Cursor → Walked) → Outcome Cursor → Walked
-fromFirst f (ok c) = f c
-fromFirst f (refused r) = stopped (refused r)
-
--- the whole walk
-unfoldable pub walk : List ℕ → List ℕ → List ℕ → Walked
-unfolding firstCursor walkSteps datumOf
-walk r p im = fromFirst (walkFrom r p im) (firstCursor r p)

@@ -17,19 +17,20 @@ pub enum First {
     Refused(Refusal),
 }
 
-// What a valid record and presence bits of its length say: how many columns there are, and how many bytes of null bits.
-pub(crate) struct Head {
+// What a valid record and presence bits of its length say: how many columns there are, how many of them are present, and how many bytes of null bits these have.
+pub struct Head {
     pub columns: usize,
+    pub present: usize,
     pub nulls: usize,
 }
 
-pub(crate) enum HeadRead {
+pub enum HeadRead {
     Read(Head),
     Refused(Refusal),
 }
 
 // The tests before any call on an image: refusal 11 for the record, then 12 for the presence bits.
-pub(crate) fn read_head(profile: &[u8], presence: &[u8]) -> HeadRead
+pub fn read_head(profile: &[u8], presence: &[u8]) -> HeadRead
     ensures { λ r. ⌜ headTold r ≡ headOf (now (profile .entry)) (now (presence .entry)) ⌝ }
 {
     let columns = match record::read_record(profile) {
@@ -39,8 +40,13 @@ pub(crate) fn read_head(profile: &[u8], presence: &[u8]) -> HeadRead
     if presence.len() != wire::bytes_for(columns) {
         return HeadRead::Refused(wire::refuse(BAD_BITS, 0));
     }
-    let nulls = wire::bytes_for(count_bits(presence, columns));
-    HeadRead::Read(Head { columns, nulls })
+    let present = count_bits(presence, columns);
+    let nulls = wire::bytes_for(present);
+    HeadRead::Read(Head {
+        columns,
+        present,
+        nulls,
+    })
 }
 
 // The cursor that a walk begins with: column 0, behind the null bits.

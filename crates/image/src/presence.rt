@@ -16,7 +16,7 @@ fn weight(s: &[u8], i: usize) -> usize
 }
 
 // How many of the first n bits are set.
-pub(crate) fn count_bits(s: &[u8], n: usize) -> usize
+pub fn count_bits(s: &[u8], n: usize) -> usize
     ensures { λ r. ⌜ r ≡ countBits (now (s .entry)) n ⌝ }
 {
     let mut count: usize = 0;
@@ -28,9 +28,8 @@ pub(crate) fn count_bits(s: &[u8], n: usize) -> usize
     count
 }
 
-// The first set bit from `from` on, or n.
-pub(crate) fn first_set(s: &[u8], from: usize, n: usize) -> usize
-    requires { ⌜ from ≤ n ⌝ }
+// The first set bit from `from` on and below n, or n; `from` itself if that is past n.
+pub fn first_set(s: &[u8], from: usize, n: usize) -> usize
     ensures { λ r. ⌜ r ≡ firstFrom (n - from) (now (s .entry)) from ⌝ }
 {
     let mut j = from;

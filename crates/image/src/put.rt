@@ -4,6 +4,7 @@ use crate::cursor::HeadRead;
 use crate::cursor::read_head;
 use crate::presence::count_bits;
 use crate::presence::first_set;
+use crate::step::NullBit;
 use crate::step::Standing;
 use value::Value;
 use wire::Refusal;
@@ -58,7 +59,7 @@ pub fn start(profile: &[u8], presence: &[u8], nulls: &[u8], buf: &mut [u8]) -> P
     if buf.len() < offset {
         return Put::Refused(wire::refuse(NO_ROOM, 0));
     }
-    put_nulls(buf, nulls, count_bits(presence, head.columns));
+    put_nulls(buf, nulls, head.present);
     Put::Next(Cursor { column: 0, offset })
 }
 
@@ -106,7 +107,7 @@ fn put_inner(
     }
     let offset = at.offset;
     let behind = column + 1;
-    let is_marked = wire::bit_lsb0(nulls, at.rank);
+    let is_marked = wire::bit_lsb0(nulls, at.bit.0);
     if is_null(value) {
         if !is_marked {
             return Put::Refused(wire::refuse(NOT_TAKEN, column));
@@ -165,10 +166,10 @@ impl Cursor {
         if columns < column {
             return Put::Refused(wire::refuse(NO_COLUMN, column));
         }
-        let rank = count_bits(presence, column);
+        let bit = NullBit(count_bits(presence, column));
         let at = Standing {
             column,
-            rank,
+            bit,
             offset,
         };
         put_inner(profile, presence, nulls, columns, at, value, lent, buf)

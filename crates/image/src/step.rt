@@ -30,11 +30,13 @@ pub enum Step {
     Refused(Refusal),
 }
 
-// A cursor that knows the rank of its null bit: how many present columns stand before its own. A loop over the steps of a row need not count them again; the public step, which believes no
-// cursor, counts them each time.
+// Which null bit: as many as present columns stand before the column.
+pub(crate) struct NullBit(pub usize);
+
+// A cursor that knows its null bit. A loop over the steps of a row need not count present columns again; the public step, which believes no cursor, counts them each time.
 pub(crate) struct Standing {
     pub column: usize,
-    pub rank: usize,
+    pub bit: NullBit,
     pub offset: usize,
 }
 
@@ -72,13 +74,13 @@ pub(crate) fn step_inner(
         return Inner::End { used: at.offset };
     }
     let behind = column + 1;
-    let rank = at.rank + 1;
-    if wire::bit_lsb0(image, at.rank) {
+    let rank = at.bit.0 + 1;
+    if wire::bit_lsb0(image, at.bit.0) {
         return Inner::Null {
             column,
             next: Standing {
                 column: behind,
-                rank,
+                bit: NullBit(rank),
                 offset: at.offset,
             },
         };
@@ -90,7 +92,7 @@ pub(crate) fn step_inner(
             value,
             next: Standing {
                 column: behind,
-                rank,
+                bit: NullBit(rank),
                 offset: next,
             },
         },
@@ -107,8 +109,8 @@ fn cursor_of(at: Standing) -> Cursor
     }
 }
 
-// The answer without ranks.
-fn without_rank(step: Inner) -> Step
+// The answer without null bits.
+fn without_bit(step: Inner) -> Step
     ensures { λ r. ⌜ told r ≡ toldInner step ⌝ }
 {
     match step {
@@ -151,12 +153,12 @@ impl Cursor {
         if image.len() < offset {
             return Step::Refused(wire::refuse(IMAGE_SHORT, column));
         }
-        let rank = count_bits(presence, column);
+        let bit = NullBit(count_bits(presence, column));
         let at = Standing {
             column,
-            rank,
+            bit,
             offset,
         };
-        without_rank(step_inner(profile, presence, image, columns, at))
+        without_bit(step_inner(profile, presence, image, columns, at))
     }
 }

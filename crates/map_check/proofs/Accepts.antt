@@ -7,11 +7,12 @@ use mathlib.Core.List.{List}
 use borrow.Author.Tests.{eqb-true}
 use lib.Dec.{eqb}
 use Rattle.wire.proofs.Outcomes.{by-test, both-true}
-use Rattle.value.specs.declared.column.Family.{Family}
-use Rattle.value.specs.declared.column.Family.the-variants.{Integer, Float, Double, Year, Timestamp, Date, Time, Datetime, Timestamp2, Datetime2, Time2, Varchar, Char, Blob, Json, Bit, Decimal, Enum, Set, Unknown}
+use Rattle.value.specs.declared.types.Family.{Family}
+use Rattle.value.specs.declared.types.Family.the-variants.{Integer, Float, Double, Year, Timestamp, Date, Time, Datetime, Timestamp2, Datetime2, Time2, Varchar, Char, Blob, Json, Bit, Decimal, Enum, Set, Unknown}
 use Rattle.value.specs.declared.shape.Shape.the-variants.{Unsigned, Signed, NotTaken}
-use Rattle.value.specs.Columns.{familyOf, or30, realType, given, shapeIn, shapeOf, isTaken, isNumeric}
-use Rattle.map_check.specs.declared.column.Declared.{Declared}
+use Rattle.value.specs.Types.{familyOf, or30, realType, isNumeric}
+use Rattle.value.specs.Columns.{given, shapeIn, shapeOf, isTaken}
+use Rattle.map_check.specs.declared.declare.Declared.{Declared}
 use Rattle.map_check.specs.Columns.{metaByte, declared, isReal, realColumn, isAccepted}
 
 -- ---- the sign of a column decides nothing of whether it is taken

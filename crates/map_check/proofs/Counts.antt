@@ -7,10 +7,10 @@ use native.Mathlib.Omega.{arith}
 use lib.ListN.{drop}
 use lib.Dec.{eqb}
 use Rattle.wire.specs.Outcome.{ok}
-use Rattle.value.specs.declared.column.Dialect.{Dialect}
-use Rattle.value.specs.Columns.{hasSignBit, hasCharset, isEnumOrSet}
+use Rattle.value.specs.declared.classes.Dialect.{Dialect}
+use Rattle.value.specs.Classes.{hasSignBit, hasCharset, isEnumOrSet}
 use Rattle.table_map.specs.Fields.{signBits, countSignBits}
-use Rattle.map_check.specs.declared.column.Declared.{Declared}
+use Rattle.map_check.specs.declared.declare.Declared.{Declared}
 use Rattle.map_check.specs.declared.rank.Rank.{Rank}
 use Rattle.map_check.specs.declared.rank.Ranks.{Ranks}
 use Rattle.map_check.specs.Columns.{metaBytes, declared, takeColumns, declareAll}

@@ -12,16 +12,16 @@ use lib.Seq.{getD-drop, drop-drop}
 use lib.Dec.{leb, ltb, eqb}
 use Rattle.wire.specs.Outcome.{Outcome, ok, refused}
 use Rattle.wire.specs.Packed.{readPacked}
+use Rattle.wire.specs.declared.part.Part.{Part}
+use Rattle.wire.specs.Parts.{lentPart}
 use Rattle.wire.proofs.Outcomes.{same-ok, ok-not-refused, both-true}
-use Rattle.table_map.specs.declared.part.Part.{Part}
-use Rattle.table_map.specs.Parts.{lentPart}
 use Rattle.table_map.specs.Lists.{Rule, Stepped, end, item, step, Walked, onward, walk, walkSteps, integerItem, pairItem}
 use Rattle.table_map.proofs.Items.{Moves, integer-moves, pair-moves}
 use Rattle.table_map.proofs.Walks.{walk-steps}
 use Rattle.map_check.specs.declared.contents.Meaning.the-variants.{Charset}
 use Rattle.map_check.specs.declared.rank.Rank.{Rank}
-use Rattle.map_check.specs.declared.field.Found.{Found}
-use Rattle.map_check.specs.declared.field.Found.the-variants.{Value, Nothing}
+use Rattle.map_check.specs.declared.found.Found.{Found}
+use Rattle.map_check.specs.declared.found.Found.the-variants.{Value, Nothing}
 use Rattle.map_check.specs.declared.facts.Charsets.{Charsets}
 use Rattle.map_check.specs.declared.charset.CharsetCursor.{CharsetCursor}
 use Rattle.map_check.specs.declared.charset.CharsetTurn.{CharsetTurn}

@@ -10,9 +10,9 @@ use lib.Seq.{drop-cons, drop-drop, getD-drop}
 use lib.Dec.{leb, eqb}
 use Rattle.wire.specs.Outcome.{Outcome, ok, refused, refuse, why, after}
 use Rattle.wire.proofs.Outcomes.{after-is-ok, test-is-ok, by-test, ok-not-refused, same-ok}
-use Rattle.value.specs.declared.column.Dialect.{Dialect}
-use Rattle.value.specs.Columns.{familyOf, isKnown}
-use Rattle.map_check.specs.declared.column.Declared.{Declared}
+use Rattle.value.specs.declared.classes.Dialect.{Dialect}
+use Rattle.value.specs.Types.{familyOf, isKnown}
+use Rattle.map_check.specs.declared.declare.Declared.{Declared}
 use Rattle.map_check.specs.declared.rank.Ranks.{Ranks}
 use Rattle.map_check.specs.Columns.{metaBytes, metaByte, declared, isAccepted, takeColumn, takeColumns, declareAll}
 use Rattle.map_check.specs.Ranks.{ranksAfter, ranksFrom}

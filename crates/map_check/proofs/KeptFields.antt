@@ -10,26 +10,25 @@ use native.Mathlib.Omega.{arith}
 use borrow.Author.Tests.{leb-true, eqb-true, eq-eqb, not-true}
 use lib.ListN.{length, getD}
 use lib.Dec.{leb, eqb}
-use Rattle.wire.specs.declared.refusal.Refusal.{Refusal}
 use Rattle.wire.specs.Outcome.{Outcome, ok, refused}
-use Rattle.wire.proofs.Outcomes.{after-is-ok, by-test, ok-not-refused, same-ok, same-refused, both-true}
-use Rattle.table_map.specs.declared.part.Part.{Part}
+use Rattle.wire.specs.Parts.{lentPart}
+use Rattle.wire.specs.declared.part.Part.{Part}
+use Rattle.wire.proofs.Outcomes.{after-is-ok, by-test, ok-not-refused, same-ok, both-true}
 use Rattle.table_map.specs.declared.field.Fields.{Fields as FieldCursor}
-use Rattle.table_map.specs.Parts.{lentPart}
 use Rattle.table_map.specs.Lists.{Stepped, end, item, step, Walked, whole, onward, walkSteps, walk}
 use Rattle.table_map.specs.Fields.{isField, fieldItem}
 use Rattle.table_map.proofs.Steps.{item-read}
 use Rattle.table_map.proofs.Optional.{field-read}
 use Rattle.map_check.specs.declared.rank.Ranks.{Ranks}
-use Rattle.map_check.specs.declared.field.Found.{Found}
-use Rattle.map_check.specs.declared.field.Found.the-variants.{Value, Nothing}
+use Rattle.map_check.specs.declared.found.Found.{Found}
+use Rattle.map_check.specs.declared.found.Found.the-variants.{Value, Nothing}
 use Rattle.map_check.specs.Contents.{contentsFull}
-use Rattle.map_check.specs.Fields.{stood, rivalOf, isKept, keep, keepSteps, keepFields, firstOf, fieldsFrom, done}
+use Rattle.map_check.specs.Fields.{stood, rivalOf, standsGiven, standsBehind, keep, keepSteps, keepFields, firstOf, fieldsFrom}
 
 -- ---- fields that are kept behind fields of some types: each is known and kept behind those before it
 pub data Kept (sizes : Ranks) (n : ℕ) (s : List ℕ) : List ℕ → List (ℕ × Part) → Type 0 where
   none : (before : List ℕ) → Kept sizes n s before []
-  more : (before : List ℕ) (f : ℕ × Part) (fs : List (ℕ × Part)) → isField (f .0) ≡ true → isKept sizes n s before f ≡ true
+  more : (before : List ℕ) (f : ℕ × Part) (fs : List (ℕ × Part)) → isField (f .0) ≡ true → standsBehind sizes n s before f ≡ true
       → Kept sizes n s (f .0 ∷ before) fs → Kept sizes n s before (f ∷ fs)
 
 -- what keeping some fields says: they are such, and a walk's, which ends whole
@@ -53,13 +52,13 @@ kept-says sizes c (suc m) s before at fs e =
     go : ((kind next : ℕ) (gs : List (ℕ × Part)) → rest kind next ≡ ok gs
         → Says sizes c s (kind ∷ before) gs (walkSteps m (fieldItem (c .numeric) (c .columns)) s next))
         → (o : Outcome (Stepped (ℕ × Part) ℕ)) → step (fieldItem (c .numeric) (c .columns)) s at ≡ o
-        → keep rest (isKept sizes (c .columns) s before) at o ≡ ok fs
+        → keep rest (standsBehind sizes (c .columns) s before) at o ≡ ok fs
         → Says sizes c s before fs (onward (walkSteps m (fieldItem (c .numeric) (c .columns)) s) o)
     go again (ok end) x y =
         subst (λ (gs : List (ℕ × Part)). Says sizes c s before gs (record { items = []; how = whole })) (same-ok y)
         (record { fields = none before; items = refl; how = refl })
     go again (ok (item f next)) x y =
-        by-test (isKept sizes (c .columns) s before f) _ _ _ y
+        by-test (standsBehind sizes (c .columns) s before f) _ _ _ y
         (λ t u.
         let z = after-is-ok (rest (f .0) next) (λ gs. ok (f ∷ gs)) fs u in
         let a = again (f .0) next (z .0) (z .1) in
@@ -82,31 +81,14 @@ kept-walk sizes c s fs e =
     let x = kept-says sizes c (suc (length s - c .at)) s [] (c .at) fs e in
     (x .items, x .how)
 
--- so the one answer that all are kept, or why not, tells which
-pub kept-done : (sizes : Ranks) (c : FieldCursor) (s : List ℕ) → done (keepFields sizes c s) ≡ ok tt → keepFields sizes c s ≡ ok (fieldsFrom c s)
-kept-done sizes c s e = go (keepFields sizes c s) refl e
-  where
-    go : (o : Outcome (List (ℕ × Part))) → keepFields sizes c s ≡ o → done o ≡ ok tt → o ≡ ok (fieldsFrom c s)
-    go (ok fs) x y = rw (kept-walk sizes c s fs x .0)
-    go (refused w) x y = absurd (ok-not-refused (sym y))
-
-pub kept-refused : (sizes : Ranks) (c : FieldCursor) (s : List ℕ) (w : Refusal) → done (keepFields sizes c s) ≡ refused w → keepFields sizes c s ≡ refused w
-kept-refused sizes c s w e = go (keepFields sizes c s) e
-  where
-    go : (o : Outcome (List (ℕ × Part))) → done o ≡ refused w → o ≡ refused w
-    go (ok fs) y = absurd (ok-not-refused y)
-    go (refused v) y =
-        let x : v ≡ w = same-refused y in
-        rw x
-
 -- ---- what a field that is kept is, behind those before it
-record Fits (sizes : Ranks) (n : ℕ) (s before : List ℕ) (f : ℕ × Part) : Type 0 where
-  first : stood (f .0) before ≡ false
-  alone : stood (rivalOf (f .0)) before ≡ false
-  contents : contentsFull sizes n (f .0) (lentPart s (f .1)) ≡ true
+pub record Fits (sizes : Ranks) (n : ℕ) (s before : List ℕ) (f : ℕ × Part) : Type 0 where
+  pub first : stood (f .0) before ≡ false
+  pub alone : stood (rivalOf (f .0)) before ≡ false
+  pub contents : contentsFull sizes n (f .0) (lentPart s (f .1)) ≡ true
 
-fits : (sizes : Ranks) (n : ℕ) (s before : List ℕ) (f : ℕ × Part) → isKept sizes n s before f ≡ true → Fits sizes n s before f
-unfolding isKept
+pub fits : (sizes : Ranks) (n : ℕ) (s before : List ℕ) (f : ℕ × Part) → standsBehind sizes n s before f ≡ true → Fits sizes n s before f
+unfolding standsGiven
 fits sizes n s before f e =
     let full = contentsFull sizes n (f .0) (lentPart s (f .1)) in
     let x = both-true (not (stood (f .0) before)) (not (stood (rivalOf (f .0)) before) && full) e in

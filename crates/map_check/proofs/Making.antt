@@ -10,15 +10,16 @@ use Rattle.wire.specs.Number.{leBytes}
 use Rattle.wire.specs.Stored.{stored, store, leftOf}
 use Rattle.wire.specs.declared.store.Written.the-variants.{Done}
 use Rattle.wire.proofs.Stores.{length-stored, stored-none, stored-stored, store-fits, Wrote, wrote, wrote-two}
-use Rattle.value.specs.declared.column.Dialect.{Dialect}
-use Rattle.value.specs.declared.column.Family.{Family}
-use Rattle.value.specs.declared.column.Family.the-variants.{Integer, Float, Double, Year, Timestamp, Date, Time, Datetime, Timestamp2, Datetime2, Time2, Varchar, Char, Blob, Json, Bit, Decimal, Enum, Set, Unknown}
-use Rattle.value.specs.Columns.{familyOf, metadataBytes, isCharacter, hasCharset, isEnumOrSet}
+use Rattle.value.specs.declared.classes.Dialect.{Dialect}
+use Rattle.value.specs.declared.types.Family.{Family}
+use Rattle.value.specs.declared.types.Family.the-variants.{Integer, Float, Double, Year, Timestamp, Date, Time, Datetime, Timestamp2, Datetime2, Time2, Varchar, Char, Blob, Json, Bit, Decimal, Enum, Set, Unknown}
+use Rattle.value.specs.Types.{familyOf, metadataBytes}
+use Rattle.value.specs.Classes.{isCharacter, hasCharset, isEnumOrSet}
 use Rattle.record.specs.declared.entry.Entry.{Entry}
 use Rattle.record.specs.Entries.{entryBytes}
-use Rattle.record.specs.Records.{headBytes, entriesBytes, recordBytes}
+use Rattle.record.specs.Records.{entryAt, headBytes, entriesBytes, recordBytes}
 use Rattle.record.proofs.Made.{made-length}
-use Rattle.map_check.specs.declared.column.Declared.{Declared}
+use Rattle.map_check.specs.declared.declare.Declared.{Declared}
 use Rattle.map_check.specs.declared.rank.Place.{Place}
 use Rattle.map_check.specs.declared.rank.Ranks.{Ranks}
 use Rattle.map_check.specs.declared.facts.Facts.{Facts}
@@ -146,9 +147,9 @@ all-come : (d : Dialect) (s : List ℕ) (x : Facts) (types meta : List ℕ) (k :
 all-come d s x types meta k h = rw (h .place, h .metadata, h .ranks)
 
 pub start-stored : (d : Dialect) (s : List ℕ) (x : Facts) (types meta : List ℕ) (k : Standing) (buf : List ℕ) → Starts s x k
-    → stored buf (6 + 6 * k .place .0) (entriesBytes (toCome d s x types meta k)) ≡ stored buf 6 (entriesBytes (entriesFrom d s x (declareAll types meta) (place 0) noRanks))
+    → stored buf (entryAt (k .place .0)) (entriesBytes (toCome d s x types meta k)) ≡ stored buf (entryAt 0) (entriesBytes (entriesFrom d s x (declareAll types meta) (place 0) noRanks))
 start-stored d s x types meta k buf h =
-    let n : 6 + 6 * k .place .0 ≡ 6 = omega (arith, ap (λ (p : Place). p .0) (h .place)) in
+    let n : entryAt (k .place .0) ≡ entryAt 0 = omega (arith, ap (λ (p : Place). p .0) (h .place)) in
     rw (all-come d s x types meta k h, n)
 
 -- behind the last none is
@@ -158,17 +159,17 @@ none-come d s x types meta k h = rw (drop-of-length-le types {i = k .place .0} h
 
 -- a turn's entry is stored where the entries to come were, and what is left to come behind it
 pub turn-stored : (d : Dialect) (s : List ℕ) (x : Facts) (types meta : List ℕ) (k : Standing) (t : EntryTurn) (buf buf′ z : List ℕ) → Came d s x types meta k t
-    → k .place .0 < length types → 6 + 6 * length types ≤ length buf → buf′ ≡ leftOf buf (store buf (6 + 6 * k .place .0) (entryBytes (t .entry)))
-    → stored buf (6 + 6 * k .place .0) (entriesBytes (toCome d s x types meta k)) ≡ z
-    → (length buf′ ≡ length buf) × (stored buf′ (6 + 6 * t .next .place .0) (entriesBytes (toCome d s x types meta (t .next))) ≡ z)
+    → k .place .0 < length types → entryAt (length types) ≤ length buf → buf′ ≡ leftOf buf (store buf (entryAt (k .place .0)) (entryBytes (t .entry)))
+    → stored buf (entryAt (k .place .0)) (entriesBytes (toCome d s x types meta k)) ≡ z
+    → (length buf′ ≡ length buf) × (stored buf′ (entryAt (t .next .place .0)) (entriesBytes (toCome d s x types meta (t .next))) ≡ z)
 unfolding entriesBytes
 turn-stored d s x types meta k t buf buf′ z c h l e g =
-    let at = 6 + 6 * k .place .0 in
+    let at = entryAt (k .place .0) in
     let v = entryBytes (t .entry) in
     let n : length v ≡ 6 = entry-length (t .entry) in
     let f = store-fits buf v at (omega arith) in
     let p : buf′ ≡ stored buf at v = e ∙ rw f in
-    let m : 6 + 6 * t .next .place .0 ≡ at + length v = omega (arith, c .place) in
+    let m : entryAt (t .next .place .0) ≡ at + length v = omega (arith, c .place) in
     let w = entriesBytes (toCome d s x types meta (t .next)) in (
       ap length p ∙ length-stored buf at v (omega arith),
       rw (p, m) (stored-stored buf at v w (omega arith) ∙ ap (λ (es : List Entry). stored buf at (entriesBytes es)) (sym (c .entry)) ∙ g),
@@ -182,16 +183,16 @@ all-stored d s x types meta k buf z at h g =
     sym (stored-none buf at) ∙ ap (λ (es : List Entry). stored buf at (entriesBytes es)) (sym (none-come d s x types meta k h)) ∙ g
 
 -- the whole record: its head, and its entries
-pub record-written : (es : List Entry) (n : ℕ) (old x₁ x : List ℕ) → length es ≡ n → 6 + 6 * n ≤ length old → x₁ ≡ leftOf old (store old 0 (headBytes n))
-    → x ≡ stored x₁ 6 (entriesBytes es) → Wrote old 0 (recordBytes es) (Done (6 + 6 * n)) x
+pub record-written : (es : List Entry) (n : ℕ) (old x₁ x : List ℕ) → length es ≡ n → entryAt n ≤ length old → x₁ ≡ leftOf old (store old 0 (headBytes n))
+    → x ≡ stored x₁ (entryAt 0) (entriesBytes es) → Wrote old 0 (recordBytes es) (Done (entryAt n)) x
 unfolding recordBytes
 record-written es n old x₁ x e h p q =
     let m : length (entriesBytes es) ≡ 6 * n = bytes-length es ∙ ap (λ (k : ℕ). 6 * k) e in
     let f = store-fits old (headBytes n) 0 (omega (arith, head-length n)) in
     let y : x₁ ≡ stored old 0 (headBytes n) = p ∙ rw f in
     let l : length x₁ ≡ length old = ap length y ∙ length-stored old 0 (headBytes n) (omega (arith, head-length n)) in
-    rw e (wrote-two old (headBytes n) (entriesBytes es) x₁ x 0 6 (Done (6 + 6 * n)) (head-length n) (omega arith) p
-    (wrote x₁ (entriesBytes es) x 6 (6 * n) (6 + 6 * n) m (omega arith) refl q))
+    rw e (wrote-two old (headBytes n) (entriesBytes es) x₁ x 0 6 (Done (entryAt n)) (head-length n) (omega arith) p
+    (wrote x₁ (entriesBytes es) x 6 (6 * n) (entryAt n) m (omega arith) refl q))
 
 -- a record's entries are as many as the types
 pub map-entries-length : (d : Dialect) (s : List ℕ) (x : Facts) (types meta : List ℕ)

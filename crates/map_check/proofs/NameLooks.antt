@@ -1,19 +1,13 @@
--- The names of columns: a turn of the loop over the list that is looked at, and the bytes of the names field. Assumes nothing.
+-- The names of columns: a turn of the loop over the list that is looked at. Assumes nothing.
 use Prim.Native.Nat.{ℕ, zero, suc, _-_}
 use mathlib.Core.Path.{_≡_, refl}
 use mathlib.Core.List.{List}
 use native.Mathlib.Omega.{arith}
-use borrow.Author.Tests.{le-leb}
-use lib.ListN.{length}
 use Rattle.wire.specs.declared.refusal.Refusal.{Refusal}
 use Rattle.wire.specs.Outcome.{ok, refused, refuse}
-use Rattle.table_map.specs.declared.part.Part.{Part}
-use Rattle.table_map.specs.Parts.{lentPart}
+use Rattle.wire.specs.declared.part.Part.{Part}
 use Rattle.table_map.specs.Lists.{end, item, step, stringItem}
-use Rattle.map_check.specs.declared.field.Found.{Found}
-use Rattle.map_check.specs.declared.field.Found.the-variants.{Value, Nothing}
-use Rattle.map_check.specs.Fields.{valueIn}
-use Rattle.map_check.specs.Names.{stringAt, partFound}
+use Rattle.map_check.specs.Names.{stringAt}
 
 -- ---- a string, `left` strings before the one asked
 pub looks-found : (left asked : ℕ) (s : List ℕ) (at : ℕ) (p : Part) (next : ℕ) → left ≡ 0 → step stringItem s at ≡ ok (item p next)
@@ -39,8 +33,3 @@ pub looks-broken : (left asked : ℕ) (s : List ℕ) (at : ℕ) (w : Refusal) �
 unfolding stringAt
 looks-broken zero asked s at w e = rw e
 looks-broken (suc i) asked s at w e = rw e
-
--- ---- the bytes of a value that was found are those of its part
-pub in-part : (s : List ℕ) (f : Found) → lentPart s (partFound f) ≡ valueIn s f
-in-part s (Value p) = refl
-in-part s Nothing = rw (le-leb 0 (length s) (omega arith))

@@ -5,17 +5,19 @@ use mathlib.Core.List.{List, [], _∷_}
 use Rattle.wire.specs.Outcome.{ok, refuse}
 use Rattle.wire.specs.Packed.{readPacked, formOf}
 use Rattle.wire.specs.Number.{leValue}
-use Rattle.value.specs.Columns.{familyOf, isNumeric, hasSignBit}
-use Rattle.value.specs.declared.column.Dialect.the-variants.{Document}
+use Rattle.wire.specs.Parts.{part, within}
+use Rattle.value.specs.Types.{familyOf, isNumeric}
+use Rattle.value.specs.Classes.{hasSignBit}
+use Rattle.value.specs.declared.classes.Dialect.the-variants.{Document}
 use Rattle.table_map.specs.declared.field.Fields.{Fields as FieldCursor}
-use Rattle.table_map.specs.Parts.{part, within, shortPart, longPart}
+use Rattle.table_map.specs.Parts.{shortPart, longPart}
 use Rattle.table_map.specs.Events.{readNames, readColumns, readEvent}
 use Rattle.table_map.specs.Lists.{step, walkSteps}
-use Rattle.table_map.specs.Fields.{signBits, countSignBits, contentsHold, fieldItem}
+use Rattle.table_map.specs.Fields.{signBits, countSignBits, contentsHold, cutField, judgeField, fieldItem}
 use Rattle.map_check.specs.Ranks.{place, noRanks}
 use Rattle.map_check.specs.Contents.{every, listHolds, exactly, keyItem, contentsFull}
-use Rattle.map_check.specs.Fields.{stood, rivalOf, isKept, keepSteps, keepFields, firstOf}
-use Rattle.map_check.specs.Names.{listOf, stringAt, columnName, nameIn, namesBytes}
+use Rattle.map_check.specs.Fields.{stood, rivalOf, standsGiven, keepSteps, keepFields, firstOf}
+use Rattle.map_check.specs.Names.{listOf, stringAt, columnName, nameIn, namesPart}
 
 -- ---- names: "a" and "bc" in the map, "x" and "y" in the operator's list
 abbrev names : List ℕ
@@ -69,13 +71,13 @@ no-further = refl
 abbrev event : List ℕ → List ℕ
 event optional = 1 ∷ 0 ∷ 0 ∷ 0 ∷ 0 ∷ 0 ∷ 1 ∷ 0 ∷ 1 ∷ 0x74 ∷ 0 ∷ 1 ∷ 0x72 ∷ 0 ∷ 1 ∷ 1 ∷ 0 ∷ 0 ∷ optional
 
-of-map : namesBytes Document (event (1 ∷ 1 ∷ 128 ∷ 4 ∷ 2 ∷ 1 ∷ 97 ∷ [])) (readEvent (event (1 ∷ 1 ∷ 128 ∷ 4 ∷ 2 ∷ 1 ∷ 97 ∷ [])) 8) ≡ 1 ∷ 97 ∷ []
-unfolding readEvent readNames readColumns leValue readPacked formOf within shortPart longPart step walkSteps signBits countSignBits hasSignBit isNumeric familyOf contentsHold fieldItem firstOf
+of-map : namesPart Document (event (1 ∷ 1 ∷ 128 ∷ 4 ∷ 2 ∷ 1 ∷ 97 ∷ [])) (readEvent (event (1 ∷ 1 ∷ 128 ∷ 4 ∷ 2 ∷ 1 ∷ 97 ∷ [])) 8) ≡ part 23 2
+unfolding readEvent readNames readColumns leValue readPacked formOf within shortPart longPart step walkSteps signBits countSignBits hasSignBit isNumeric familyOf contentsHold cutField judgeField fieldItem firstOf
 of-map = refl
 
 -- none behind a field that is refused
-behind-a-refusal : namesBytes Document (event (14 ∷ 0 ∷ 4 ∷ 2 ∷ 1 ∷ 97 ∷ [])) (readEvent (event (14 ∷ 0 ∷ 4 ∷ 2 ∷ 1 ∷ 97 ∷ [])) 8) ≡ []
-unfolding readEvent readNames readColumns leValue readPacked formOf within shortPart longPart step walkSteps signBits countSignBits hasSignBit isNumeric familyOf contentsHold fieldItem firstOf
+behind-a-refusal : namesPart Document (event (14 ∷ 0 ∷ 4 ∷ 2 ∷ 1 ∷ 97 ∷ [])) (readEvent (event (14 ∷ 0 ∷ 4 ∷ 2 ∷ 1 ∷ 97 ∷ [])) 8) ≡ part 0 0
+unfolding readEvent readNames readColumns leValue readPacked formOf within shortPart longPart step walkSteps signBits countSignBits hasSignBit isNumeric familyOf contentsHold cutField judgeField fieldItem firstOf
 behind-a-refusal = refl
 
 -- ---- fields of a map with no columns: two that may stand side by side, one that stands twice, and one beside its rival
@@ -83,13 +85,13 @@ abbrev first : FieldCursor
 first = record { at = 0; numeric = 0; columns = 0 }
 
 side-by-side : keepFields noRanks first (8 ∷ 0 ∷ 12 ∷ 0 ∷ []) ≡ ok ((8, part 2 0) ∷ (12, part 4 0) ∷ [])
-unfolding keepSteps step fieldItem contentsHold longPart within readPacked formOf isKept stood rivalOf contentsFull exactly listHolds every walkSteps keyItem
+unfolding keepSteps step fieldItem cutField judgeField contentsHold longPart within readPacked formOf standsGiven stood rivalOf contentsFull exactly listHolds every walkSteps keyItem
 side-by-side = refl
 
 twice : keepFields noRanks first (12 ∷ 0 ∷ 8 ∷ 0 ∷ 12 ∷ 0 ∷ []) ≡ refuse 7 4
-unfolding keepSteps step fieldItem contentsHold longPart within readPacked formOf isKept stood rivalOf contentsFull exactly listHolds every walkSteps keyItem
+unfolding keepSteps step fieldItem cutField judgeField contentsHold longPart within readPacked formOf standsGiven stood rivalOf contentsFull exactly listHolds every walkSteps keyItem
 twice = refl
 
 rival : keepFields noRanks first (9 ∷ 0 ∷ 8 ∷ 0 ∷ []) ≡ refuse 7 2
-unfolding keepSteps step fieldItem contentsHold longPart within readPacked formOf isKept stood rivalOf contentsFull exactly listHolds every walkSteps keyItem
+unfolding keepSteps step fieldItem cutField judgeField contentsHold longPart within readPacked formOf standsGiven stood rivalOf contentsFull exactly listHolds every walkSteps keyItem
 rival = refl

@@ -6,18 +6,19 @@ use mathlib.Core.List.{List}
 use native.Mathlib.Omega.{arith}
 use lib.Dec.{leb, ltb, eqb}
 use Rattle.wire.specs.Bits.{bitLsb0, bitMsb0}
-use Rattle.value.specs.Columns.{familyOf, isNumeric, isCharacter, isEnumOrSet}
-use Rattle.table_map.specs.Parts.{lentPart}
-use Rattle.table_map.specs.declared.part.Part.{Part}
+use Rattle.wire.specs.Parts.{lentPart}
+use Rattle.wire.specs.declared.part.Part.{Part}
+use Rattle.value.specs.Types.{familyOf, isNumeric}
+use Rattle.value.specs.Classes.{isCharacter, isEnumOrSet}
 use Rattle.table_map.specs.Lists.{integerItem}
 use Rattle.record.specs.Entries.{flagsHold, charsetHolds}
-use Rattle.map_check.specs.declared.column.Declared.{Declared}
+use Rattle.map_check.specs.declared.declare.Declared.{Declared}
 use Rattle.map_check.specs.declared.contents.Meaning.the-variants.{Charset}
 use Rattle.map_check.specs.declared.rank.Place.{Place}
 use Rattle.map_check.specs.declared.rank.Rank.{Rank}
 use Rattle.map_check.specs.declared.rank.Ranks.{Ranks}
-use Rattle.map_check.specs.declared.field.Found.{Found}
-use Rattle.map_check.specs.declared.field.Found.the-variants.{Value, Nothing}
+use Rattle.map_check.specs.declared.found.Found.{Found}
+use Rattle.map_check.specs.declared.found.Found.the-variants.{Value, Nothing}
 use Rattle.map_check.specs.declared.facts.Facts.{Facts}
 use Rattle.map_check.specs.declared.facts.Charsets.{Charsets}
 use Rattle.map_check.specs.Contents.{exactly, integerHolds, defaultHolds}

@@ -8,15 +8,15 @@ use borrow.Author.Tests.{le-leb, leb-true}
 use lib.ListN.{length, getD, drop}
 use lib.Dec.{leb, eqb}
 use Rattle.wire.specs.Outcome.{ok, why}
+use Rattle.wire.specs.Parts.{lentPart}
 use Rattle.wire.proofs.Outcomes.{after-is-ok, test-is-ok, same-ok}
-use Rattle.value.specs.declared.column.Dialect.{Dialect}
+use Rattle.value.specs.declared.classes.Dialect.{Dialect}
 use Rattle.table_map.specs.declared.event.Event.{Event}
-use Rattle.table_map.specs.Parts.{lentPart}
 use Rattle.record.specs.declared.entry.Entry.{Entry}
 use Rattle.record.specs.Entries.{unsignedFlag, entryHolds}
-use Rattle.record.specs.Records.{recordBytes, recordValid}
+use Rattle.record.specs.Records.{mostColumns, recordBytes, recordValid}
 use Rattle.record.proofs.Made.{Kept, made-valid}
-use Rattle.map_check.specs.declared.column.Declared.{Declared}
+use Rattle.map_check.specs.declared.declare.Declared.{Declared}
 use Rattle.map_check.specs.declared.rank.Place.{Place}
 use Rattle.map_check.specs.declared.rank.Ranks.{Ranks}
 use Rattle.map_check.specs.declared.facts.Facts.{Facts}
@@ -44,9 +44,9 @@ passed d s e es h =
     let b = after-is-ok (takeColumns types meta 0) _ es (a .2) in
     let c = after-is-ok (keepFields (sizesOf d (b .0)) (fieldsAt d types (e .optional .start)) s) _ es (b .2) in
     let k = after-is-ok (keysHold s (c .0)) _ es (c .2) in
-    let f = test-is-ok (leb (length types) 255) tt (why 3 0) (a .0) (a .1) in
+    let f = test-is-ok (leb (length types) mostColumns) tt (why 3 0) (a .0) (a .1) in
     record {
-      few = leb-true (length types) 255 (f .0);
+      few = leb-true (length types) mostColumns (f .0);
       columns = b .0;
       taken = b .1;
       fields = c .0;
@@ -58,7 +58,7 @@ passed d s e es h =
 -- and what passes each test, passes
 pub passes : {d : Dialect} {s : List ℕ} {e : Event} {es : List Entry} → Passes d s e es → checkEvent d s e ≡ ok es
 unfolding checkEvent fewEnough
-passes {d} {s} {e} p = rw (le-leb (length (lentPart s (e .types))) 255 (p .few), p .taken, p .kept, p .once, p .said)
+passes {d} {s} {e} p = rw (le-leb (length (lentPart s (e .types))) mostColumns (p .few), p .taken, p .kept, p .once, p .said)
 
 -- ---- the fields of charsets are as the writer of the record needs them
 pub classes : {d : Dialect} {s : List ℕ} {e : Event} {es : List Entry} (p : Passes d s e es)
@@ -117,7 +117,7 @@ valid {d} {s} {e} {es} p =
     let x = factsOf (e .bits) (p .fields) in
     let z : Entry = record { kind = 0; flags = 0; m0 = 0; m1 = 0; charset = 0 } in
     let w = classes p in
-    let n : length es ≤ 255 = omega (arith, as-many p, p .few) in
+    let n : length es ≤ mostColumns = omega (arith, as-many p, p .few) in
     let m : length (entriesOf d s e (p .columns) (p .fields)) ≡ length (p .columns) = entries-length d s x (p .columns) (place 0) noRanks in
     made-valid es z n
     (subst (λ (y : List Entry). (i : ℕ) → i < length y → Kept (getD y i z)) (sym (p .said))

@@ -13,16 +13,16 @@ use lib.Dec.{eqb}
 use Rattle.wire.specs.declared.refusal.Refusal.{Refusal}
 use Rattle.wire.specs.Outcome.{Outcome, ok, refused, refuse, why}
 use Rattle.wire.specs.Packed.{readPacked, formOf}
+use Rattle.wire.specs.declared.part.Part.{Part}
+use Rattle.wire.specs.Parts.{lentPart}
 use Rattle.wire.proofs.Outcomes.{by-test, after-refuses, ok-not-refused, same-refused}
-use Rattle.table_map.specs.declared.part.Part.{Part}
-use Rattle.table_map.specs.Parts.{lentPart}
 use Rattle.table_map.specs.Lists.{step, walkSteps}
-use Rattle.map_check.specs.declared.field.Found.{Found}
-use Rattle.map_check.specs.declared.field.Found.the-variants.{Value, Nothing}
+use Rattle.map_check.specs.declared.found.Found.{Found}
+use Rattle.map_check.specs.declared.found.Found.the-variants.{Value, Nothing}
 use Rattle.map_check.specs.Contents.{keyItem}
 use Rattle.map_check.specs.Fields.{stood, firstOf}
 use Rattle.map_check.specs.Keys.{withPlace, keysFrom, keysOnce, onceIn, keysHold}
-use Rattle.map_check.proofs.Lent.{lent-ends}
+use Rattle.wire.proofs.Parts.{lent-ends}
 use Rattle.map_check.proofs.Repeats.{key-places}
 
 -- item j: its place, and its key

@@ -8,14 +8,14 @@ use lib.ListN.{length}
 use lib.Dec.{leb}
 use Rattle.wire.specs.Outcome.{Outcome, ok, refuse, after}
 use Rattle.wire.specs.Stored.{store}
-use Rattle.value.specs.declared.column.Dialect.{Dialect}
+use Rattle.wire.specs.declared.part.Part.{Part}
+use Rattle.wire.specs.Parts.{lentPart}
+use Rattle.value.specs.declared.classes.Dialect.{Dialect}
 use Rattle.table_map.specs.declared.event.Event.{Event}
-use Rattle.table_map.specs.declared.part.Part.{Part}
-use Rattle.table_map.specs.Parts.{lentPart}
 use Rattle.table_map.specs.Events.{readEvent}
 use Rattle.record.specs.declared.entry.Entry.{Entry}
-use Rattle.record.specs.Records.{recordBytes}
-use Rattle.map_check.specs.declared.column.Declared.{Declared}
+use Rattle.record.specs.Records.{mostColumns, recordBytes}
+use Rattle.map_check.specs.declared.declare.Declared.{Declared}
 use Rattle.map_check.specs.Columns.{takeColumns}
 use Rattle.map_check.specs.Ranks.{place, noRanks, ranksFrom, sizesOf}
 use Rattle.map_check.specs.Fields.{fieldsAt, keepSteps, keepFields}
@@ -24,7 +24,7 @@ use Rattle.map_check.specs.Profile.{factsOf, entriesFrom}
 
 -- "n at most 255": 3 at 0
 unfoldable pub fewEnough : List ℕ → Outcome (Unit {0})
-fewEnough types = cond (leb (length types) 255) (ok tt) (refuse 3 0)
+fewEnough types = cond (leb (length types) mostColumns) (ok tt) (refuse 3 0)
 
 -- an event's columns, as its record says them
 abbrev pub entriesOf : Dialect → List ℕ → Event → List Declared → List (ℕ × Part) → List Entry
@@ -42,7 +42,7 @@ checkEvent d s e =
 
 -- a map that passes, test by test, and its entries
 pub record Passes (d : Dialect) (s : List ℕ) (e : Event) (es : List Entry) : Type 0 where
-  pub few : length (lentPart s (e .types)) ≤ 255
+  pub few : length (lentPart s (e .types)) ≤ mostColumns
   pub columns : List Declared
   pub taken : takeColumns (lentPart s (e .types)) (lentPart s (e .metadata)) 0 ≡ ok columns
   pub fields : List (ℕ × Part)

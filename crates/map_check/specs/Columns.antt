@@ -6,9 +6,10 @@ use lib.ListN.{length, getD, drop}
 use lib.Dec.{leb, eqb}
 use Rattle.wire.specs.Outcome.{Outcome, ok, refused, refuse, after}
 use Rattle.value.specs.declared.column.Column.{Column}
-use Rattle.value.specs.Columns.{familyOf, isKnown, metadataBytes, realType, shapeOf, isTaken}
+use Rattle.value.specs.Types.{familyOf, isKnown, metadataBytes, realType}
+use Rattle.value.specs.Columns.{shapeOf, isTaken}
 use Rattle.map_check.specs.declared.rank.Ranks.{Ranks}
-use Rattle.map_check.specs.declared.column.Declared.{Declared}
+use Rattle.map_check.specs.declared.declare.Declared.{Declared}
 use Rattle.map_check.specs.declared.column.ColumnTaken.{ColumnTaken}
 use Rattle.map_check.specs.declared.column.ColumnTaken.the-variants.{Taken, Refused}
 use Rattle.map_check.specs.declared.column.Sizes.{Sizes}

@@ -5,17 +5,15 @@ use mathlib.Core.List.{List, [], _∷_}
 use lib.ListN.{length}
 use lib.Dec.{eqb}
 use Rattle.wire.specs.Outcome.{Outcome, ok, refused, refuse, after}
-use Rattle.value.specs.declared.column.Dialect.{Dialect}
-use Rattle.table_map.specs.declared.part.Part.{Part}
+use Rattle.wire.specs.declared.part.Part.{Part}
+use Rattle.wire.specs.Parts.{lentPart}
+use Rattle.value.specs.declared.classes.Dialect.{Dialect}
 use Rattle.table_map.specs.declared.field.Fields.{Fields as FieldCursor}
-use Rattle.table_map.specs.Parts.{lentPart}
 use Rattle.table_map.specs.Lists.{Stepped, end, item, step, walk}
 use Rattle.table_map.specs.Fields.{fieldItem, countSignBits}
 use Rattle.map_check.specs.declared.rank.Ranks.{Ranks}
-use Rattle.map_check.specs.declared.field.Found.{Found}
-use Rattle.map_check.specs.declared.field.Found.the-variants.{Value, Nothing}
-use Rattle.map_check.specs.declared.field.Judged.{Judged}
-use Rattle.map_check.specs.declared.field.Judged.the-variants.{Kept, Refused}
+use Rattle.map_check.specs.declared.found.Found.{Found}
+use Rattle.map_check.specs.declared.found.Found.the-variants.{Value, Nothing}
 use Rattle.map_check.specs.Contents.{contentsFull}
 
 -- whether a type stood before; `Keys` asks the same of a key
@@ -28,11 +26,14 @@ unfoldable pub rivalOf : ℕ → ℕ
 rivalOf kind =
     cond (eqb kind 2) 3 (cond (eqb kind 3) 2 (cond (eqb kind 10) 11 (cond (eqb kind 11) 10 (cond (eqb kind 8) 9 (cond (eqb kind 9) 8 0)))))
 
--- a field, given the types before it
-unfoldable pub isKept : Ranks → ℕ → List ℕ → List ℕ → ℕ × Part → Bool
-unfolding stood rivalOf contentsFull
-isKept sizes n s before f =
-    not (stood (f .0) before) && (not (stood (rivalOf (f .0)) before) && contentsFull sizes n (f .0) (lentPart s (f .1)))
+-- whether a field may stand, given whether its type and its rival stood before it
+unfoldable pub standsGiven : Ranks → ℕ → List ℕ → Bool → Bool → ℕ × Part → Bool
+unfolding contentsFull
+standsGiven sizes n s twice rivalled f = not twice && (not rivalled && contentsFull sizes n (f .0) (lentPart s (f .1)))
+
+-- so, behind fields of some types
+abbrev pub standsBehind : Ranks → ℕ → List ℕ → List ℕ → ℕ × Part → Bool
+standsBehind sizes n s before f = standsGiven sizes n s (stood (f .0) before) (stood (rivalOf (f .0)) before) f
 
 -- the field that a step met at `at`, and those behind it
 abbrev pub keep : (ℕ → ℕ → Outcome (List (ℕ × Part))) → (ℕ × Part → Bool) → ℕ → Outcome (Stepped (ℕ × Part) ℕ) → Outcome (List (ℕ × Part))
@@ -42,15 +43,19 @@ keep rest p at (refused r) = refused r
 
 -- at most m fields, which are enough if m is more than the bytes left
 unfoldable pub keepSteps : ℕ → Ranks → FieldCursor → List ℕ → List ℕ → ℕ → Outcome (List (ℕ × Part))
-unfolding step fieldItem isKept
+unfolding step fieldItem stood rivalOf standsGiven
 keepSteps zero sizes c s before at = ok []
 keepSteps (suc m) sizes c s before at =
-    keep (λ kind next. keepSteps m sizes c s (kind ∷ before) next) (isKept sizes (c .columns) s before) at
+    keep (λ kind next. keepSteps m sizes c s (kind ∷ before) next) (standsBehind sizes (c .columns) s before) at
     (step (fieldItem (c .numeric) (c .columns)) s at)
 
--- all of them, from where a walk stands; s is the event, so that places are places in it
+-- all of them from a place on, behind fields of some types; s is the event, so that places are places in it
+abbrev pub keepFrom : Ranks → FieldCursor → List ℕ → List ℕ → ℕ → Outcome (List (ℕ × Part))
+keepFrom sizes c s before at = keepSteps (suc (length s - at)) sizes c s before at
+
+-- and from where a walk stands
 abbrev pub keepFields : Ranks → FieldCursor → List ℕ → Outcome (List (ℕ × Part))
-keepFields sizes c s = keepSteps (suc (length s - c .at)) sizes c s [] (c .at)
+keepFields sizes c s = keepFrom sizes c s [] (c .at)
 
 -- ---- the value of the first field of a type
 unfoldable pub firstOf : ℕ → List (ℕ × Part) → Found
@@ -68,13 +73,3 @@ fieldsAt d types at = record { at = at; numeric = countSignBits d types; columns
 -- the fields of a walk, up to its end or to a refusal
 abbrev pub fieldsFrom : FieldCursor → List ℕ → List (ℕ × Part)
 fieldsFrom c s = walk (fieldItem (c .numeric) (c .columns)) s (c .at) .items
-
--- ---- what the answers say
--- whether something is there, without what it is
-abbrev pub done : {A : Type 0} → Outcome A → Outcome (Unit {0})
-done (ok a) = ok tt
-done (refused r) = refused r
-
-abbrev pub judgedOf : Judged → Outcome (Unit {0})
-judgedOf Kept = ok tt
-judgedOf (Refused r) = refused r

@@ -6,17 +6,17 @@ use mathlib.Core.List.{List, []}
 use lib.ListN.{length}
 use lib.Dec.{eqb}
 use Rattle.wire.specs.Outcome.{Outcome, ok, refused, refuse}
-use Rattle.value.specs.declared.column.Dialect.{Dialect}
+use Rattle.wire.specs.declared.part.Part.{Part}
+use Rattle.wire.specs.Parts.{part, lentPart}
+use Rattle.value.specs.declared.classes.Dialect.{Dialect}
 use Rattle.table_map.specs.declared.event.Event.{Event}
-use Rattle.table_map.specs.declared.part.Part.{Part}
-use Rattle.table_map.specs.Parts.{part, lentPart}
 use Rattle.table_map.specs.Lists.{Stepped, end, item, step, stringItem}
 use Rattle.map_check.specs.declared.rank.Place.{Place}
-use Rattle.map_check.specs.declared.field.Found.{Found}
-use Rattle.map_check.specs.declared.field.Found.the-variants.{Value, Nothing}
+use Rattle.map_check.specs.declared.found.Found.{Found}
+use Rattle.map_check.specs.declared.found.Found.the-variants.{Value, Nothing}
 use Rattle.map_check.specs.declared.names.NameRead.{NameRead}
 use Rattle.map_check.specs.declared.names.NameRead.the-variants.{Name, Refused}
-use Rattle.map_check.specs.Fields.{firstOf, valueIn, fieldsAt, fieldsFrom}
+use Rattle.map_check.specs.Fields.{firstOf, fieldsAt, fieldsFrom}
 
 -- the list that is looked at
 unfoldable pub listOf : List ℕ → List ℕ → List ℕ
@@ -48,10 +48,6 @@ nameIn s (refused r) = []
 abbrev pub namesFound : Dialect → List ℕ → Outcome Event → Found
 namesFound d s (ok e) = firstOf 4 (fieldsFrom (fieldsAt d (lentPart s (e .types)) (e .optional .start)) s)
 namesFound d s (refused r) = Nothing
-
--- its bytes
-abbrev pub namesBytes : Dialect → List ℕ → Outcome Event → List ℕ
-namesBytes d s o = valueIn s (namesFound d s o)
 
 -- where it stands in the event, start and length 0 for nothing
 abbrev pub partFound : Found → Part

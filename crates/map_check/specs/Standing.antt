@@ -1,5 +1,5 @@
--- Where the making of a record stands between two columns: a cursor in each class's charsets, so that a charset is found by one look; what holds there, and
--- what is to come. Assumes nothing.
+-- What the check keeps of the fields. Where the making of a record stands between two columns: a cursor in each class's charsets, so that a charset is found by
+-- one look; what holds there, and what is to come. Assumes nothing.
 use Prim.Native.Nat.{ℕ, _+_, _*_, _≤_}
 use mathlib.Core.Path.{_≡_}
 use mathlib.Core.Bool.{Bool, true, cond}
@@ -8,17 +8,21 @@ use lib.ListN.{length, getD, drop}
 use lib.Dec.{eqb}
 use Rattle.wire.specs.Outcome.{Outcome, ok, refused}
 use Rattle.wire.specs.Packed.{readPacked}
-use Rattle.value.specs.declared.column.Dialect.{Dialect}
-use Rattle.table_map.specs.declared.part.Part.{Part}
-use Rattle.table_map.specs.Parts.{lentPart}
+use Rattle.wire.specs.declared.part.Part.{Part}
+use Rattle.wire.specs.Parts.{lentPart}
+use Rattle.value.specs.declared.classes.Dialect.{Dialect}
 use Rattle.table_map.specs.Lists.{Stepped, end, item, walk, integerItem, pairItem}
 use Rattle.record.specs.declared.entry.Entry.{Entry}
+use Rattle.record.specs.Records.{mostColumns}
 use Rattle.map_check.specs.declared.contents.Meaning.the-variants.{Charset}
 use Rattle.map_check.specs.declared.rank.Rank.{Rank}
-use Rattle.map_check.specs.declared.field.Found.{Found}
-use Rattle.map_check.specs.declared.field.Found.the-variants.{Value, Nothing}
+use Rattle.map_check.specs.declared.found.Found.{Found}
+use Rattle.map_check.specs.declared.found.Found.the-variants.{Value, Nothing}
 use Rattle.map_check.specs.declared.facts.Facts.{Facts}
 use Rattle.map_check.specs.declared.facts.Charsets.{Charsets}
+use Rattle.map_check.specs.declared.facts.KeptFields.{KeptFields}
+use Rattle.map_check.specs.declared.field.FieldsKept.{FieldsKept}
+use Rattle.map_check.specs.declared.field.FieldsKept.the-variants.{Kept, Refused}
 use Rattle.map_check.specs.declared.charset.CharsetCursor.{CharsetCursor}
 use Rattle.map_check.specs.declared.charset.CharsetTurn.{CharsetTurn}
 use Rattle.map_check.specs.declared.entries.Standing.{Standing}
@@ -28,6 +32,25 @@ use Rattle.map_check.specs.Ranks.{place, noRanks, passed, AtMost}
 use Rattle.map_check.specs.Contents.{exactly, integerHolds, pairsHold, defaultHolds}
 use Rattle.map_check.specs.Fields.{valueIn}
 use Rattle.map_check.specs.Profile.{pairOr, fromPairs, charsetBy, entriesFrom}
+
+-- ---- the fields that are kept, as the check goes on with them; `at` tells where the value of each type stands
+abbrev pub keptBy : Part → (ℕ → Found) → KeptFields
+keptBy bits at =
+    record {
+      simple = at 8;
+      prefixed = at 9;
+      facts = record {
+        bits = bits;
+        signs = at 1;
+        visibility = at 12;
+        characters = record { default = at 2; list = at 3 };
+        choices = record { default = at 10; list = at 11 };
+      };
+    }
+
+abbrev pub keptOf : FieldsKept → Outcome KeptFields
+keptOf (Kept x) = ok x
+keptOf (Refused r) = refused r
 
 -- ---- the charsets of a class
 -- its fields are as the check lets them pass
@@ -99,7 +122,7 @@ pub record TakenIf (member : Bool) (s : List ℕ) (class : Charsets) (r : Rank) 
 -- ---- the entries
 -- what the writer of a record needs
 pub record Takes (s types : List ℕ) (x : Facts) : Type 0 where
-  pub few : length types ≤ 255
+  pub few : length types ≤ mostColumns
   pub characters : ClassHolds s (x .characters)
   pub choices : ClassHolds s (x .choices)
 

@@ -1,8 +1,8 @@
 // The charsets of a class of columns, one after the other in the order of ranks. The ranks of pairs rise, so one look at the pair at the cursor tells a
 // rank's charset.
 use crate::facts::Charsets;
-use crate::field::Found;
-use crate::field::value_in;
+use crate::found::Found;
+use crate::found::value_in;
 use crate::rank::Rank;
 use table_map::DefaultCharset;
 use table_map::IntegerStep;

@@ -1,4 +1,6 @@
-// The columns of a map, each with its type and its metadata (table_map_event.rs: get_column_metadata, get_real_type).
+// The columns of a map in turn: which are accepted, and how many there are of each class.
+use crate::declare::Declared;
+use crate::declare::declare;
 use crate::rank::Place;
 use crate::rank::Ranks;
 use crate::rank::no_ranks;
@@ -12,17 +14,9 @@ ghost use mathlib.Core.Path.{_≡_};
 ghost use Prim.Native.Nat.{_≤_};
 ghost use lib.ListN.{length, drop};
 ghost use Rattle.wire.specs.Outcome.{ok, after};
-ghost use Rattle.map_check.specs.Columns.{metaByte, declared, isReal, isAccepted, takeColumn, takeColumns, takenOf, sizesTold};
+ghost use Rattle.record.specs.Records.{mostColumns};
+ghost use Rattle.map_check.specs.Columns.{isReal, isAccepted, takeColumn, takeColumns, takenOf, sizesTold};
 ghost use Rattle.map_check.specs.Ranks.{sizesOf};
-
-// What a map says of a column before its optional fields.
-pub struct Declared {
-    // the type byte
-    pub kind: u8,
-    pub real: u8,
-    pub m0: u8,
-    pub m1: u8,
-}
 
 // A column that is accepted.
 pub(crate) enum ColumnTaken {
@@ -34,32 +28,6 @@ pub(crate) enum ColumnTaken {
 pub(crate) enum Sizes {
     Counted(Ranks),
     Refused(Refusal),
-}
-
-// Byte i of the metadata of a type, which stand from `at` on; 0 if it has none or they end first.
-fn meta_byte(i: usize, kind: u8, metadata: &[u8], at: usize) -> u8
-    ensures { λ r. ⌜ r ≡ metaByte i kind (drop at (now (metadata .entry))) ⌝ }
-{
-    if value::metadata_bytes(kind) <= i {
-        return 0;
-    }
-    if metadata.len() <= at {
-        return 0;
-    }
-    if metadata.len() - at <= i {
-        return 0;
-    }
-    metadata[at + i]
-}
-
-// What a type says of its column together with its metadata, which stand from `at` on.
-pub(crate) fn declare(kind: u8, metadata: &[u8], at: usize) -> Declared
-    ensures { λ r. ⌜ r ≡ declared kind (drop at (now (metadata .entry))) ⌝ }
-{
-    let m0 = meta_byte(0, kind, metadata, at);
-    let m1 = meta_byte(1, kind, metadata, at);
-    let real = value::real_type(kind, m0);
-    Declared { kind, real, m0, m1 }
 }
 
 // Whether a column of type 254 has one of the real types that it may have; of other types nothing is asked here.
@@ -111,7 +79,7 @@ pub(crate) fn take_column(kind: u8, metadata: &[u8], at: usize, column: Place) -
 
 // All columns in turn, until one is refused. Behind the last there may be no metadata left.
 pub(crate) fn take_columns(dialect: Dialect, types: &[u8], metadata: &[u8]) -> Sizes
-    requires { ⌜ length (now types) ≤ 255 ⌝ }
+    requires { ⌜ length (now types) ≤ mostColumns ⌝ }
     ensures { λ r. ⌜ sizesTold r ≡ after (takeColumns (now (types .entry)) (now (metadata .entry)) 0) (λ cs. ok (sizesOf dialect cs)) ⌝ }
 {
     let mut ranks = no_ranks();

@@ -1,5 +1,7 @@
 // The contents of optional fields, judged in full.
 use crate::keys::keys_below;
+use crate::rank::Place;
+use crate::rank::Rank;
 use crate::rank::Ranks;
 use table_map::DefaultCharset;
 use table_map::GroupStep;
@@ -40,9 +42,9 @@ fn integer_holds(meaning: Meaning, v: u64) -> bool
     }
 }
 
-// Whether the value is n integers that hold, and no more.
-fn integers_hold(value: &[u8], meaning: Meaning, n: usize) -> bool
-    ensures { λ r. ⌜ r ≡ exactly integerItem (integerHolds meaning) n (now (value .entry)) ⌝ }
+// Whether the value is as many integers as the class has columns, that all hold, and no more.
+fn integers_hold(value: &[u8], meaning: Meaning, size: Rank) -> bool
+    ensures { λ r. ⌜ r ≡ exactly integerItem (integerHolds meaning) (size .0) (now (value .entry)) ⌝ }
 {
     let mut at: usize = 0;
     let mut count: usize = 0;
@@ -56,15 +58,15 @@ fn integers_hold(value: &[u8], meaning: Meaning, n: usize) -> bool
                 at = next.at;
                 count += 1;
             }
-            IntegerStep::End => return count == n,
+            IntegerStep::End => return count == size.0,
             IntegerStep::Refused(_) => return false,
         }
     }
 }
 
-// Whether it is n strings.
-fn strings_hold(value: &[u8], n: usize) -> bool
-    ensures { λ r. ⌜ r ≡ exactly stringItem whatever n (now (value .entry)) ⌝ }
+// Whether it is a string for each of the map's columns.
+fn strings_hold(value: &[u8], columns: Place) -> bool
+    ensures { λ r. ⌜ r ≡ exactly stringItem whatever (columns .0) (now (value .entry)) ⌝ }
 {
     let mut at: usize = 0;
     let mut count: usize = 0;
@@ -75,15 +77,15 @@ fn strings_hold(value: &[u8], n: usize) -> bool
                 at = next.at;
                 count += 1;
             }
-            StringStep::End => return count == n,
+            StringStep::End => return count == columns.0,
             StringStep::Refused(_) => return false,
         }
     }
 }
 
-// Whether it is n groups of strings.
-fn groups_hold(value: &[u8], n: usize) -> bool
-    ensures { λ r. ⌜ r ≡ exactly groupItem whatever n (now (value .entry)) ⌝ }
+// Whether it is a group of strings for each column of the class.
+fn groups_hold(value: &[u8], size: Rank) -> bool
+    ensures { λ r. ⌜ r ≡ exactly groupItem whatever (size .0) (now (value .entry)) ⌝ }
 {
     let mut at: usize = 0;
     let mut count: usize = 0;
@@ -98,17 +100,17 @@ fn groups_hold(value: &[u8], n: usize) -> bool
                 at = next.at;
                 count += 1;
             }
-            GroupStep::End => return count == n,
+            GroupStep::End => return count == size.0,
             GroupStep::Refused(_) => return false,
         }
     }
 }
 
 // Whether pairs (rank, charset) fill the value from a place on, their ranks rising and below the size of the class.
-fn pairs_hold(value: &[u8], start: usize, size: usize) -> bool
-    ensures { λ r. ⌜ r ≡ pairsWhole size 0 (now (value .entry)) start ⌝ }
+fn pairs_hold(value: &[u8], start: usize, size: Rank) -> bool
+    ensures { λ r. ⌜ r ≡ pairsWhole (size .0) 0 (now (value .entry)) start ⌝ }
 {
-    let above = size as u64;
+    let above = size.0 as u64;
     let mut at = start;
     let mut low: u64 = 0;
     loop {
@@ -137,8 +139,8 @@ fn pairs_hold(value: &[u8], start: usize, size: usize) -> bool
     }
 }
 
-fn default_holds(value: &[u8], size: usize) -> bool
-    ensures { λ r. ⌜ r ≡ defaultHolds size (now (value .entry)) ⌝ }
+fn default_holds(value: &[u8], size: Rank) -> bool
+    ensures { λ r. ⌜ r ≡ defaultHolds (size .0) (now (value .entry)) ⌝ }
 {
     match table_map::default_charset(value) {
         DefaultCharset::Read { charset, pairs } => {
@@ -151,9 +153,9 @@ fn default_holds(value: &[u8], size: usize) -> bool
     }
 }
 
-// Whether the value of a field of the type `kind` is as it must be in a map of n columns, with so many of each class.
-pub(crate) fn contents_full(sizes: Ranks, n: usize, kind: u8, value: &[u8]) -> bool
-    ensures { λ r. ⌜ r ≡ contentsFull sizes n kind (now (value .entry)) ⌝ }
+// Whether the value of a field of the type `kind` is as it must be in a map with so many columns, and so many of each class.
+pub(crate) fn contents_full(sizes: Ranks, columns: Place, kind: u8, value: &[u8]) -> bool
+    ensures { λ r. ⌜ r ≡ contentsFull sizes (columns .0) kind (now (value .entry)) ⌝ }
 {
     let character = sizes.character;
     let choice = sizes.choice;
@@ -162,17 +164,17 @@ pub(crate) fn contents_full(sizes: Ranks, n: usize, kind: u8, value: &[u8]) -> b
     let geometry = sizes.geometry;
     let vector = sizes.vector;
     match kind {
-        2 => default_holds(value, character.0),
-        3 => integers_hold(value, Meaning::Charset, character.0),
-        4 => strings_hold(value, n),
-        5 => groups_hold(value, set.0),
-        6 => groups_hold(value, enumeration.0),
-        7 => integers_hold(value, Meaning::GeometryType, geometry.0),
-        8 => keys_below(value, false, n),
-        9 => keys_below(value, true, n),
-        10 => default_holds(value, choice.0),
-        11 => integers_hold(value, Meaning::Charset, choice.0),
-        13 => integers_hold(value, Meaning::Dimension, vector.0),
+        2 => default_holds(value, character),
+        3 => integers_hold(value, Meaning::Charset, character),
+        4 => strings_hold(value, columns),
+        5 => groups_hold(value, set),
+        6 => groups_hold(value, enumeration),
+        7 => integers_hold(value, Meaning::GeometryType, geometry),
+        8 => keys_below(value, false, columns),
+        9 => keys_below(value, true, columns),
+        10 => default_holds(value, choice),
+        11 => integers_hold(value, Meaning::Charset, choice),
+        13 => integers_hold(value, Meaning::Dimension, vector),
         _ => true,
     }
 }

@@ -2,11 +2,11 @@
 use crate::charset::CharsetCursor;
 use crate::charset::charset_if;
 use crate::charset::first_charset;
-use crate::column::Declared;
-use crate::column::declare;
+use crate::declare::Declared;
+use crate::declare::declare;
 use crate::facts::Facts;
-use crate::field::Found;
-use crate::field::value_in;
+use crate::found::stands;
+use crate::found::value_in;
 use crate::rank::Place;
 use crate::rank::Rank;
 use crate::rank::Ranks;
@@ -18,16 +18,16 @@ use wire::Written;
 use wire::refusal::NO_ROOM;
 ghost use mathlib.Core.Path.{_≡_};
 ghost use mathlib.Core.Bool.{cond};
-ghost use Prim.Native.Nat.{_+_, _*_, _≤_, _<_};
+ghost use Prim.Native.Nat.{_≤_, _<_};
 ghost use lib.ListN.{length};
 ghost use Rattle.wire.specs.Bits.{bitLsb0};
 ghost use Rattle.wire.specs.Stored.{store, stored, answerOf, leftOf, writtenOf};
-ghost use Rattle.value.specs.Columns.{isCharacter};
-ghost use Rattle.table_map.specs.Parts.{lentPart};
-ghost use Rattle.record.specs.Records.{entriesBytes, recordBytes};
+ghost use Rattle.wire.specs.Parts.{lentPart};
+ghost use Rattle.value.specs.Classes.{isCharacter};
+ghost use Rattle.record.specs.Records.{mostColumns, entryAt, entriesBytes, recordBytes};
 ghost use Rattle.map_check.specs.Columns.{declareAll};
 ghost use Rattle.map_check.specs.Ranks.{place, noRanks};
-ghost use Rattle.map_check.specs.Profile.{stands, oneIf, isSignKnown, isUnsigned, isVisible, flagsOf, entryWith, entriesFrom};
+ghost use Rattle.map_check.specs.Profile.{oneIf, isSignKnown, isUnsigned, isVisible, flagsOf, entryWith, entriesFrom};
 ghost use Rattle.map_check.specs.Standing.{ClassHolds, Takes, Ready, Starts, Came};
 
 // Where the making of a record stands between two columns.
@@ -45,15 +45,6 @@ pub(crate) struct Standing {
 pub(crate) struct EntryTurn {
     pub entry: Entry,
     pub next: Standing,
-}
-
-fn stands(found: Found) -> bool
-    ensures { λ r. ⌜ r ≡ stands found ⌝ }
-{
-    match found {
-        Found::Value(_) => true,
-        Found::Nothing => false,
-    }
 }
 
 // Signedness is told of document 01's numeric columns alone, though a dialect may count a bit for others.
@@ -82,7 +73,7 @@ fn is_unsigned(event: &[u8], facts: Facts, column: Declared, rank: Rank) -> bool
 fn is_nullable(event: &[u8], facts: Facts, column: Place) -> bool
     ensures { λ r. ⌜ r ≡ bitLsb0 (lentPart (now (event .entry)) (facts .bits)) (column .0) ⌝ }
 {
-    wire::bit_lsb0(table_map::part_of(event, facts.bits), column.0)
+    wire::bit_lsb0(wire::part_of(event, facts.bits), column.0)
 }
 
 fn is_visible(event: &[u8], facts: Facts, column: Place) -> bool
@@ -170,7 +161,7 @@ fn next_entry(
     facts: Facts,
     standing: Standing,
 ) -> EntryTurn
-    requires { ⌜ (standing .place .0 < length (now types)) × (length (now types) ≤ 255) × Ready (now event) facts standing ⌝ }
+    requires { ⌜ (standing .place .0 < length (now types)) × (length (now types) ≤ mostColumns) × Ready (now event) facts standing ⌝ }
     ensures { λ r. ⌜ Came dialect (now (event .entry)) facts (now (types .entry)) (now (metadata .entry)) standing r ⌝ }
 {
     let place = standing.place;
@@ -205,7 +196,7 @@ fn next_entry(
     EntryTurn { entry, next }
 }
 
-// Writes the entries of all columns, behind the six bytes before them. There is room for all, so no write is refused.
+// Writes the entries of all columns, each at its place. There is room for all, so no write is refused.
 fn write_entries(
     dialect: Dialect,
     event: &[u8],
@@ -214,13 +205,13 @@ fn write_entries(
     facts: Facts,
     buf: &mut [u8],
 )
-    requires { ⌜ Takes (now event) (now types) facts × (6 + 6 * length (now types) ≤ length (now buf)) ⌝ }
-    ensures { λ _. ⌜ now (buf .exit) ≡ stored (now (buf .entry)) 6 (entriesBytes (entriesFrom dialect (now (event .entry)) facts (declareAll (now (types .entry)) (now (metadata .entry))) (place 0) noRanks)) ⌝ }
+    requires { ⌜ Takes (now event) (now types) facts × (entryAt (length (now types)) ≤ length (now buf)) ⌝ }
+    ensures { λ _. ⌜ now (buf .exit) ≡ stored (now (buf .entry)) (entryAt 0) (entriesBytes (entriesFrom dialect (now (event .entry)) facts (declareAll (now (types .entry)) (now (metadata .entry))) (place 0) noRanks)) ⌝ }
 {
     let mut standing = first_standing(event, facts);
     while standing.place.0 < types.len() {
         let turn = next_entry(dialect, event, types, metadata, facts, standing);
-        let at = 6 + 6 * standing.place.0;
+        let at = record::entry_at(standing.place.0);
         record::write_entry(buf, at, turn.entry);
         standing = turn.next;
     }
@@ -239,7 +230,7 @@ pub(crate) fn write_record(
     ensures { λ r. ⌜ writtenOf r ≡ answerOf (store (now (buf .entry)) 0 (recordBytes (entriesFrom dialect (now (event .entry)) facts (declareAll (now (types .entry)) (now (metadata .entry))) (place 0) noRanks))) ⌝ }
     ensures { λ _. ⌜ now (buf .exit) ≡ leftOf (now (buf .entry)) (store (now (buf .entry)) 0 (recordBytes (entriesFrom dialect (now (event .entry)) facts (declareAll (now (types .entry)) (now (metadata .entry))) (place 0) noRanks))) ⌝ }
 {
-    let size = 6 + 6 * types.len();
+    let size = record::entry_at(types.len());
     if buf.len() < size {
         return Written::Refused(wire::refuse(NO_ROOM, 0));
     }

@@ -1,6 +1,6 @@
-// What the record needs of a map besides its columns.
-use crate::field::Found;
-use table_map::Part;
+// What the check keeps of a map besides its columns.
+use crate::found::Found;
+use wire::Part;
 
 // The two fields that tell the charsets of a class, of which one may stand.
 pub(crate) struct Charsets {
@@ -10,6 +10,7 @@ pub(crate) struct Charsets {
     pub list: Found,
 }
 
+// What the record needs.
 pub(crate) struct Facts {
     // the nullable bits
     pub bits: Part,
@@ -20,4 +21,12 @@ pub(crate) struct Facts {
     pub characters: Charsets,
     // fields 10 and 11, of ENUM and SET columns
     pub choices: Charsets,
+}
+
+// What the check goes on with of a map's fields: those of keys, and what the record needs.
+pub(crate) struct KeptFields {
+    // fields 8 and 9
+    pub simple: Found,
+    pub prefixed: Found,
+    pub facts: Facts,
 }

@@ -1,37 +1,28 @@
 // The optional fields of a map, one by one.
 use crate::contents::contents_full;
+use crate::facts::Charsets;
+use crate::facts::Facts;
+use crate::facts::KeptFields;
+use crate::found::Found;
+use crate::found::stands;
+use crate::rank::Place;
 use crate::rank::Ranks;
 use table_map::FieldStep;
 use table_map::Fields;
-use table_map::Part;
+use wire::Part;
 use wire::Refusal;
 use wire::refusal::BAD_FIELD;
 ghost use mathlib.Core.Path.{_≡_};
-ghost use mathlib.Core.Bool.{_&&_, not};
-ghost use Rattle.table_map.specs.Parts.{lentPart};
-ghost use Rattle.map_check.specs.Contents.{contentsFull};
-ghost use Rattle.map_check.specs.Fields.{rivalOf, keepFields, firstOf, valueIn, fieldsFrom, done, judgedOf};
+ghost use lib.ListN.{getD};
+ghost use Rattle.wire.specs.Outcome.{ok, after};
+ghost use Rattle.map_check.specs.Fields.{rivalOf, standsGiven, keepFields, firstOf, fieldsFrom};
+ghost use Rattle.map_check.specs.Standing.{keptBy, keptOf};
+ghost use Rattle.map_check.specs.declared.found.Found.the-variants.{Nothing};
 
-// The value of a field, if it stands.
-pub(crate) enum Found {
-    Value(Part),
-    Nothing,
-}
-
-// Whether something passes, or why not.
-pub(crate) enum Judged {
-    Kept,
+// The fields of a map that are kept, or why one is not.
+pub(crate) enum FieldsKept {
+    Kept(KeptFields),
     Refused(Refusal),
-}
-
-// The bytes of a value that was found.
-pub(crate) fn value_in(event: &[u8], found: Found) -> &[u8]
-    ensures { λ r. ⌜ now r ≡ valueIn (now (event .entry)) found ⌝ }
-{
-    match found {
-        Found::Value(part) => table_map::part_of(event, part),
-        Found::Nothing => &event[0..0],
-    }
 }
 
 // The first field of a type, from a cursor on.
@@ -73,16 +64,16 @@ fn rival_of(kind: u8) -> u8
 }
 
 // Whether a field may stand, given whether its type and its rival stood before it.
-fn is_kept(
+fn stands_given(
     event: &[u8],
     sizes: Ranks,
-    n: usize,
+    columns: Place,
     twice: bool,
     rivalled: bool,
     kind: u8,
     value: Part,
 ) -> bool
-    ensures { λ r. ⌜ r ≡ (not twice && (not rivalled && contentsFull sizes n kind (lentPart (now (event .entry)) value))) ⌝ }
+    ensures { λ r. ⌜ r ≡ standsGiven sizes (columns .0) (now (event .entry)) twice rivalled (kind, value) ⌝ }
 {
     if twice {
         return false;
@@ -90,31 +81,58 @@ fn is_kept(
     if rivalled {
         return false;
     }
-    contents_full(sizes, n, kind, table_map::part_of(event, value))
+    contents_full(sizes, columns, kind, wire::part_of(event, value))
 }
 
-// All fields from a cursor on, contents in full. A type is below 14, and so is its rival.
-pub(crate) fn keep_fields(event: &[u8], fields: Fields, sizes: Ranks) -> Judged
-    ensures { λ r. ⌜ judgedOf r ≡ done (keepFields sizes fields (now (event .entry))) ⌝ }
+// What the check goes on with, of the fields that stood: each is looked up by its type.
+fn kept_of(bits: Part, places: [Found; 14]) -> KeptFields
+    ensures { λ r. ⌜ r ≡ keptBy bits (λ k. getD places k Nothing) ⌝ }
 {
-    let columns = fields.columns;
+    let characters = Charsets {
+        default: places[2],
+        list: places[3],
+    };
+    let choices = Charsets {
+        default: places[10],
+        list: places[11],
+    };
+    let facts = Facts {
+        bits,
+        signs: places[1],
+        visibility: places[12],
+        characters,
+        choices,
+    };
+    KeptFields {
+        simple: places[8],
+        prefixed: places[9],
+        facts,
+    }
+}
+
+// All fields from a cursor on, contents in full, in one walk that notes where each stands. A type is below 14, and so is its rival.
+pub(crate) fn keep_fields(event: &[u8], fields: Fields, sizes: Ranks, bits: Part) -> FieldsKept
+    ensures { λ r. ⌜ keptOf r ≡ after (keepFields sizes fields (now (event .entry))) (λ fs. ok (keptBy bits (λ k. firstOf k fs))) ⌝ }
+{
+    let columns = Place(fields.columns);
     let mut cursor = fields;
-    // which types stood
-    let mut seen: [bool; 14] = [false; 14];
+    let mut places: [Found; 14] = [Found::Nothing; 14];
     loop {
         let at = cursor.at;
         match cursor.next(event) {
             FieldStep::Field { kind, value, next } => {
                 let k = kind as usize;
                 let rival = rival_of(kind) as usize;
-                if !is_kept(event, sizes, columns, seen[k], seen[rival], kind, value) {
-                    return Judged::Refused(wire::refuse(BAD_FIELD, at));
+                let twice = stands(places[k]);
+                let rivalled = stands(places[rival]);
+                if !stands_given(event, sizes, columns, twice, rivalled, kind, value) {
+                    return FieldsKept::Refused(wire::refuse(BAD_FIELD, at));
                 }
-                seen[k] = true;
+                places[k] = Found::Value(value);
                 cursor = next;
             }
-            FieldStep::End => return Judged::Kept,
-            FieldStep::Refused(r) => return Judged::Refused(r),
+            FieldStep::End => return FieldsKept::Kept(kept_of(bits, places)),
+            FieldStep::Refused(r) => return FieldsKept::Refused(r),
         }
     }
 }

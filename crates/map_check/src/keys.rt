@@ -1,6 +1,7 @@
 // The key indexes of a map, in its fields 8 and 9: all below n, and none twice.
-use crate::field::Found;
-use crate::field::Judged;
+use crate::found::Found;
+use crate::rank::Place;
+use table_map::Judged;
 use wire::Packed;
 use wire::refusal::BAD_FIELD;
 ghost use mathlib.Core.Path.{_≡_};
@@ -11,8 +12,8 @@ ghost use lib.ListN.{length};
 ghost use lib.Dec.{ltb};
 ghost use Rattle.wire.specs.Outcome.{after};
 ghost use Rattle.wire.specs.Packed.{packedOf};
+ghost use Rattle.table_map.specs.Fields.{judgedOf};
 ghost use Rattle.map_check.specs.Contents.{listHolds, keyItem};
-ghost use Rattle.map_check.specs.Fields.{judgedOf};
 ghost use Rattle.map_check.specs.Keys.{keysFrom, keysOnce, onceIn};
 
 // The key index at `at`, and the place after its item, which in field 9 has a prefix length too.
@@ -39,11 +40,11 @@ pub(crate) fn key_at(value: &[u8], paired: bool, at: usize) -> Packed
     }
 }
 
-// Whether the value is keys, and all of them below n.
-pub(crate) fn keys_below(value: &[u8], paired: bool, n: usize) -> bool
-    ensures { λ r. ⌜ r ≡ listHolds (keyItem paired) (λ k. ltb k n) (now (value .entry)) 0 ⌝ }
+// Whether the value is keys, and each is the place of one of the map's columns.
+pub(crate) fn keys_below(value: &[u8], paired: bool, columns: Place) -> bool
+    ensures { λ r. ⌜ r ≡ listHolds (keyItem paired) (λ k. ltb k (columns .0)) (now (value .entry)) 0 ⌝ }
 {
-    let above = n as u64;
+    let above = columns.0 as u64;
     let mut at: usize = 0;
     while at < value.len() {
         match key_at(value, paired, at) {
@@ -61,13 +62,13 @@ pub(crate) fn keys_below(value: &[u8], paired: bool, n: usize) -> bool
 
 // The keys of a field's value, which starts at `start` of the event. The earliest item that repeats one is told, so the later item is the outer loop:
 // with the earlier one outside, keys 1, 2, 2, 1 would be told at the fourth item and not at the third. The contents were judged before, so keys are
-// below n, which is at most 255: a repetition comes within the first n + 1 items, and however long the value is, at most 255 * 256 / 2 pairs of items
-// are compared.
+// below n, which is at most MOST_COLUMNS: a repetition comes within the first n + 1 items, and however long the value is, at most n (n + 1) / 2 pairs
+// of items are compared.
 fn keys_once(value: &[u8], paired: bool, start: usize) -> Judged
     requires { ⌜ start + length (now value) < 2 ^ 64 ⌝ }
     ensures { λ r. ⌜ judgedOf r ≡ keysOnce start [] (keysFrom paired (now (value .entry)) 0) ⌝ }
 {
-    let mut answer = Judged::Kept;
+    let mut answer = Judged::Holds;
     let mut later: usize = 0;
     'later: while later < value.len() {
         let Packed::Value { value: key, next } = key_at(value, paired, later) else {
@@ -102,10 +103,10 @@ fn once_in(event: &[u8], paired: bool, field: Found) -> Judged
     match field {
         Found::Value(part) => {
             let start = part.start;
-            let value = table_map::part_of(event, part);
+            let value = wire::part_of(event, part);
             keys_once(value, paired, start)
         }
-        Found::Nothing => Judged::Kept,
+        Found::Nothing => Judged::Holds,
     }
 }
 
@@ -114,7 +115,7 @@ pub(crate) fn keys_checked(event: &[u8], simple: Found, prefixed: Found) -> Judg
     ensures { λ r. ⌜ judgedOf r ≡ after (onceIn false (now (event .entry)) simple) (λ x. onceIn true (now (event .entry)) prefixed) ⌝ }
 {
     match once_in(event, false, simple) {
-        Judged::Kept => once_in(event, true, prefixed),
+        Judged::Holds => once_in(event, true, prefixed),
         Judged::Refused(r) => Judged::Refused(r),
     }
 }

@@ -1,18 +1,18 @@
 // The names of columns (table_map_event.rs: ColumnName).
-use crate::field::Found;
 use crate::field::find_field;
+use crate::found::Found;
 use crate::rank::Place;
 use table_map::EventRead;
 use table_map::Fields;
-use table_map::Part;
 use table_map::StringStep;
 use table_map::Strings;
 use value::Dialect;
+use wire::Part;
 use wire::Refusal;
 use wire::refusal::NO_COLUMN;
 ghost use mathlib.Core.Path.{_≡_};
 ghost use Rattle.table_map.specs.Events.{readEvent};
-ghost use Rattle.map_check.specs.Names.{listOf, stringAt, columnName, nameIn, partFound, namesPart, namesBytes, nameOf};
+ghost use Rattle.map_check.specs.Names.{listOf, stringAt, columnName, nameIn, partFound, namesPart, nameOf};
 
 // The type of the field that holds the names.
 const NAMES: u8 = 4;
@@ -35,7 +35,7 @@ pub fn name_part<'a>(names: &'a [u8], operator: &'a [u8], column: Place) -> &'a 
     ensures { λ r. ⌜ now r ≡ nameIn (listOf (now (names .entry)) (now (operator .entry))) (columnName (now (names .entry)) (now (operator .entry)) column) ⌝ }
 {
     match column_name(names, operator, column) {
-        NameRead::Name(part) => table_map::part_of(list_of(names, operator), part),
+        NameRead::Name(part) => wire::part_of(list_of(names, operator), part),
         NameRead::Refused(_) => &names[0..0],
     }
 }
@@ -50,15 +50,8 @@ pub fn names_part(event: &[u8], post_header: u8, dialect: Dialect) -> Part
     };
     let types = e.types;
     let optional = e.optional;
-    let fields = Fields::new(dialect, table_map::part_of(event, types), optional.start);
+    let fields = Fields::new(dialect, wire::part_of(event, types), optional.start);
     part_found(find_field(event, fields, NAMES))
-}
-
-// Their bytes, none where there are no names.
-pub fn names_field(event: &[u8], post_header: u8, dialect: Dialect) -> &[u8]
-    ensures { λ r. ⌜ now r ≡ namesBytes dialect (now (event .entry)) (readEvent (now (event .entry)) «post_header») ⌝ }
-{
-    table_map::part_of(event, names_part(event, post_header, dialect))
 }
 
 // The part of a value that was found, start and length 0 where there is none.

@@ -1,8 +1,9 @@
 // Two ways of numbering columns: by their place in the table, and by their rank among the columns of a class.
-use crate::column::Declared;
+use crate::declare::Declared;
 use value::Dialect;
 ghost use mathlib.Core.Path.{_≡_};
 ghost use Prim.Native.Nat.{_≤_};
+ghost use Rattle.record.specs.Records.{mostColumns};
 ghost use Rattle.map_check.specs.Ranks.{passed, noRanks, ranksAfter, AtMost};
 
 // A column's place in the table, from 0 on.
@@ -41,7 +42,7 @@ pub(crate) fn no_ranks() -> Ranks
 
 // The next rank of a class after a column, which may be of the class.
 fn passed(before: Rank, member: bool) -> Rank
-    requires { ⌜ before .0 ≤ 65535 ⌝ }
+    requires { ⌜ before .0 ≤ mostColumns ⌝ }
     ensures { λ r. ⌜ r ≡ passed before member ⌝ }
 {
     if member {
@@ -52,7 +53,7 @@ fn passed(before: Rank, member: bool) -> Rank
 
 // The next rank of every class, after a column. Signedness goes by the type byte, every other class by the real type.
 pub(crate) fn ranks_after(dialect: Dialect, ranks: Ranks, column: Declared) -> Ranks
-    requires { ⌜ AtMost 65535 ranks ⌝ }
+    requires { ⌜ AtMost mostColumns ranks ⌝ }
     ensures { λ r. ⌜ r ≡ ranksAfter dialect ranks column ⌝ }
 {
     let real = column.real;

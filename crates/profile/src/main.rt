@@ -16,6 +16,9 @@ use wire::refusal::NO_ROOM;
 // The longest input that is taken. The buffer for it has a byte more, so that a longer one is told.
 const MOST_INPUT: usize = 65536;
 
+// The longest output: a line for each column, of six numbers of up to three digits, or five for the charset.
+const MOST_OUTPUT: usize = 32 * record::MOST_COLUMNS;
+
 const POST_HEADER: u8 = 8;
 
 // What the word asks for.
@@ -98,32 +101,25 @@ fn put_column(out: &mut [u8], used: usize, place: usize, entry: Entry) -> usize 
     )
 }
 
-// How many columns a record of so many bytes has: six bytes stand before them, and each has six.
-fn columns_of(length: usize) -> usize {
-    if length < 6 {
-        return 0;
-    }
-    (length - 6) / 6
-}
-
-fn put_columns(out: &mut [u8], profile: &[u8], columns: usize) -> usize {
+// A line for each column whose entry stands within a record of so many bytes.
+fn put_columns(out: &mut [u8], profile: &[u8], length: usize) -> usize {
     let mut used: usize = 0;
     let mut j: usize = 0;
-    while j < columns {
+    while record::entry_at(j) < length {
         used = put_column(out, used, j, record::entry_in(profile, j));
         j += 1;
     }
     used
 }
 
-// The lines for an event. The longest record has 1,536 bytes: 6, and 6 for each of 255 columns.
+// The lines for an event.
 fn put_profile(out: &mut [u8], event: &[u8], dialect: Dialect) -> usize {
     if MOST_INPUT < event.len() {
         return put_refused(out, 0, wire::refuse(NO_ROOM, 0));
     }
-    let mut profile = [0u8; 1536];
+    let mut profile = [0u8; record::MOST_BYTES];
     match map_check::check(event, POST_HEADER, dialect, &mut profile) {
-        Written::Done { next } => put_columns(out, &profile, columns_of(next)),
+        Written::Done { next } => put_columns(out, &profile, next),
         Written::Refused(refusal) => put_refused(out, 0, refusal),
     }
 }
@@ -144,8 +140,8 @@ fn main() {
         );
         return;
     };
-    let mut event = [0u8; 65537];
-    let mut out = [0u8; 8192];
+    let mut event = [0u8; MOST_INPUT + 1];
+    let mut out = [0u8; MOST_OUTPUT];
     let length = io::read_full(STDIN_FILENO, &mut event);
     let used = put_profile(&mut out, &event[..length], dialect);
     print(&out, used);

@@ -1,5 +1,5 @@
 // What is printed, gathered in a buffer: `used` bytes of `out` wait, and each function returns the
-// new count. What has no room is left out; the buffer holds the lines of 255 columns.
+// new count. What has no room is left out; the buffer holds a line for each column that a record may have.
 
 fn put_byte(out: &mut [u8], used: usize, b: u8) -> usize {
     if out.len() <= used {

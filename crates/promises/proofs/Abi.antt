@@ -1,7 +1,7 @@
 -- Demand 1 for the calls of `feed_abi`: each refuses as the call of the library that it stands over, or before it; and what a caller is left with. Assumes nothing.
 use Prim.Native.Nat.{ℕ, zero, suc, _+_, _≤_}
 use mathlib.Core.Path.{_≡_, refl, sym, ap, subst, _∙_}
-use mathlib.Core.Bool.{Bool, true, false, cond}
+use mathlib.Core.Bool.{Bool, true, false, true≢false, cond}
 use mathlib.Core.List.{List, [], _∷_}
 use native.Mathlib.Omega.{arith}
 use borrow.Author.Tests.{le-leb, leb-true}
@@ -21,7 +21,7 @@ use Rattle.image.specs.Split.{Told, null, value, end, cursor, firstCursor, step
 use Rattle.image.specs.Puts.{startImage, putFrom}
 use Rattle.feed_abi.specs.Answers.{numberOf, toldOf, statusOf, numbersLeft, bytesLeft}
 use Rattle.feed_abi.specs.Calls.{said, saidWith, lengthNumbers, partNumbers, cursorNumbers, stepNumbers, toldNumbers, dialectOf, feedCheck, feedColumn, feedNames, feedName, feedFirst, feedStep, feedStart, feedPut}
-use Rattle.promises.specs.Refusals.{Line, OneOf, just, later, inTable, Only}
+use Rattle.promises.specs.Refusals.{Line, OneOf, just, later, refusalNumbers, isAmong, inTable, Only}
 use Rattle.promises.specs.Buffers.{Touched}
 use Rattle.promises.specs.Abi.{Answered, Counts, AbiCalls}
 use Rattle.promises.proofs.Only.{Listed, done, stop, chain, test}
@@ -58,9 +58,14 @@ unfolding feedColumn
 column-told r j eleven fourteen = chain (readRecord r) _ (record-read r eleven) (λ n e. test (ltb j n) (λ u. done _) (λ u. stop fourteen))
 
 -- ---- the status
+-- 0 is no number of the table
+number-not-zero : (n : ℕ) → isAmong n refusalNumbers ≡ true → n ≡ 0 → ⊥
+unfolding isAmong
+number-not-zero n h e = true≢false (sym (rw e at h))
+
 no-refusal : (answer : Outcome (List ℕ)) (ls : List Line) → Only answer ls → numberOf answer ≡ 0 → (ns : List ℕ) × (answer ≡ ok ns)
 no-refusal (ok ns) ls h e = (ns, refl)
-no-refusal (refused w) ls h e = let n = refusals .numbered (refused w) ls w h refl .0 in absurd (omega arith)
+no-refusal (refused w) ls h e = absurd (number-not-zero (w .number) (refusals .numbered (refused w) ls w h refl) e)
 
 zero-answered : (k : ℕ) (out : List ℕ) (answer : Outcome (List ℕ)) (ls : List Line) → Only answer ls → statusOf k out answer ≡ 0 → Answered k out answer
 unfolding statusOf
@@ -73,13 +78,12 @@ answered-zero : (k : ℕ) (out : List ℕ) (answer : Outcome (List ℕ)) → Ans
 unfolding statusOf
 answered-zero k out answer (ns, e, l) = rw (le-leb k (length out) l, e)
 
-number-in-table : (answer : Outcome (List ℕ)) (ls : List Line) → Only answer ls → numberOf answer ≤ 14
-number-in-table (ok ns) ls h = omega arith
-number-in-table (refused w) ls h = refusals .numbered (refused w) ls w h refl .1
-
-status-in-table : (t : Bool) (n : ℕ) → n ≤ 14 → cond t n 8 ≤ 14
-status-in-table true n h = h
-status-in-table false n h = omega arith
+status-in-table : (t : Bool) (answer : Outcome (List ℕ)) (ls : List Line) → Only answer ls → (cond t (numberOf answer) 8 ≡ 0 → ⊥)
+    → isAmong (cond t (numberOf answer) 8) refusalNumbers ≡ true
+unfolding isAmong
+status-in-table true (ok ns) ls h z = absurd (z refl)
+status-in-table true (refused w) ls h z = refusals .numbered (refused w) ls w h refl
+status-in-table false answer ls h z = refl
 
 -- ---- what is left of the numbers, k of which are told
 all-told : (k : ℕ) (out ns : List ℕ) → length ns ≡ k → k ≤ length out → Touched out 0 k (stored out 0 ns)
@@ -142,7 +146,7 @@ unfolding numbersLeft
 told-alone k out answer h (ns, e, l) = rw (le-leb k (length out) l, e) (all-told k out ns (h ns e) l)
 
 pub abi : AbiCalls
-unfolding feedCheck feedNames feedName feedFirst feedStep feedStart feedPut statusOf numbersLeft bytesLeft inTable
+unfolding feedCheck feedNames feedName feedFirst feedStep feedStart feedPut statusOf numbersLeft bytesLeft inTable isAmong
 abi = record {
   feed-check = λ event postHeader dialect buf n e.
       only refl
@@ -161,7 +165,7 @@ abi = record {
       (chain (valueOf kind parts) _ (value-made kind parts just)
       (λ v u. wider _ (left-too cursorNumbers (putFrom r p nulls (cursor column offset) lent v im) (refusals .put-value r p nulls (cursor column offset) lent v im)))));
   status-zero = λ k out answer ls h. (zero-answered k out answer ls h, answered-zero k out answer);
-  status-table = λ k out answer ls h. status-in-table (leb k (length out)) (numberOf answer) (number-in-table answer ls h);
+  status-table = λ k out answer ls h z. status-in-table (leb k (length out)) answer ls h z;
   numbers-kept = λ k out answer l h. numbers-left (leb k (length out)) out answer (λ u. let n = leb-true k (length out) u in omega arith) h;
   bytes-kept = λ k out buf rule h. bytes-left (leb k (length out)) buf rule h;
   check-one = λ event postHeader dialect buf. then-counts 1 (dialectOf dialect) _ (λ d. left-counts 1 lengthNumbers (check d event postHeader buf) (λ n. refl));

@@ -1,6 +1,6 @@
 -- Every writer's success is one store, so it touches only the bytes reported. Assumes nothing.
 use Prim.Native.Nat.{ℕ, _+_, _≤_}
-use mathlib.Core.Path.{_≡_, refl, sym, ap, subst, _∙_}
+use mathlib.Core.Path.{_≡_, sym, ap, subst, _∙_}
 use mathlib.Core.List.{List, [], _∷_}
 use native.Mathlib.Omega.{arith}
 use borrow.Author.Tests.{leb-true}
@@ -8,7 +8,6 @@ use lib.ListN.{length, drop, getD}
 use lib.Seq.{drop-drop, drop-append-seam}
 use lib.Dec.{leb, ltb}
 use Rattle.wire.specs.Outcome.{Outcome, ok, why}
-use Rattle.wire.specs.Bits.{withDigit}
 use Rattle.wire.specs.Stored.{stored, store}
 use Rattle.wire.proofs.Outcomes.{after-is-ok, test-is-ok, by-test, ok-not-refused, same-ok}
 use Rattle.wire.proofs.Stores.{length-stored, stored-front, stored-from}
@@ -17,7 +16,7 @@ use Rattle.temporal.specs.declared.parts.Temporal.{Temporal}
 use Rattle.temporal.specs.Domains.{domain}
 use Rattle.temporal.specs.Reading.{bytesOf, writeTemporal}
 use Rattle.value.specs.declared.column.Column.{Column}
-use Rattle.value.specs.declared.column.Dialect.{Dialect}
+use Rattle.value.specs.declared.classes.Dialect.{Dialect}
 use Rattle.value.specs.declared.datum.Value.{Value}
 use Rattle.value.specs.Columns.{shapeOf}
 use Rattle.value.specs.Storing.{storedBytes, writeValue}
@@ -26,7 +25,6 @@ use Rattle.table_map.specs.Writes.{Parts, isEvent, eventBytes, writeEvent}
 use Rattle.record.specs.Records.{recordBytes}
 use Rattle.map_check.specs.Check.{checkMap, check}
 use Rattle.image.specs.declared.cursor.Cursor.{Cursor}
-use Rattle.image.specs.Present.{countBits}
 use Rattle.image.specs.Split.{Slot, cursor, slotsAt}
 use Rattle.image.specs.Puts.{filled, headNulls, startImage, slotBytes, putOver, putFrom}
 use Rattle.image.proofs.Fills.{fill-length}
@@ -80,11 +78,11 @@ unfolding startImage
 starts r p nulls buf next left e =
     let a = after-is-ok (headNulls r p nulls) _ (next, left) e in
     let h = a .0 in
-    let c = countBits p (h .columns) in
+    let c = h .present in
     let b = after-is-ok (store buf 0 (filled c nulls)) _ (next, left) (a .2) in
     let x = b .0 in
     let m = nulls-tested r p nulls (a .1) .1 in
-    let f = fill-length c nulls (nulls-size r p nulls buf (a .1) c refl) in
+    let f = fill-length c nulls (nulls-size r p nulls buf (a .1)) in
     let z = store-ends buf 0 (filled c nulls) (x .0) (x .1) (b .1) in
     let q = same-ok (b .2) in
     let i : h .nulls ≡ next .offset = ap (λ (y : Cursor × List ℕ). y .0 .offset) q in
@@ -148,7 +146,6 @@ feed-puts r p nulls column offset kind parts lent im ns left e =
 pub buffers : Buffers
 buffers = record {
   write-bytes = stores;
-  write-bit = λ buf o digit on n left e. stores buf o (withDigit (getD buf o 0) digit on ∷ []) n left e;
   write-temporal = temporals;
   write-value = values;
   write-event = events;

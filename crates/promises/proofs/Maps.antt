@@ -9,19 +9,21 @@ use lib.Dec.{leb, ltb, eqb}
 use Rattle.wire.specs.Bits.{bytesFor}
 use Rattle.wire.specs.Outcome.{Outcome, ok, refused, why}
 use Rattle.wire.specs.Packed.{readPacked}
+use Rattle.wire.specs.declared.part.Part.{Part}
+use Rattle.wire.specs.Parts.{partOf, lentPart, within}
 use Rattle.wire.proofs.Outcomes.{after-is-ok, same-ok}
+use Rattle.wire.proofs.Parts.{within-ok}
 use Rattle.wire.proofs.Forms.{read-moves}
-use Rattle.value.specs.declared.column.Dialect.{Dialect}
-use Rattle.value.specs.Columns.{familyOf, isKnown}
-use Rattle.table_map.specs.declared.part.Part.{Part}
+use Rattle.value.specs.declared.classes.Dialect.{Dialect}
+use Rattle.value.specs.Types.{familyOf, isKnown}
 use Rattle.table_map.specs.declared.event.Event.{Event}
 use Rattle.table_map.specs.declared.field.Fields.{Fields}
-use Rattle.table_map.specs.Parts.{partOf, lentPart, within, shortPart, longPart}
+use Rattle.table_map.specs.Parts.{shortPart, longPart}
 use Rattle.table_map.specs.Events.{idBytes, readNames, readColumns, readEvent, partIn}
 use Rattle.table_map.specs.Writes.{Parts, isEvent, eventBytes, writeEvent, eventSize}
 use Rattle.table_map.specs.Lists.{Rule, Stepped, end, item, step, pairItem, stringItem, strings, groupItem}
-use Rattle.table_map.specs.Fields.{isField, contentsHold, fieldItem, fieldStep}
-use Rattle.table_map.proofs.Chains.{within-ok, each-within}
+use Rattle.table_map.specs.Fields.{isField, contentsHold, cutField, judgeField, fieldItem, fieldStep}
+use Rattle.table_map.proofs.Chains.{each-within}
 use Rattle.table_map.proofs.Items.{long-moves, string-moves}
 use Rattle.table_map.proofs.Steps.{item-read}
 use Rattle.table_map.proofs.Walks.{item-moves}
@@ -30,19 +32,15 @@ use Rattle.record.specs.Records.{recordBytes}
 use Rattle.map_check.specs.declared.rank.Ranks.{Ranks}
 use Rattle.map_check.specs.Columns.{metaBytes, declared, isAccepted, takeColumn, takeColumns}
 use Rattle.map_check.specs.Ranks.{sizesOf}
-use Rattle.map_check.specs.Fields.{isKept, keep, keepSteps, keepFields, fieldsAt}
+use Rattle.map_check.specs.Fields.{standsBehind, keep, keepSteps, keepFields, fieldsAt}
 use Rattle.map_check.specs.Keys.{keysHold}
 use Rattle.map_check.specs.Check.{fewEnough, checkEvent, checkMap, check}
 use Rattle.map_check.specs.Names.{met, stringAt}
 use Rattle.map_check.proofs.Twice.{keys-told}
 use Rattle.promises.specs.Refusals.{Line, OneOf}
-use Rattle.promises.proofs.Only.{Listed, done, stop, hand, chain, test, packed, room}
+use Rattle.promises.proofs.Only.{Listed, done, stop, hand, chain, test, bytes-there, packed, room}
 
 -- ---- parts
-pub bytes-there : {ls : List Line} (s : List ℕ) (o n place : ℕ) → OneOf ls (why 1 place) → Listed ls (within s o n place)
-unfolding within
-bytes-there s o n place one = test (leb (o + n) (length s)) (λ u. done _) (λ u. stop one)
-
 short-part : {ls : List Line} (s : List ℕ) (o : ℕ) → OneOf ls (why 1 o) → Listed ls (shortPart s o)
 unfolding shortPart
 short-part s o one =
@@ -144,22 +142,33 @@ stepped rule s o past here =
     let l = ltb-false (length s) o v in
     chain (rule s o) _ (here (omega arith)) (λ x e. done _)))
 
--- a field: its length is behind its type byte
-field-item : {ls : List Line} (numeric columns : ℕ) (s : List ℕ) (o : ℕ) → OneOf ls (why 1 (o + 1)) → OneOf ls (why 2 (o + 1)) → OneOf ls (why 6 o) → OneOf ls (why 7 o)
-    → Listed ls (fieldItem numeric columns s o)
+-- a field cut out: its length is behind its type byte
+pub field-cut : {ls : List Line} (s : List ℕ) (o : ℕ) → OneOf ls (why 1 o) → OneOf ls (why 1 (o + 1)) → OneOf ls (why 2 (o + 1)) → Listed ls (cutField s o)
+unfolding cutField
+field-cut {ls} s o none one two =
+    chain (within s o 1 o) _ (bytes-there s o 1 o none) (λ a e.
+    let q : o + 1 ≡ a = sym (within-ok s o 1 o a e .0) in
+    chain (longPart s a) _ (long-part s a (subst (λ (p : ℕ). OneOf ls (why 1 p)) q one) (subst (λ (p : ℕ). OneOf ls (why 2 p)) q two)) (λ v f. done _))
+
+-- and judged
+pub field-judged : {ls : List Line} (numeric columns : ℕ) (s : List ℕ) (o : ℕ) (f : ℕ × Part) → OneOf ls (why 6 o) → OneOf ls (why 7 o)
+    → Listed ls (judgeField numeric columns s o f)
+unfolding judgeField
+field-judged numeric columns s o f six seven =
+    test (isField (f .0)) (λ u. test (contentsHold numeric columns (f .0) (lentPart s (f .1))) (λ u. done _) (λ u. stop seven)) (λ u. stop six)
+
+field-item : {ls : List Line} (numeric columns : ℕ) (s : List ℕ) (o : ℕ) → OneOf ls (why 1 o) → OneOf ls (why 1 (o + 1)) → OneOf ls (why 2 (o + 1)) → OneOf ls (why 6 o)
+    → OneOf ls (why 7 o) → Listed ls (fieldItem numeric columns s o)
 unfolding fieldItem
-field-item numeric columns s o one two six seven =
-    chain (longPart s (o + 1)) _ (long-part s (o + 1) one two) (λ v e.
-    test (isField (getD s o 0))
-    (λ u. test (contentsHold numeric columns (getD s o 0) (partOf s (v .0))) (λ u. done _) (λ u. stop seven))
-    (λ u. stop six))
+field-item numeric columns s o none one two six seven =
+    chain (cutField s o) _ (field-cut s o none one two) (λ x e. chain (judgeField numeric columns s o (x .0)) _ (field-judged numeric columns s o (x .0) six seven) (λ held f. done _))
 
 pub field-stepped : {ls : List Line} (c : Fields) (s : List ℕ) → OneOf ls (why 1 (c .at)) → OneOf ls (why 1 (c .at + 1)) → OneOf ls (why 2 (c .at + 1)) → OneOf ls (why 6 (c .at))
     → OneOf ls (why 7 (c .at)) → Listed ls (fieldStep c s)
 unfolding fieldStep
 field-stepped c s past one two six seven =
     chain (step (fieldItem (c .numeric) (c .columns)) s (c .at)) _
-    (stepped (fieldItem (c .numeric) (c .columns)) s (c .at) (λ h. past) (λ h. field-item (c .numeric) (c .columns) s (c .at) one two six seven))
+    (stepped (fieldItem (c .numeric) (c .columns)) s (c .at) (λ h. past) (λ h. field-item (c .numeric) (c .columns) s (c .at) past one two six seven))
     (λ x e. done _)
 
 -- ---- the check
@@ -192,15 +201,15 @@ module _ {ls : List Line} (s : List ℕ) (one : (p : ℕ) → p ≤ length s →
       met : Listed ls (step rule s o)
       met =
           stepped rule s o (λ l. absurd (omega arith))
-          (λ l. field-item (c .numeric) (c .columns) s o (one (o + 1) (omega arith)) (two (o + 1) (omega arith)) (six o l) (seven o l))
+          (λ l. field-item (c .numeric) (c .columns) s o (one o h) (one (o + 1) (omega arith)) (two (o + 1) (omega arith)) (six o l) (seven o l))
 
       go : ((kind next : ℕ) → next ≤ length s → Listed ls (keepSteps m sizes c s (kind ∷ before) next))
           → (x : Outcome (Stepped (ℕ × Part) ℕ)) → step rule s o ≡ x
-          → Listed ls (keep (λ kind next. keepSteps m sizes c s (kind ∷ before) next) (isKept sizes (c .columns) s before) o x)
+          → Listed ls (keep (λ kind next. keepSteps m sizes c s (kind ∷ before) next) (standsBehind sizes (c .columns) s before) o x)
       go again (ok end) e = done _
       go again (ok (item f next)) e =
           let l = item-moves rule (field-moves (c .numeric) (c .columns)) s o f next e .1 in
-          test (isKept sizes (c .columns) s before f)
+          test (standsBehind sizes (c .columns) s before f)
           (λ u. chain (keepSteps m sizes c s (f .0 ∷ before) next) _ (again (f .0) next l) (λ fs i. done _))
           (λ u. stop (seven o (item-read rule s o f next e .0)))
       go again (refused w) e = hand (step rule s o) w met e

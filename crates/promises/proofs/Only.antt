@@ -1,4 +1,4 @@
--- How a refusal is one of those listed: along a chain, over a test. And the refusals of packed integers and of stores. Assumes nothing.
+-- How a refusal is one of those listed: along a chain, over a test. And the refusals of parts, of integers and of stores. Assumes nothing.
 use Prim.Native.Nat.{ℕ, _+_}
 use mathlib.Core.Path.{_≡_, subst}
 use mathlib.Core.Bool.{Bool, true, false, cond}
@@ -8,7 +8,8 @@ use lib.ListN.{length, getD}
 use lib.Dec.{leb, eqb}
 use Rattle.wire.specs.declared.refusal.Refusal.{Refusal}
 use Rattle.wire.specs.Outcome.{Outcome, ok, refused, refuse, after, why}
-use Rattle.wire.specs.Packed.{readPacked, formOf, longForm}
+use Rattle.wire.specs.Packed.{readFixed, readPacked, formOf, longForm}
+use Rattle.wire.specs.Parts.{within}
 use Rattle.wire.specs.Stored.{store}
 use Rattle.wire.proofs.Outcomes.{by-test, after-refuses, ok-not-refused, same-refused}
 use Rattle.promises.specs.Refusals.{Line, OneOf}
@@ -32,6 +33,15 @@ chain o f h k w e = ⊎-elim (λ x. h w x) (λ x. k (x .0) (x .1) w (x .2)) (aft
 
 pub test : {A : Type 0} {ls : List Line} (t : Bool) {x y : Outcome A} → (t ≡ true → Listed ls x) → (t ≡ false → Listed ls y) → Listed ls (cond t x y)
 test t {x} {y} h k w e = by-test t x y (refused w) e (λ u f. h u w f) (λ u f. k u w f)
+
+-- ---- bytes that are to be there, and the number of k of them
+pub bytes-there : {ls : List Line} (s : List ℕ) (o n place : ℕ) → OneOf ls (why 1 place) → Listed ls (within s o n place)
+unfolding within
+bytes-there s o n place one = test (leb (o + n) (length s)) (λ u. done _) (λ u. stop one)
+
+pub fixed : {ls : List Line} (k : ℕ) (s : List ℕ) (o : ℕ) → OneOf ls (why 1 o) → Listed ls (readFixed k s o)
+unfolding readFixed
+fixed k s o one = chain (within s o k o) _ (bytes-there s o k o one) (λ n e. done _)
 
 -- ---- a packed integer
 long : {ls : List Line} (s : List ℕ) (p k : ℕ) → OneOf ls (why 1 p) → Listed ls (longForm s p k)

@@ -1,40 +1,33 @@
 -- Demand 1: every call refuses as it is listed, with a number of the table, and a refusal leaves the buffer. Assumes nothing.
-use Prim.Native.Nat.{ℕ, _≤_}
+use Prim.Native.Nat.{ℕ}
 use mathlib.Core.Path.{_≡_, refl}
-use mathlib.Core.Bool.{true, _&&_}
-use mathlib.Core.List.{List, [], _∷_}
+use mathlib.Core.Bool.{true}
+use mathlib.Core.List.{List, _∷_}
 use native.Mathlib.Omega.{arith}
-use borrow.Author.Tests.{leb-true}
-use lib.ListN.{getD}
-use lib.Dec.{leb}
 use Rattle.wire.specs.declared.refusal.Refusal.{Refusal}
 use Rattle.wire.specs.Outcome.{Outcome, ok, refused}
-use Rattle.wire.specs.Bits.{withDigit}
 use Rattle.wire.specs.Stored.{answerOf, leftOf}
 use Rattle.wire.proofs.Outcomes.{ok-not-refused, same-refused, both-true}
 use Rattle.value.specs.Columns.{shapeOf}
 use Rattle.value.proofs.Tables.{four-or-five}
 use Rattle.table_map.specs.Lists.{integerItem, pairItem, stringItem, groupItem}
 use Rattle.map_check.specs.Names.{listOf, columnName}
-use Rattle.promises.specs.Refusals.{Line, _at_, _below_, _upTo_, OneOf, just, under, most, later, numberOf, inTable, Only, EveryCall}
-use Rattle.promises.proofs.Only.{Listed, packed, room}
+use Rattle.promises.specs.Refusals.{Line, _at_, _below_, _upTo_, OneOf, just, under, most, later, numberOf, refusalNumbers, isAmong, inTable, Only, EveryCall}
+use Rattle.promises.proofs.Only.{Listed, bytes-there, fixed, packed, room}
 use Rattle.promises.proofs.Values.{temporal-read, temporal-written, column-taken, value-read, value-written, value-sized, value-made}
-use Rattle.promises.proofs.Maps.{long-part, event-read, event-written, event-sized, pair-item, group-item, stepped, field-stepped, checked, string-found}
-use Rattle.promises.proofs.Rows.{record-read, first-read, image-stepped, image-started, image-put}
+use Rattle.promises.proofs.Maps.{long-part, event-read, event-written, event-sized, pair-item, group-item, stepped, field-stepped, field-cut, field-judged, checked, string-found}
+use Rattle.promises.proofs.Rows.{record-read, head-read, first-read, image-stepped, image-started, image-put}
 
 -- a refusal that is listed has a listed number, and those are in the table
-line-number : (l : Line) (ls : List Line) → inTable (l ∷ ls) ≡ true → (1 ≤ numberOf l) × (numberOf l ≤ 14)
+line-number : (l : Line) (ls : List Line) → inTable (l ∷ ls) ≡ true → isAmong (numberOf l) refusalNumbers ≡ true
 unfolding inTable
-line-number l ls t =
-    let x = both-true (leb 1 (numberOf l)) (leb (numberOf l) 14 && inTable ls) t in
-    let y = both-true (leb (numberOf l) 14) (inTable ls) (x .1) in
-    (leb-true 1 (numberOf l) (x .0), leb-true (numberOf l) 14 (y .0))
+line-number l ls t = both-true (isAmong (numberOf l) refusalNumbers) (inTable ls) t .0
 
 lines-after : (l : Line) (ls : List Line) → inTable (l ∷ ls) ≡ true → inTable ls ≡ true
 unfolding inTable
-lines-after l ls t = both-true (leb (numberOf l) 14) (inTable ls) (both-true (leb 1 (numberOf l)) (leb (numberOf l) 14 && inTable ls) t .1) .1
+lines-after l ls t = both-true (isAmong (numberOf l) refusalNumbers) (inTable ls) t .1
 
-in-table : (ls : List Line) (w : Refusal) → inTable ls ≡ true → OneOf ls w → (1 ≤ w .number) × (w .number ≤ 14)
+in-table : (ls : List Line) (w : Refusal) → inTable ls ≡ true → OneOf ls w → isAmong (w .number) refusalNumbers ≡ true
 in-table (n at p ∷ ls) w t just = line-number (n at p) ls t
 in-table (n below q ∷ ls) w t (under h) = line-number (n below q) ls t
 in-table (n upTo q ∷ ls) w t (most h) = line-number (n upTo q) ls t
@@ -72,11 +65,12 @@ eighth : {a b c d e f g : Line} {ls : List Line} {w : Refusal} → OneOf ls w �
 eighth o = later (seventh o)
 
 pub refusals : EveryCall
-unfolding inTable columnName
+unfolding inTable isAmong columnName
 refusals = record {
+  within-bytes = λ s o n place. only refl (bytes-there s o n place just);
+  read-fixed = λ k s o. only refl (fixed k s o just);
   read-packed = λ s o. only refl (packed s o just (second just));
   write-bytes = λ buf o bytes. only refl (room buf o bytes just);
-  write-bit = λ buf o digit on. only refl (room buf o (withDigit (getD buf o 0) digit on ∷ []) just);
   read-temporal = λ k place s o. only refl (temporal-read k place s o just (second just));
   write-temporal = λ k place buf o t. only refl (temporal-written k place buf o t just (second just));
   read-value = λ c place s o. only refl (value-read (shapeOf c) place s o (column-taken c place just (second just)) (third just) (fourth just));
@@ -88,6 +82,8 @@ refusals = record {
   write-event = λ p buf. only refl (event-written p buf just (second just));
   event-size = λ p. only refl (event-sized p just (second just));
   next-field = λ c s. only refl (field-stepped c s just (second just) (third just) (fourth just) (fifth just));
+  cut-field = λ s o. only refl (field-cut s o just (second just) (third just));
+  judge-field = λ c s f. only refl (field-judged (c .numeric) (c .columns) s (c .at) f just (second just));
   next-integer = λ s o. only refl (stepped integerItem s o (λ h. just) (λ h. packed s o just (second just)));
   next-string = λ s o. only refl (stepped stringItem s o (λ h. just) (λ h. long-part s o just (second just)));
   next-pair = λ s o. only refl (stepped pairItem s o (λ h. just) (λ h. pair-item s (λ p l. second (most l)) (λ p l. third (most l)) o (omega arith)));
@@ -100,6 +96,7 @@ refusals = record {
       (λ p h. fifth (most h)));
   column-name = λ names operator c.
       only refl (string-found (listOf names operator) (c .0) (c .0) just (λ p h. second (under h)) (λ p h. third (under h)) 0 (omega arith));
+  read-head = λ r p. only refl (head-read just (second just) r p);
   first-cursor = λ r p. only refl (first-read just (second just) r p);
   step-image = λ r p im c.
       only refl (image-stepped r p im c just (second just) (third just) (fourth just) (fifth just) (λ j h. sixth (under h)) (λ j h. seventh (under h)));

@@ -1,16 +1,17 @@
 -- No contract leaves a choice of answer: the law of each enum, from its crate. Assumes nothing.
-use Rattle.wire.proofs.Views.{same-packed, same-written}
+use Rattle.wire.proofs.Views.{same-reach, same-packed, same-written, same-size}
 use Rattle.temporal.proofs.Views.{same-temporal}
-use Rattle.value.proofs.Views.{same-read, same-size}
+use Rattle.value.proofs.Views.{same-read}
 use Rattle.value_parts.proofs.Views.{same-made}
-use Rattle.table_map.proofs.Views.{same-event-read, same-integer, same-pair, same-string, same-group, same-charset, same-field}
+use Rattle.table_map.proofs.Views.{same-event-read, same-integer, same-pair, same-string, same-group, same-charset, same-field, same-cut, same-judged}
 use Rattle.record.proofs.Views.{same-record}
 use Rattle.map_check.proofs.Views.{same-name}
-use Rattle.image.proofs.Views.{same-step, same-first, same-put}
+use Rattle.image.proofs.Views.{same-step, same-first, same-head, same-put}
 use Rattle.promises.specs.Results.{Results}
 
 pub results : Results
 results = record {
+  reach = same-reach;
   packed = same-packed;
   written = same-written;
   temporal = same-temporal;
@@ -23,9 +24,12 @@ results = record {
   pair = same-pair;
   string = same-string;
   group = same-group;
+  cut = same-cut;
+  judged = same-judged;
   charset = same-charset;
   columns = same-record;
   name = same-name;
+  head = same-head;
   first = same-first;
   step = same-step;
   put = same-put;

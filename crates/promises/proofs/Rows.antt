@@ -1,6 +1,6 @@
 -- The refusals of row images, read and written. Under a valid record no column is one that there is not, so neither 4 nor 5 is among them. Assumes nothing.
 use Prim.Native.Nat.{ℕ, _-_, _≤_, _<_}
-use mathlib.Core.Path.{_≡_}
+use mathlib.Core.Path.{_≡_, subst}
 use mathlib.Core.Bool.{true}
 use mathlib.Core.List.{List, [], _∷_}
 use native.Mathlib.Omega.{arith}
@@ -17,10 +17,11 @@ use Rattle.record.specs.Records.{countOf, recordValid, readRecord}
 use Rattle.record.proofs.Valid.{valid-column}
 use Rattle.image.specs.declared.cursor.Cursor.{Cursor}
 use Rattle.image.specs.Present.{Present, countBits, shapeAt, presentFrom}
-use Rattle.image.specs.Split.{Slot, slots, slotsAt, headOf, firstCursor, stepOver, stepFrom}
+use Rattle.image.specs.Split.{Slot, slots, slotsAt, headOf, firstCursor, stepOver, slotsLeft, stepFrom}
 use Rattle.image.specs.Rows.{isNull}
 use Rattle.image.specs.Puts.{filled, headNulls, startImage, slotBytes, putOver, putFrom}
 use Rattle.image.proofs.Heads.{head-tested, nulls-tested}
+use Rattle.image.proofs.Steps.{left-stands}
 use Rattle.image.proofs.Splits.{Each}
 use Rattle.image.proofs.Presents.{each-from}
 use Rattle.promises.specs.Refusals.{Line, OneOf}
@@ -33,7 +34,7 @@ unfolding readRecord
 record-read r eleven = test (recordValid r) (λ u. done _) (λ u. stop eleven)
 
 module _ {ls : List Line} (eleven : OneOf ls (why 11 0)) (twelve : OneOf ls (why 12 0)) (r p : List ℕ) where
-  head-read : Listed ls (headOf r p)
+  pub head-read : Listed ls (headOf r p)
   unfolding headOf
   head-read = chain (readRecord r) _ (record-read r eleven) (λ n e. test (eqb (length p) (bytesFor n)) (λ u. done _) (λ u. stop twelve))
 
@@ -80,23 +81,24 @@ step-over r nine ten (i ∷ is) im o f =
 
 pub image-stepped : {ls : List Line} (r p im : List ℕ) (c : Cursor) → OneOf ls (why 11 0) → OneOf ls (why 12 0) → OneOf ls (why 14 (c .column)) → OneOf ls (why 9 0)
     → OneOf ls (why 9 (c .column)) → ((j : ℕ) → j < countOf r → OneOf ls (why 9 j)) → ((j : ℕ) → j < countOf r → OneOf ls (why 10 j)) → Listed ls (stepFrom r p im c)
-unfolding stepFrom
+unfolding stepFrom slotsLeft
 image-stepped r p im c eleven twelve fourteen none past nine ten =
-    chain (headOf r p) _ (head-read eleven twelve r p) (λ h e.
+    chain (slotsLeft r p im c) _
+    (chain (headOf r p) _ (head-read eleven twelve r p) (λ h e.
     test (ltb (h .columns) (c .column)) (λ u. stop fourteen)
     (λ u. test (ltb (length im) (h .nulls)) (λ u. stop none)
-    (λ _. test (ltb (length im) (c .offset)) (λ u. stop past)
-    (λ _.
-    let l = ltb-false (h .columns) (c .column) u in
-    let t = head-tested r p e in
-    step-over r nine ten (slotsAt r p im (c .column)) im (c .offset) (slots-fine r p im (c .column) (t .valid) (omega (arith, t .columns)))))))
+    (λ u. test (ltb (length im) (c .offset)) (λ u. stop past) (λ u. done _)))))
+    (λ is e.
+    let s = left-stands r p im c is e in
+    let t = head-tested r p (s .tested) in
+    step-over r nine ten is im (c .offset) (subst (OfFirst (Fine r)) (s .slots) (slots-fine r p im (c .column) (t .valid) (omega (arith, t .columns, s .column)))))
 
 -- ---- the writer: a start, and a step
 pub image-started : {ls : List Line} (r p nulls buf : List ℕ) → OneOf ls (why 11 0) → OneOf ls (why 12 0) → OneOf ls (why 8 0) → Listed ls (startImage r p nulls buf)
 unfolding startImage
 image-started r p nulls buf eleven twelve eight =
     chain (headNulls r p nulls) _ (nulls-read eleven twelve r p nulls) (λ h e.
-    chain (store buf 0 (filled (countBits p (h .columns)) nulls)) _ (room buf 0 (filled (countBits p (h .columns)) nulls) eight) (λ x f. done _))
+    chain (store buf 0 (filled (h .present) nulls)) _ (room buf 0 (filled (h .present) nulls) eight) (λ x f. done _))
 
 put-over : {ls : List Line} (r : List ℕ) (c : Cursor) → OneOf ls (why 14 (c .column)) → ((j : ℕ) → j < countOf r → OneOf ls (why 13 j)) → OneOf ls (why 8 0)
     → (is : List Slot) (lent : List ℕ) (v : Value) (buf : List ℕ) → OfFirst (Fine r) is → Listed ls (putOver is c lent v buf)

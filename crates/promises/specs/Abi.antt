@@ -2,6 +2,7 @@
 -- lent. A call stands here by the answer that its contract hands to `statusOf`, `numbersLeft` and `bytesLeft`, whatever it is lent. `abi` in proofs/Abi.antt proves all of it. Assumes nothing.
 use Prim.Native.Nat.{ℕ, _≤_}
 use mathlib.Core.Path.{_≡_}
+use mathlib.Core.Bool.{true}
 use mathlib.Core.List.{List, [], _∷_}
 use lib.ListN.{length}
 use Rattle.wire.specs.Outcome.{Outcome, ok}
@@ -11,7 +12,7 @@ use Rattle.record.specs.Records.{countOf}
 use Rattle.map_check.specs.Names.{listOf}
 use Rattle.feed_abi.specs.Answers.{statusOf, numbersLeft, bytesLeft}
 use Rattle.feed_abi.specs.Calls.{feedCheck, feedColumn, feedNames, feedName, feedFirst, feedStep, feedStart, feedPut}
-use Rattle.promises.specs.Refusals.{Line, _at_, _below_, _upTo_, Only}
+use Rattle.promises.specs.Refusals.{Line, _at_, _below_, _upTo_, refusalNumbers, isAmong, Only}
 use Rattle.promises.specs.Buffers.{Touched}
 
 -- the answer is no refusal, and there is room for its k numbers
@@ -51,7 +52,8 @@ pub record AbiCalls : Type 0 where
   pub status-zero : (k : ℕ) (out : List ℕ) (answer : Outcome (List ℕ)) (ls : List Line) → Only answer ls
       → (statusOf k out answer ≡ 0 → Answered k out answer) × (Answered k out answer → statusOf k out answer ≡ 0)
   -- else it is a number of document 01's table
-  pub status-table : (k : ℕ) (out : List ℕ) (answer : Outcome (List ℕ)) (ls : List Line) → Only answer ls → statusOf k out answer ≤ 14
+  pub status-table : (k : ℕ) (out : List ℕ) (answer : Outcome (List ℕ)) (ls : List Line) → Only answer ls → (statusOf k out answer ≡ 0 → ⊥)
+      → isAmong (statusOf k out answer) refusalNumbers ≡ true
   -- and then the numbers are as they were, but for the first, which tells the place
   pub numbers-kept : (k : ℕ) (out : List ℕ) (answer : Outcome (List ℕ)) → 1 ≤ k → (statusOf k out answer ≡ 0 → ⊥) → Touched out 0 1 (numbersLeft k out answer)
   -- and the bytes lent to a writer are as they were

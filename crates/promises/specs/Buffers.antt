@@ -2,17 +2,15 @@
 -- began to the place that it answers. Where it refused, see `Refusals`. `buffers` in proofs/Buffers.antt proves it. Assumes nothing.
 use Prim.Native.Nat.{ℕ}
 use mathlib.Core.Path.{_≡_}
-use mathlib.Core.Bool.{Bool}
 use mathlib.Core.List.{List}
 use lib.ListN.{length, getD, take, drop}
 use Rattle.wire.specs.Outcome.{ok}
 use Rattle.wire.specs.Stored.{store}
-use Rattle.wire.specs.Bits.{storeDigit}
 use Rattle.temporal.specs.declared.kind.Kind.{Kind}
 use Rattle.temporal.specs.declared.parts.Temporal.{Temporal}
 use Rattle.temporal.specs.Reading.{writeTemporal}
 use Rattle.value.specs.declared.column.Column.{Column}
-use Rattle.value.specs.declared.column.Dialect.{Dialect}
+use Rattle.value.specs.declared.classes.Dialect.{Dialect}
 use Rattle.value.specs.declared.datum.Value.{Value}
 use Rattle.value.specs.Columns.{shapeOf}
 use Rattle.value.specs.Storing.{writeValue}
@@ -31,8 +29,6 @@ pub record Touched (buf : List ℕ) (o n : ℕ) (left : List ℕ) : Type 0 where
 pub record Buffers : Type 0 where
   -- `write_packed`, `write_le`, `write_be`, `write_bytes`, `write_entry`, `write_head`
   pub write-bytes : (buf : List ℕ) (o : ℕ) (bytes : List ℕ) (n : ℕ) (left : List ℕ) → store buf o bytes ≡ ok (n, left) → Touched buf o n left
-  -- `write_bit_lsb0`, `write_bit_msb0`; o is the byte that has the bit
-  pub write-bit : (buf : List ℕ) (o digit : ℕ) (on : Bool) (n : ℕ) (left : List ℕ) → storeDigit buf o digit on ≡ ok (n, left) → Touched buf o n left
   pub write-temporal : (k : Kind) (place : ℕ) (buf : List ℕ) (o : ℕ) (t : Temporal) (n : ℕ) (left : List ℕ) → writeTemporal k place buf o t ≡ ok (n, left) → Touched buf o n left
   -- `write_value`, `write_lone`
   pub write-value : (c : Column) (place : ℕ) (lent : List ℕ) (v : Value) (buf : List ℕ) (o n : ℕ) (left : List ℕ) → writeValue (shapeOf c) place lent v buf o ≡ ok (n, left)

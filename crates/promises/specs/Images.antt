@@ -11,7 +11,7 @@ use Rattle.wire.specs.declared.refusal.Refusal.{Refusal}
 use Rattle.wire.specs.Outcome.{ok, refused, refuse}
 use Rattle.wire.specs.Number.{Bytes}
 use Rattle.wire.specs.Bits.{bytesFor}
-use Rattle.value.specs.declared.column.Dialect.{Dialect}
+use Rattle.value.specs.declared.classes.Dialect.{Dialect}
 use Rattle.record.specs.Records.{countOf, recordValid}
 use Rattle.map_check.specs.Check.{check}
 use Rattle.image.specs.declared.cursor.Cursor.{Cursor}
@@ -21,7 +21,7 @@ use Rattle.image.specs.Walk.{Walked, onward, walkFrom, walk}
 use Rattle.image.specs.Rows.{Row, inDomains, Says, Refusals}
 use Rattle.image.specs.WriteRow.{LentValue, rowOf, Fit, writeRow, imageSize, Wrote}
 use Rattle.image.proofs.Images.{every-image, only-says, no-other}
-use Rattle.image.proofs.Ways.{walk-on}
+use Rattle.image.proofs.Ways.{walk-on, only-walk}
 use Rattle.image.proofs.WriteRows.{written, not-written}
 use Rattle.image.proofs.Papers.{every-row-given}
 use Rattle.promises.specs.Checks.{checked-valid}
@@ -62,5 +62,9 @@ pub relied-on : (d : Dialect) (event : List ℕ) (postHeader : ℕ) (buf : List 
 relied-on d event postHeader buf n left h = relied (take n left) (checked-valid d event postHeader buf n left h)
 
 -- and the walk is its steps, which are what the library has: from any cursor, made up or not, it is the step's answer and then the walk from the step's cursor
-pub step-by-step : (r p im : List ℕ) (c : Cursor) → walkFrom r p im c ≡ onward (λ c′. walkFrom r p im c′) im (stepFrom r p im c)
+pub step-by-step : (r p im : List ℕ) (c : Cursor) → walkFrom r p im c ≡ onward (walkFrom r p im) im (stepFrom r p im c)
 step-by-step = walk-on
+
+-- exactly so: whatever goes by steps is this walk. So none that stops early does
+pub only-step-by-step : (r p im : List ℕ) (w : Cursor → Walked) → ((c : Cursor) → w c ≡ onward w im (stepFrom r p im c)) → (c : Cursor) → w c ≡ walkFrom r p im c
+only-step-by-step = only-walk

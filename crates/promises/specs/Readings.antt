@@ -8,6 +8,7 @@ use lib.ListN.{length}
 use Rattle.wire.specs.Outcome.{Outcome, ok, refused, refuse, after}
 use Rattle.wire.specs.Number.{leValue, leBytes}
 use Rattle.wire.specs.Packed.{readPacked, formOf, longForm, packedBytes}
+use Rattle.wire.specs.Parts.{within}
 use Rattle.temporal.specs.declared.kind.Kind.{Kind}
 use Rattle.temporal.specs.declared.kind.Kind.the-variants.{Datetime2, Time2}
 use Rattle.temporal.specs.declared.parts.Temporal.{Temporal}
@@ -15,28 +16,30 @@ use Rattle.temporal.specs.declared.parts.Temporal.the-variants.{At, Lasts}
 use Rattle.temporal.specs.Ranges.{clockFault, dayFault}
 use Rattle.temporal.specs.Reading.{readTemporal}
 use Rattle.value.specs.declared.shape.Shape.the-variants.{Counted}
-use Rattle.value.specs.Columns.{charLength, shapeOf, familyOf, isKnown, metadataBytes, realType, leftoverBytes, decimalBytes, shapeIn, isTaken, isNumeric, hasSignBit, isCharacter, hasCharset, isEnumOrSet}
-use Rattle.value.specs.declared.column.Dialect.the-variants.{Document}
+use Rattle.value.specs.Types.{familyOf, isKnown, metadataBytes, realType, isNumeric}
+use Rattle.value.specs.Columns.{charLength, shapeOf, leftoverBytes, decimalBytes, shapeIn, isTaken}
+use Rattle.value.specs.Classes.{hasSignBit, isCharacter, hasCharset, isEnumOrSet}
+use Rattle.value.specs.declared.classes.Dialect.the-variants.{Document}
 use Rattle.wire.specs.Bits.{digit, bitLsb0, bitMsb0}
-use Rattle.table_map.specs.Parts.{within, shortPart, longPart}
+use Rattle.table_map.specs.Parts.{shortPart, longPart}
 use Rattle.table_map.specs.Events.{readNames, readColumns, readEvent}
 use Rattle.table_map.specs.Lists.{step, walkSteps, pairItem, strings, groupItem}
-use Rattle.table_map.specs.Fields.{signBits, countSignBits, contentsHold, fieldItem, fieldStep}
+use Rattle.table_map.specs.Fields.{signBits, countSignBits, contentsHold, cutField, judgeField, fieldItem, fieldStep}
 use Rattle.record.specs.Entries.{entryBytes, flagsHold, charsetHolds, entryHolds, entryOf}
 use Rattle.record.specs.Records.{headBytes, entriesBytes, recordBytes, entryIn, entriesHold, headHolds, recordValid, readRecord}
 use Rattle.map_check.specs.Columns.{metaByte, declared, isReal, isAccepted, takeColumn, takeColumns}
 use Rattle.map_check.specs.Ranks.{ranksAfter, ranksFrom}
 use Rattle.map_check.specs.Contents.{every, listHolds, exactly, isCharset, integerHolds, pairsHold, pairsWhole, defaultHolds, keyItem, contentsFull}
-use Rattle.map_check.specs.Fields.{stood, rivalOf, isKept, keepSteps, firstOf}
+use Rattle.map_check.specs.Fields.{stood, rivalOf, standsGiven, keepSteps, firstOf}
 use Rattle.map_check.specs.Keys.{withPlace, keysOnce, keysHold}
 use Rattle.map_check.specs.Profile.{pairOr, charsetBy, charsetFor, flagsOf, entriesFrom}
 use Rattle.map_check.specs.Check.{fewEnough, checkEvent, checkMap}
 use Rattle.wire.specs.Signed.{signedOf}
 use Rattle.value.specs.Shapes.{need, decode, fault}
-use Rattle.value.specs.Reading.{taken, cut, judged, readDatum, readValue, datumOf}
+use Rattle.value.specs.Reading.{taken, cut, judged, readDatum}
 use Rattle.image.specs.Present.{countBits, shapeAt, presentFrom}
-use Rattle.image.specs.Split.{slots, slotsAt, headOf, firstCursor, stepOver, stepFrom}
-use Rattle.image.specs.Walk.{walkSteps as imageSteps, walk as walkImage}
+use Rattle.image.specs.Split.{slots, slotsAt, headOf, firstCursor, slotsLeft}
+use Rattle.image.specs.Walk.{readSlot, readSlots, walkFrom, walk as walkImage}
 use Rattle.value.specs.Data.{Datum, int, uint, bytes as raw}
 
 -- a reading: what is read, and the bytes that say it
@@ -99,5 +102,5 @@ table =
     ∷ []
 
 pub readings : Each Holds table
-unfolding table packedBytes leBytes readPacked formOf longForm leValue readTemporal clockFault dayFault shapeOf digit bitLsb0 bitMsb0 familyOf isKnown metadataBytes realType leftoverBytes decimalBytes shapeIn isTaken isNumeric hasSignBit isCharacter hasCharset isEnumOrSet within shortPart longPart readNames readColumns readEvent step walkSteps pairItem strings groupItem signBits countSignBits contentsHold fieldItem fieldStep entryBytes headBytes entriesBytes recordBytes metaByte declared isReal isAccepted takeColumn takeColumns ranksAfter ranksFrom every listHolds exactly isCharset integerHolds pairsHold pairsWhole defaultHolds keyItem contentsFull stood rivalOf isKept keepSteps firstOf withPlace keysOnce keysHold pairOr charsetBy charsetFor flagsOf entriesFrom fewEnough checkEvent checkMap signedOf need decode fault taken cut judged readDatum readValue datumOf flagsHold charsetHolds entryHolds entryOf entryIn entriesHold headHolds recordValid readRecord countBits shapeAt presentFrom slots slotsAt headOf firstCursor stepOver stepFrom imageSteps walkImage
+unfolding table packedBytes leBytes readPacked formOf longForm leValue readTemporal clockFault dayFault shapeOf digit bitLsb0 bitMsb0 familyOf isKnown metadataBytes realType leftoverBytes decimalBytes shapeIn isTaken isNumeric hasSignBit isCharacter hasCharset isEnumOrSet within shortPart longPart readNames readColumns readEvent step walkSteps pairItem strings groupItem signBits countSignBits contentsHold cutField judgeField fieldItem fieldStep entryBytes headBytes entriesBytes recordBytes metaByte declared isReal isAccepted takeColumn takeColumns ranksAfter ranksFrom every listHolds exactly isCharset integerHolds pairsHold pairsWhole defaultHolds keyItem contentsFull stood rivalOf standsGiven keepSteps firstOf withPlace keysOnce keysHold pairOr charsetBy charsetFor flagsOf entriesFrom fewEnough checkEvent checkMap signedOf need decode fault taken cut judged readDatum flagsHold charsetHolds entryHolds entryOf entryIn entriesHold headHolds recordValid readRecord countBits shapeAt presentFrom slots slotsAt headOf firstCursor slotsLeft readSlot readSlots walkFrom walkImage
 readings = ((refl, refl), ((refl, refl), ((refl, refl), (refl, (refl, (refl, (refl, ((refl, refl), ((refl, refl), (refl, (refl, tt)))))))))))

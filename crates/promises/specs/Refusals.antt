@@ -4,21 +4,22 @@
 -- definition that its contract equals, whatever it is lent. `refusals` in proofs/Refusals.antt proves all of it. Assumes nothing.
 use Prim.Native.Nat.{ℕ, _+_, _≤_, _<_}
 use mathlib.Core.Path.{_≡_}
-use mathlib.Core.Bool.{Bool, true, _&&_}
+use mathlib.Core.Bool.{Bool, true, false, _&&_, _||_}
 use mathlib.Core.Logic.{_⊎_}
 use mathlib.Core.List.{List, [], _∷_}
 use lib.ListN.{length}
-use lib.Dec.{leb}
+use lib.Dec.{eqb}
 use Rattle.wire.specs.declared.refusal.Refusal.{Refusal}
 use Rattle.wire.specs.Outcome.{Outcome, refused, why}
-use Rattle.wire.specs.Packed.{readPacked}
+use Rattle.wire.specs.Packed.{readFixed, readPacked}
 use Rattle.wire.specs.Stored.{store, answerOf, leftOf}
-use Rattle.wire.specs.Bits.{storeDigit}
+use Rattle.wire.specs.declared.part.Part.{Part}
+use Rattle.wire.specs.Parts.{within}
 use Rattle.temporal.specs.declared.kind.Kind.{Kind}
 use Rattle.temporal.specs.declared.parts.Temporal.{Temporal}
 use Rattle.temporal.specs.Reading.{readTemporal, writeTemporal}
 use Rattle.value.specs.declared.column.Column.{Column}
-use Rattle.value.specs.declared.column.Dialect.{Dialect}
+use Rattle.value.specs.declared.classes.Dialect.{Dialect}
 use Rattle.value.specs.declared.datum.Value.{Value}
 use Rattle.value.specs.declared.shape.Shape.the-variants.{NotTaken}
 use Rattle.value.specs.Columns.{shapeOf}
@@ -29,13 +30,13 @@ use Rattle.table_map.specs.declared.field.Fields.{Fields}
 use Rattle.table_map.specs.Events.{readEvent, partIn}
 use Rattle.table_map.specs.Writes.{Parts, writeEvent, eventSize}
 use Rattle.table_map.specs.Lists.{step, integerItem, pairItem, stringItem, groupItem, defaultCharset}
-use Rattle.table_map.specs.Fields.{fieldStep}
+use Rattle.table_map.specs.Fields.{cutField, judgeField, fieldStep}
 use Rattle.record.specs.Records.{countOf, readRecord}
 use Rattle.map_check.specs.declared.rank.Place.{Place}
 use Rattle.map_check.specs.Check.{check}
 use Rattle.map_check.specs.Names.{listOf, columnName}
 use Rattle.image.specs.declared.cursor.Cursor.{Cursor}
-use Rattle.image.specs.Split.{firstCursor, stepFrom}
+use Rattle.image.specs.Split.{headOf, firstCursor, stepFrom}
 use Rattle.image.specs.Puts.{startImage, putFrom}
 
 infix 70 _at_
@@ -60,10 +61,19 @@ numberOf (n at p) = n
 numberOf (n below p) = n
 numberOf (n upTo p) = n
 
--- all numbers are in document 01's table
+-- the numbers of document 01's table
+abbrev pub refusalNumbers : List ℕ
+refusalNumbers = 1 ∷ 2 ∷ 3 ∷ 4 ∷ 5 ∷ 6 ∷ 7 ∷ 8 ∷ 9 ∷ 10 ∷ 11 ∷ 12 ∷ 13 ∷ 14 ∷ []
+
+unfoldable pub isAmong : ℕ → List ℕ → Bool
+isAmong n [] = false
+isAmong n (m ∷ ms) = eqb n m || isAmong n ms
+
+-- all numbers are in the table
 unfoldable pub inTable : List Line → Bool
+unfolding isAmong
 inTable [] = true
-inTable (l ∷ ls) = leb 1 (numberOf l) && (leb (numberOf l) 14 && inTable ls)
+inTable (l ∷ ls) = isAmong (numberOf l) refusalNumbers && inTable ls
 
 -- where the answer is a refusal, it is one of those listed
 pub record Only {A : Type 0} (answer : Outcome A) (ls : List Line) : Type 0 where
@@ -72,18 +82,21 @@ pub record Only {A : Type 0} (answer : Outcome A) (ls : List Line) : Type 0 wher
 
 -- ---- demand 1
 pub record EveryCall : Type 1 where
-  -- ---- `wire`. `read_le`, `read_be`, `packed_size`, `bytes_for`, `bit_lsb0`, `bit_msb0` and `has_room` refuse nothing; `refuse` makes a refusal
+  -- ---- `wire`. `read_le`, `read_be`, `wide`, `top_of`, `signed_of`, `in_halves`, `twos_of`, `packed_size`, `bytes_for`, `bit_lsb0`, `bit_msb0`, `part_of` and `has_room` refuse nothing;
+  -- `refuse` makes a refusal
+  -- `within`: the place that the caller names
+  pub within-bytes : (s : List ℕ) (o n place : ℕ) → Only (within s o n place) (1 at place ∷ [])
+  -- `read_fixed`: the offset asked
+  pub read-fixed : (k : ℕ) (s : List ℕ) (o : ℕ) → Only (readFixed k s o) (1 at o ∷ [])
   -- `read_packed`: the offset asked
   pub read-packed : (s : List ℕ) (o : ℕ) → Only (readPacked s o) (1 at o ∷ 2 at o ∷ [])
   -- `write_packed`, `write_le`, `write_be`, `write_bytes`, and of `record` `write_entry` and `write_head`: each stores some bytes, from an offset on
   pub write-bytes : (buf : List ℕ) (o : ℕ) (bytes : List ℕ) → Only (store buf o bytes) (8 at 0 ∷ [])
-  -- `write_bit_lsb0`, `write_bit_msb0`
-  pub write-bit : (buf : List ℕ) (o digit : ℕ) (on : Bool) → Only (storeDigit buf o digit on) (8 at 0 ∷ [])
   -- ---- `temporal`. The place is the one that the caller names. `temporal_size` and `in_domain` refuse nothing
   -- `read_temporal`, `write_temporal`
   pub read-temporal : (k : Kind) (place : ℕ) (s : List ℕ) (o : ℕ) → Only (readTemporal k place s o) (9 at place ∷ 10 at place ∷ [])
   pub write-temporal : (k : Kind) (place : ℕ) (buf : List ℕ) (o : ℕ) (t : Temporal) → Only (writeTemporal k place buf o t) (13 at place ∷ 8 at 0 ∷ [])
-  -- ---- `value`. The place is the one that the caller names, and 0 for a lone value. `is_accepted`, `family_of`, `is_known`, `metadata_bytes`, `real_type`, `is_numeric`, `has_sign_bit`,
+  -- ---- `value`. The place is the one that the caller names, and 0 for a lone value. `is_accepted`, `family_of`, `is_known`, `declared_length`, `metadata_bytes`, `real_type`, `is_numeric`, `has_sign_bit`,
   -- `is_character`, `has_charset` and `is_enum_or_set` refuse nothing
   -- `read_value`, `read_lone`
   pub read-value : (c : Column) (place : ℕ) (s : List ℕ) (o : ℕ) → Only (readValue (shapeOf c) place s o) (4 at place ∷ 5 at place ∷ 9 at place ∷ 10 at place ∷ [])
@@ -97,7 +110,7 @@ pub record EveryCall : Type 1 where
   -- ---- `value_parts`. `kind_of` and `parts_of` refuse nothing
   -- `value_of`: a kind and parts that make no value
   pub value-of : (kind : ℕ) (parts : List ℕ) → Only (valueOf kind parts) (13 at 0 ∷ [])
-  -- ---- `table_map`. `part_of`, `Fields::new` and `flag` refuse nothing; `database_name`, `table_name`, `column_types`, `column_metadata`, `nullable_bits` and `optional_metadata` hand back an
+  -- ---- `table_map`. `Fields::new` and `flag` refuse nothing; `database_name`, `table_name`, `column_types`, `column_metadata`, `nullable_bits` and `optional_metadata` hand back an
   -- empty part where the event is refused
   -- `read_event`: an offset of the event, or its end
   pub read-event : (event : List ℕ) (postHeader : ℕ) → Only (readEvent event postHeader) (1 upTo length event ∷ 2 upTo length event ∷ [])
@@ -106,6 +119,10 @@ pub record EveryCall : Type 1 where
   pub event-size : (p : Parts) → Only (eventSize p) (13 at 0 ∷ 8 at 0 ∷ [])
   -- `Fields::next`: the field's type byte, or its length's first byte behind it; a cursor past the bytes is 1 where it stands
   pub next-field : (c : Fields) (s : List ℕ) → Only (fieldStep c s) (1 at c .at ∷ 1 at (c .at + 1) ∷ 2 at (c .at + 1) ∷ 6 at c .at ∷ 7 at c .at ∷ [])
+  -- `cut_field`: the place asked, if there is no type byte, or its length's first byte behind it
+  pub cut-field : (s : List ℕ) (o : ℕ) → Only (cutField s o) (1 at o ∷ 1 at (o + 1) ∷ 2 at (o + 1) ∷ [])
+  -- `Fields::judge`: where the cursor stands
+  pub judge-field : (c : Fields) (s : List ℕ) (f : ℕ × Part) → Only (judgeField (c .numeric) (c .columns) s (c .at) f) (6 at c .at ∷ 7 at c .at ∷ [])
   -- `next` of `Integers` and `Strings`: where the cursor stands
   pub next-integer : (s : List ℕ) (o : ℕ) → Only (step integerItem s o) (1 at o ∷ 2 at o ∷ [])
   pub next-string : (s : List ℕ) (o : ℕ) → Only (step stringItem s o) (1 at o ∷ 2 at o ∷ [])
@@ -114,10 +131,10 @@ pub record EveryCall : Type 1 where
   pub next-group : (s : List ℕ) (o : ℕ) → Only (step groupItem s o) (1 at o ∷ 1 upTo length s ∷ 2 upTo length s ∷ [])
   -- `default_charset`: the start of the value
   pub default-charset : (value : List ℕ) → Only (defaultCharset value) (1 at 0 ∷ 2 at 0 ∷ [])
-  -- ---- `record`. `record_valid`, `entry_in`, `entry_holds` and `column_of` refuse nothing
+  -- ---- `record`. `entry_at`, `entry_in`, `entry_holds` and `column_of` refuse nothing
   -- `read_record`
   pub read-record : (r : List ℕ) → Only (readRecord r) (11 at 0 ∷ [])
-  -- ---- `map_check`. `name_part` and the calls for the names field (`names_part`, `names_field`) hand back an empty part where there is a refusal
+  -- ---- `map_check`. `name_part` and `names_part` hand back an empty part where there is a refusal
   -- `check`: 1, 2, 6 and 7 at an offset of the event; 4 at a column, and 5 too, or at n for metadata left over, n being how many type bytes the event has
   pub check-map : (d : Dialect) (event : List ℕ) (postHeader : ℕ) (buf : List ℕ) (n : ℕ) → n ≡ length (partIn (λ e. e .types) event (readEvent event postHeader))
       → Only (check d event postHeader buf)
@@ -125,8 +142,9 @@ pub record EveryCall : Type 1 where
   -- `column_name`: the column asked, or an offset of the list that is looked at
   pub column-name : (names operator : List ℕ) (c : Place)
       → Only (columnName names operator c) (14 at c .0 ∷ 1 below length (listOf names operator) ∷ 2 below length (listOf names operator) ∷ [])
-  -- ---- `image`; r is the record, p the presence bits. `value_bytes` refuses nothing
-  -- `first_cursor`
+  -- ---- `image`; r is the record, p the presence bits. `count_bits` and `first_set` refuse nothing
+  -- `read_head`, `first_cursor`
+  pub read-head : (r p : List ℕ) → Only (headOf r p) (11 at 0 ∷ 12 at 0 ∷ [])
   pub first-cursor : (r p : List ℕ) → Only (firstCursor r p) (11 at 0 ∷ 12 at 0 ∷ [])
   -- `Cursor::step`: 14 at the cursor's column; 9 at 0 in the null bits, at the cursor's column for an offset past the image, and else, as 10, at one of the record's columns
   pub step-image : (r p im : List ℕ) (c : Cursor)
@@ -138,6 +156,6 @@ pub record EveryCall : Type 1 where
       → Only (putFrom r p nulls c lent v buf) (11 at 0 ∷ 12 at 0 ∷ 14 at c .column ∷ 13 below countOf r ∷ 8 at 0 ∷ [])
   -- ---- all calls
   -- every refusal so listed has a number of the table
-  pub numbered : {A : Type 0} (answer : Outcome A) (ls : List Line) (w : Refusal) → Only answer ls → answer ≡ refused w → (1 ≤ w .number) × (w .number ≤ 14)
+  pub numbered : {A : Type 0} (answer : Outcome A) (ls : List Line) (w : Refusal) → Only answer ls → answer ≡ refused w → isAmong (w .number) refusalNumbers ≡ true
   -- where a writer answers a refusal, that is its rule's, and the buffer that it leaves is the one that it was lent
   pub buffer-kept : {A : Type 0} (buf : List ℕ) (rule : Outcome (A × List ℕ)) (w : Refusal) → answerOf rule ≡ refused w → (rule ≡ refused w) × (leftOf buf rule ≡ buf)

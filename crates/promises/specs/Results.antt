@@ -3,17 +3,17 @@
 -- answers. `results` in proofs/Results.antt proves it. Assumes nothing.
 use mathlib.Core.Path.{_≡_}
 use Rattle.wire.specs.Packed.{packedOf}
-use Rattle.wire.specs.Stored.{writtenOf}
+use Rattle.wire.specs.Stored.{writtenOf, sizeSaid}
+use Rattle.wire.specs.Parts.{reachOf}
 use Rattle.temporal.specs.Reading.{temporalOf}
 use Rattle.value.specs.Reading.{readOf}
-use Rattle.value.specs.Storing.{sizeSaid}
 use Rattle.value_parts.specs.Parts.{madeOf}
 use Rattle.table_map.specs.Events.{eventOf}
 use Rattle.table_map.specs.Lists.{integerOf, pairOf, stringOf, groupOf, charsetOf}
-use Rattle.table_map.specs.Fields.{fieldOf}
+use Rattle.table_map.specs.Fields.{fieldOf, fieldCutOf, judgedOf}
 use Rattle.record.specs.Records.{recordOf}
 use Rattle.map_check.specs.Names.{nameOf}
-use Rattle.image.specs.Split.{told, firstTold}
+use Rattle.image.specs.Split.{told, firstTold, headTold}
 use Rattle.image.specs.Puts.{putTold}
 
 -- answers that look the same are the same
@@ -21,7 +21,9 @@ abbrev pub Apart : {A B : Type 0} → (A → B) → Type 0
 Apart {A} view = (a b : A) → view a ≡ view b → a ≡ b
 
 pub record Results : Type 0 where
-  -- `read_packed`
+  -- `within`
+  pub reach : Apart reachOf
+  -- `read_fixed`, `read_packed`
   pub packed : Apart packedOf
   -- every writer of bytes, among them `write_event` and `check`
   pub written : Apart writtenOf
@@ -41,13 +43,17 @@ pub record Results : Type 0 where
   pub pair : Apart pairOf
   pub string : Apart stringOf
   pub group : Apart groupOf
+  -- `cut_field`, `Fields::judge`
+  pub cut : Apart fieldCutOf
+  pub judged : Apart judgedOf
   -- `default_charset`
   pub charset : Apart charsetOf
   -- `read_record`
   pub columns : Apart recordOf
   -- `column_name`
   pub name : Apart nameOf
-  -- `first_cursor`, `Cursor::step`, and `start` with `Cursor::put`
+  -- `read_head`, `first_cursor`, `Cursor::step`, and `start` with `Cursor::put`
+  pub head : Apart headTold
   pub first : Apart firstTold
   pub step : Apart told
   pub put : Apart putTold

@@ -13,7 +13,7 @@ use Rattle.wire.specs.Number.{Bytes, leValue, leBytes}
 use Rattle.wire.proofs.Inverse.{bytes-append, leBytes-bytes, le-back}
 use Rattle.record.specs.declared.entry.Entry.{Entry}
 use Rattle.record.specs.Entries.{entryHolds, entryOf, entryBytes}
-use Rattle.record.specs.Records.{countOf, entryAt, entryIn, entriesHold, headHolds, recordValid, readRecord, headBytes, entriesBytes, recordBytes}
+use Rattle.record.specs.Records.{mostColumns, countOf, entryAt, entryIn, entriesHold, headHolds, recordValid, readRecord, headBytes, entriesBytes, recordBytes}
 use Rattle.record.proofs.Looks.{entry-back}
 
 -- ---- lengths
@@ -64,18 +64,18 @@ all-hold (suc m) r j h =
     rw a (all-hold m r (suc j) (λ i l. let e : suc j + i ≡ j + suc i = omega arith in ap (λ (k : ℕ). entryHolds (entryIn r k)) e ∙ h (suc i) (omega arith)))
 
 -- the head says what it should
-made-announced : (es : List Entry) → length es ≤ 255 → leValue (take 2 (recordBytes es)) ≡ entryAt (length es)
+made-announced : (es : List Entry) → length es ≤ mostColumns → leValue (take 2 (recordBytes es)) ≡ entryAt (length es)
 unfolding recordBytes headBytes leBytes
 made-announced es h = le-back 2 (entryAt (length es)) (omega arith)
 
-made-head : (es : List Entry) → length es ≤ 255 → headHolds (recordBytes es) ≡ true
+made-head : (es : List Entry) → length es ≤ mostColumns → headHolds (recordBytes es) ≡ true
 unfolding headHolds recordBytes headBytes leBytes leValue
 made-head es h =
     let n : length (recordBytes es) ≡ entryAt (length es) = made-length es in
     let l : 6 ≤ length (recordBytes es) = omega arith in
     rw (le-leb _ _ l, eq-eqb _ _ (made-announced es h ∙ sym n), eq-eqb _ _ n)
 
-pub made-valid : (es : List Entry) (z : Entry) → length es ≤ 255 → ((j : ℕ) → j < length es → Kept (getD es j z)) → recordValid (recordBytes es) ≡ true
+pub made-valid : (es : List Entry) (z : Entry) → length es ≤ mostColumns → ((j : ℕ) → j < length es → Kept (getD es j z)) → recordValid (recordBytes es) ≡ true
 unfolding recordValid
 made-valid es z h k = rw (made-head es h, made-count es) (all-hold (length es) (recordBytes es) 0 holds)
   where
@@ -84,7 +84,7 @@ made-valid es z h k = rw (made-head es h, made-count es) (all-hold (length es) (
         let e : 0 + i ≡ i = omega arith in
         ap (λ (j : ℕ). entryHolds (entryIn (recordBytes es) j)) e ∙ ap entryHolds (made-back es z i l (k i l .charset-fits)) ∙ k i l .holds
 
-pub made-read : (es : List Entry) (z : Entry) → length es ≤ 255 → ((j : ℕ) → j < length es → Kept (getD es j z)) → readRecord (recordBytes es) ≡ ok (length es)
+pub made-read : (es : List Entry) (z : Entry) → length es ≤ mostColumns → ((j : ℕ) → j < length es → Kept (getD es j z)) → readRecord (recordBytes es) ≡ ok (length es)
 unfolding readRecord
 made-read es z h k = rw (made-valid es z h k, made-count es)
 
@@ -109,17 +109,17 @@ entries-are-bytes [] z b i = omega arith
 entries-are-bytes (e ∷ es) z b i =
     bytes-append (entryBytes e) (entriesBytes es) (entry-is-bytes e (b 0 (omega arith))) (entries-are-bytes es z (λ j l. b (suc j) (omega arith))) i
 
-head-is-bytes : (n : ℕ) → n ≤ 255 → Bytes (headBytes n)
+head-is-bytes : (n : ℕ) → n ≤ mostColumns → Bytes (headBytes n)
 unfolding headBytes
 head-is-bytes n h =
     let end : List ℕ = n ∷ (0 ∷ []) in
     bytes-append (leBytes 2 (entryAt n)) (leBytes 2 1 ++ end) (leBytes-bytes 2 (entryAt n)) (bytes-append (leBytes 2 1) end (leBytes-bytes 2 1) (two n h))
   where
-    two : (n : ℕ) → n ≤ 255 → Bytes (n ∷ (0 ∷ []))
+    two : (n : ℕ) → n ≤ mostColumns → Bytes (n ∷ (0 ∷ []))
     two n h zero = omega arith
     two n h (suc zero) = omega arith
     two n h (suc (suc i)) = omega arith
 
-pub made-bytes : (es : List Entry) (z : Entry) → length es ≤ 255 → ((j : ℕ) → j < length es → ByteParts (getD es j z)) → Bytes (recordBytes es)
+pub made-bytes : (es : List Entry) (z : Entry) → length es ≤ mostColumns → ((j : ℕ) → j < length es → ByteParts (getD es j z)) → Bytes (recordBytes es)
 unfolding recordBytes
 made-bytes es z h b = bytes-append (headBytes (length es)) (entriesBytes es) (head-is-bytes (length es) h) (entries-are-bytes es z b)

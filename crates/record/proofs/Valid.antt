@@ -1,15 +1,15 @@
 -- What a valid record says: as many columns as its length has room for, each accepted. Assumes nothing.
-use Prim.Native.Nat.{ℕ, zero, suc, _+_, _<_}
+use Prim.Native.Nat.{ℕ, zero, suc, _+_, _≤_, _<_}
 use mathlib.Core.Path.{_≡_, sym, subst}
-use mathlib.Core.Bool.{true, false}
+use mathlib.Core.Bool.{true}
 use mathlib.Core.List.{List}
 use native.Mathlib.Omega.{arith}
-use Rattle.wire.specs.declared.refusal.Refusal.{Refusal}
-use Rattle.wire.specs.Outcome.{ok, refused, why}
-use Rattle.wire.proofs.Outcomes.{test-is-ok, test-refuses, both-true}
+use Rattle.wire.specs.Outcome.{ok, why}
+use Rattle.wire.specs.Number.{Bytes}
+use Rattle.wire.proofs.Outcomes.{test-is-ok, both-true}
 use Rattle.value.specs.Columns.{shapeOf, isTaken}
 use Rattle.record.specs.Entries.{columnOf, entryHolds}
-use Rattle.record.specs.Records.{countOf, entryIn, entriesHold, headHolds, recordValid, readRecord}
+use Rattle.record.specs.Records.{mostColumns, countOf, entryIn, entriesHold, headHolds, recordValid, readRecord}
 
 -- each of the entries from j on may be there
 holds-at : (m : ℕ) (r : List ℕ) (j i : ℕ) → entriesHold m r j ≡ true → i < m → entryHolds (entryIn r (j + i)) ≡ true
@@ -34,17 +34,13 @@ pub valid-column : (r : List ℕ) (j : ℕ) → recordValid r ≡ true → j < c
 unfolding entryHolds
 valid-column r j v h = both-true (isTaken (shapeOf (columnOf (entryIn r j)))) _ (valid-entry r j v h) .0
 
+-- a valid record has no more columns than it may have
+pub valid-few : (r : List ℕ) → Bytes r → recordValid r ≡ true → countOf r ≤ mostColumns
+valid-few r b v = omega (arith, b 4)
+
 -- a record that is read is valid, and its columns are counted
 pub read-valid : (r : List ℕ) (n : ℕ) → readRecord r ≡ ok n → (recordValid r ≡ true) × (n ≡ countOf r)
 unfolding readRecord
 read-valid r n e =
     let t = test-is-ok (recordValid r) (countOf r) (why 11 0) n e in
     (t .0, sym (t .1))
-
--- the call's answer tells whether the record is valid
-pub read-is : (r : List ℕ) (n : ℕ) → readRecord r ≡ ok n → true ≡ recordValid r
-read-is r n e = sym (read-valid r n e .0)
-
-pub read-not : (r : List ℕ) (w : Refusal) → readRecord r ≡ refused w → false ≡ recordValid r
-unfolding readRecord
-read-not r w e = sym (test-refuses (recordValid r) (countOf r) (why 11 0) w e .0)

@@ -7,7 +7,9 @@ use lib.ListN.{getD, take, drop}
 use lib.Dec.{leb, ltb, eqb}
 use Rattle.wire.specs.Number.{leValue, leBytes}
 use Rattle.value.specs.declared.column.Column.{Column}
-use Rattle.value.specs.Columns.{familyOf, isNumeric, isCharacter, isEnumOrSet, shapeOf, isTaken}
+use Rattle.value.specs.Types.{familyOf, isNumeric}
+use Rattle.value.specs.Columns.{shapeOf, isTaken}
+use Rattle.value.specs.Classes.{isCharacter, isEnumOrSet}
 use Rattle.record.specs.declared.entry.Entry.{Entry}
 
 -- flag 1

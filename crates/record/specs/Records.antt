@@ -1,10 +1,10 @@
 -- The record: "Length of the whole record (2 bytes), kind 1 (2), both little-endian, n (1), zero (1), then 6 bytes a column"; "a record with nothing after it is
 -- valid if it obeys this". Assumes nothing.
-use Prim.Native.Nat.{ℕ, zero, suc, _+_, _*_}
+use Prim.Native.Nat.{ℕ, zero, suc, _+_, _-_, _*_, _^_}
 use mathlib.Core.Bool.{Bool, true, cond, _&&_}
 use mathlib.Core.List.{List, [], _∷_, _++_}
 use lib.ListN.{length, getD, take, drop}
-use lib.Dec.{leb, eqb}
+use lib.Dec.{leb, ltb, eqb}
 use Rattle.wire.specs.Outcome.{Outcome, ok, refused, refuse}
 use Rattle.wire.specs.Number.{leValue, leBytes}
 use Rattle.record.specs.declared.entry.Entry.{Entry}
@@ -12,12 +12,20 @@ use Rattle.record.specs.declared.profile.RecordRead.{RecordRead}
 use Rattle.record.specs.declared.profile.RecordRead.the-variants.{Valid, Refused}
 use Rattle.record.specs.Entries.{entryHolds, entryOf, entryBytes}
 
--- how many columns it says it has, and where the entry of column j stands
+-- how many columns it may have: as many as a byte counts
+abbrev pub mostColumns : ℕ
+mostColumns = 255
+
+-- how many it says it has, and where the entry of column j stands
 abbrev pub countOf : List ℕ → ℕ
 countOf r = getD r 4 0
 
 abbrev pub entryAt : ℕ → ℕ
 entryAt j = 6 + 6 * j
+
+-- the same place as a machine has it: the greatest of its numbers, where no slice has a byte, for one that is no number of it
+unfoldable pub entryPlace : ℕ → ℕ
+entryPlace j = cond (ltb (entryAt j) (2 ^ 64)) (entryAt j) (2 ^ 64 - 1)
 
 -- what it says of column j
 unfoldable pub entryIn : List ℕ → ℕ → Entry

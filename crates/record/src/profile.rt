@@ -7,7 +7,21 @@ use wire::refusal::BAD_RECORD;
 ghost use mathlib.Core.Path.{_≡_};
 ghost use lib.ListN.{getD};
 ghost use Rattle.wire.specs.Stored.{store, answerOf, leftOf, writtenOf};
-ghost use Rattle.record.specs.Records.{entryIn, entriesHold, headHolds, recordValid, readRecord, recordOf, headBytes};
+ghost use Rattle.record.specs.Records.{countOf, entryPlace, entryIn, entriesHold, headHolds, readRecord, recordOf, headBytes};
+
+// How many columns a record may have.
+pub const MOST_COLUMNS: usize = 255;
+
+// The bytes before the entries, and those of an entry.
+const HEAD: usize = 6;
+
+const ENTRY: usize = 6;
+
+// The longest record.
+pub const MOST_BYTES: usize = HEAD + ENTRY * MOST_COLUMNS;
+
+// The last column whose entry has a place that fits a machine number.
+const LAST: usize = (usize::MAX - HEAD) / ENTRY;
 
 // How many columns a valid record has.
 pub enum RecordRead {
@@ -25,18 +39,29 @@ fn byte_at(s: &[u8], at: usize) -> u8
     s[at]
 }
 
-fn wide(x: u8) -> usize
-    ensures { λ r. ⌜ r ≡ x ⌝ }
+// How many columns the record says it has.
+fn count_in(profile: &[u8]) -> usize
+    ensures { λ r. ⌜ r ≡ countOf (now (profile .entry)) ⌝ }
 {
-    x as usize
+    byte_at(profile, 4) as usize
+}
+
+// Where the entry of a column stands. A place that fits no machine number is told as the greatest one, where no slice has a byte either, so that callers need no test of their own.
+pub fn entry_at(column: usize) -> usize
+    ensures { λ r. ⌜ r ≡ entryPlace column ⌝ }
+{
+    if LAST < column {
+        return usize::MAX;
+    }
+    HEAD + ENTRY * column
 }
 
 // What the record says of a column; what lies past its end counts as zeros.
 pub fn entry_in(profile: &[u8], column: usize) -> Entry
     ensures { λ r. ⌜ r ≡ entryIn (now (profile .entry)) column ⌝ }
 {
-    // far past the end, where the entry's place might fit no machine number
-    if profile.len() / 6 < column {
+    let at = entry_at(column);
+    if profile.len() <= at {
         return Entry {
             kind: 0,
             flags: 0,
@@ -45,7 +70,6 @@ pub fn entry_in(profile: &[u8], column: usize) -> Entry
             charset: 0,
         };
     }
-    let at = 6 + 6 * column;
     let charset = wire::read_le(profile, at + 4, 2) as u16;
     Entry {
         kind: byte_at(profile, at),
@@ -74,7 +98,7 @@ fn entries_hold(profile: &[u8], n: usize) -> bool
 fn head_holds(profile: &[u8]) -> bool
     ensures { λ r. ⌜ r ≡ headHolds (now (profile .entry)) ⌝ }
 {
-    if profile.len() < 6 {
+    if profile.len() < HEAD {
         return false;
     }
     if wire::read_le(profile, 0, 2) != profile.len() as u64 {
@@ -86,7 +110,7 @@ fn head_holds(profile: &[u8]) -> bool
     if byte_at(profile, 5) != 0 {
         return false;
     }
-    profile.len() == 6 + 6 * wide(byte_at(profile, 4))
+    profile.len() == entry_at(count_in(profile))
 }
 
 // How many columns the record has, if it is valid and nothing stands after it; in one pass over it.
@@ -96,21 +120,11 @@ pub fn read_record(profile: &[u8]) -> RecordRead
     if !head_holds(profile) {
         return RecordRead::Refused(wire::refuse(BAD_RECORD, 0));
     }
-    let columns = wide(byte_at(profile, 4));
+    let columns = count_in(profile);
     if !entries_hold(profile, columns) {
         return RecordRead::Refused(wire::refuse(BAD_RECORD, 0));
     }
     RecordRead::Valid { columns }
-}
-
-// Whether the bytes are a record with nothing after it.
-pub fn record_valid(profile: &[u8]) -> bool
-    ensures { λ r. ⌜ r ≡ recordValid (now (profile .entry)) ⌝ }
-{
-    match read_record(profile) {
-        RecordRead::Valid { columns: _ } => true,
-        RecordRead::Refused(_) => false,
-    }
 }
 
 // Writes the six bytes before the columns, at the buffer's start.
@@ -118,8 +132,7 @@ pub fn write_head(buf: &mut [u8], n: u8) -> Written
     ensures { λ r. ⌜ writtenOf r ≡ answerOf (store (now (buf .entry)) 0 (headBytes n)) ⌝ }
     ensures { λ _. ⌜ now (buf .exit) ≡ leftOf (now (buf .entry)) (store (now (buf .entry)) 0 (headBytes n)) ⌝ }
 {
-    let columns = n as usize;
-    let size = 6 + 6 * columns;
+    let size = entry_at(n as usize);
     let low = (size % 256) as u8;
     let high = (size / 256 % 256) as u8;
     let bytes = [low, high, 1, 0, n, 0];

@@ -13,13 +13,13 @@ use Rattle.wire.specs.Bits.{bytesFor}
 use Rattle.wire.specs.Outcome.{ok}
 use Rattle.wire.specs.Number.{Bytes, leValue, leBytes}
 use Rattle.wire.specs.Packed.{readPacked, formOf, packedBytes}
+use Rattle.wire.specs.Parts.{partOf}
+use Rattle.wire.specs.declared.part.Part.{Part}
 use Rattle.wire.proofs.Outcomes.{same-ok}
 use Rattle.wire.proofs.Bytes.{leBytes-length, wider}
 use Rattle.wire.proofs.Inverse.{bytes-take, bytes-drop, le-sound, le-back, le-bound, le-join}
 use Rattle.wire.proofs.Forms.{read-moves, read-only, read-shortest}
-use Rattle.table_map.specs.declared.part.Part.{Part}
 use Rattle.table_map.specs.declared.event.Event.{Event}
-use Rattle.table_map.specs.Parts.{partOf}
 use Rattle.table_map.specs.Events.{idBytes, readEvent}
 use Rattle.table_map.specs.Writes.{Parts, nameBytes, eventBytes, columnBytes, isEvent}
 use Rattle.table_map.specs.Canonical.{partsOf, Canonical}

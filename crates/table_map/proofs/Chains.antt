@@ -4,27 +4,21 @@ use mathlib.Core.Path.{_≡_, refl, sym, ap, subst, _∙_}
 use mathlib.Core.List.{List}
 use mathlib.Core.Bool.{Bool, true, false, cond}
 use native.Mathlib.Omega.{arith}
-use borrow.Author.Tests.{leb-true, le-leb}
+use borrow.Author.Tests.{le-leb}
 use lib.ListN.{length, getD, take, drop}
-use lib.Dec.{leb, eqb}
+use lib.Dec.{eqb}
 use Rattle.wire.specs.Bits.{bytesFor}
-use Rattle.wire.specs.Outcome.{Outcome, ok, refused, why}
+use Rattle.wire.specs.Outcome.{Outcome, ok, refused}
 use Rattle.wire.specs.Number.{leValue}
 use Rattle.wire.specs.Packed.{readPacked}
-use Rattle.wire.proofs.Outcomes.{test-is-ok, after-is-ok, same-ok}
+use Rattle.wire.specs.Parts.{part, lentPart, within}
+use Rattle.wire.specs.declared.part.Part.{Part}
+use Rattle.wire.proofs.Outcomes.{after-is-ok, same-ok}
+use Rattle.wire.proofs.Parts.{within-ok}
 use Rattle.wire.proofs.Forms.{read-moves}
-use Rattle.table_map.specs.declared.part.Part.{Part}
 use Rattle.table_map.specs.declared.event.Event.{Event}
-use Rattle.table_map.specs.Parts.{part, lentPart, within, shortPart, longPart}
+use Rattle.table_map.specs.Parts.{shortPart, longPart}
 use Rattle.table_map.specs.Events.{idBytes, readNames, readColumns, readEvent, noEvent, orNone, partIn}
-
--- bytes that are all there
-pub within-ok : (s : List ℕ) (at n place next : ℕ) → within s at n place ≡ ok next → (next ≡ at + n) × (next ≤ length s)
-unfolding within
-within-ok s at n place next e =
-    let t = test-is-ok (leb (at + n) (length s)) (at + n) (why 1 place) next e in
-    let h = leb-true (at + n) (length s) (t .0) in
-    (sym (t .1), rw (sym (t .1)) h)
 
 -- a name, and the place after it
 pub record Named (s : List ℕ) (at : ℕ) (p : Part) (next : ℕ) : Type 0 where

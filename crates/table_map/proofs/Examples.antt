@@ -4,11 +4,13 @@ use mathlib.Core.List.{[], _∷_}
 use Rattle.wire.specs.Outcome.{ok, refuse, why}
 use Rattle.wire.specs.Number.{leValue}
 use Rattle.wire.specs.Packed.{readPacked, formOf, longForm}
-use Rattle.value.specs.Columns.{familyOf, isNumeric, hasSignBit}
-use Rattle.value.specs.declared.column.Dialect.the-variants.{Document, Mysql}
-use Rattle.table_map.specs.Parts.{part, within, longPart}
+use Rattle.wire.specs.Parts.{part, within}
+use Rattle.value.specs.Types.{familyOf, isNumeric}
+use Rattle.value.specs.Classes.{hasSignBit}
+use Rattle.value.specs.declared.classes.Dialect.the-variants.{Document, Mysql}
+use Rattle.table_map.specs.Parts.{longPart}
 use Rattle.table_map.specs.Lists.{whole, broken, step, walkSteps, walk, integerItem, pairItem, strings, groupItem}
-use Rattle.table_map.specs.Fields.{signBits, countSignBits, contentsHold, fieldItem}
+use Rattle.table_map.specs.Fields.{signBits, countSignBits, contentsHold, cutField, judgeField, fieldItem}
 
 -- 1 and 251, the latter in its three bytes
 integers : walk integerItem (1 ∷ 252 ∷ 251 ∷ 0 ∷ []) 0 ≡ record { items = 1 ∷ 251 ∷ []; how = whole }
@@ -46,18 +48,32 @@ counted-mysql = refl
 
 -- signedness of one column, a field of type 14, and signedness of nine columns in one byte
 field : fieldItem 1 3 (1 ∷ 1 ∷ 128 ∷ []) 0 ≡ ok ((1, part 2 1), 3)
-unfolding fieldItem longPart within readPacked formOf contentsHold
+unfolding fieldItem cutField judgeField longPart within readPacked formOf contentsHold
 field = refl
 
 unknown : fieldItem 1 3 (14 ∷ 0 ∷ []) 0 ≡ refuse 6 0
-unfolding fieldItem longPart within readPacked formOf
+unfolding fieldItem cutField judgeField longPart within readPacked formOf
 unknown = refl
 
 too-few : fieldItem 9 9 (0 ∷ 1 ∷ 1 ∷ 128 ∷ []) 1 ≡ refuse 7 1
-unfolding fieldItem longPart within readPacked formOf contentsHold
+unfolding fieldItem cutField judgeField longPart within readPacked formOf contentsHold
 too-few = refl
 
 -- the value is cut out before the type is judged
 cut-first : fieldItem 1 3 (14 ∷ 2 ∷ 0 ∷ []) 0 ≡ refuse 1 1
-unfolding fieldItem longPart within readPacked formOf
+unfolding fieldItem cutField judgeField longPart within readPacked formOf
 cut-first = refl
+
+-- and a field that is refused for its type or its contents is cut out all the same, so it can be stepped over
+unknown-cut : cutField (14 ∷ 0 ∷ []) 0 ≡ ok ((14, part 2 0), 2)
+unfolding cutField longPart within readPacked formOf
+unknown-cut = refl
+
+too-few-cut : cutField (0 ∷ 1 ∷ 1 ∷ 128 ∷ []) 1 ≡ ok ((1, part 3 1), 4)
+unfolding cutField longPart within readPacked formOf
+too-few-cut = refl
+
+-- at the end there is nothing to cut out
+none-cut : cutField (12 ∷ 0 ∷ []) 2 ≡ refuse 1 2
+unfolding cutField within
+none-cut = refl

@@ -1,26 +1,29 @@
--- Optional fields: how many columns have a signedness bit; what a step answers, by what it met; what a field that was read is; that fields move. Assumes nothing.
+-- Optional fields: how many columns have a signedness bit; what a field that was cut out is; what a step answers, by what it met; what a field that was read is; that fields move. Assumes
+-- nothing.
 use Prim.Native.Nat.{ℕ, suc, _+_, _≤_, _<_}
 use mathlib.Core.Path.{_≡_, refl, sym, subst}
 use mathlib.Core.Logic.{_⊎_, ⊎-elim}
 use mathlib.Core.Bool.{Bool, true, false, cond}
 use mathlib.Core.List.{List, [], _∷_}
 use native.Mathlib.Omega.{arith}
-use borrow.Author.Tests.{le-leb, eqb-true}
+use borrow.Author.Tests.{lt-leb, eqb-true}
 use lib.ListN.{length, getD, drop}
 use lib.Seq.{drop-cons}
 use Rattle.wire.specs.Bits.{bytesFor}
 use Rattle.wire.specs.declared.refusal.Refusal.{Refusal}
-use Rattle.wire.specs.Outcome.{Outcome, ok, refused, refuse, after}
+use Rattle.wire.specs.Outcome.{Outcome, ok, refused, after}
 use Rattle.wire.specs.Packed.{readPacked}
+use Rattle.wire.specs.declared.part.Part.{Part}
+use Rattle.wire.specs.Parts.{partOf, lentPart, within}
 use Rattle.wire.proofs.Outcomes.{by-test, after-after, after-is-ok, ok-not-refused, same-ok, same-refused}
-use Rattle.value.specs.declared.column.Dialect.{Dialect}
-use Rattle.value.specs.Columns.{hasSignBit}
-use Rattle.table_map.specs.declared.part.Part.{Part}
+use Rattle.wire.proofs.Parts.{within-ok, lent-is}
+use Rattle.value.specs.declared.classes.Dialect.{Dialect}
+use Rattle.value.specs.Classes.{hasSignBit}
 use Rattle.table_map.specs.declared.field.Fields.{Fields}
-use Rattle.table_map.specs.Parts.{partOf, lentPart, longPart}
+use Rattle.table_map.specs.Parts.{longPart}
 use Rattle.table_map.specs.Lists.{Stepped, end, item, step, defaultCharset}
-use Rattle.table_map.specs.Fields.{signBits, countSignBits, isField, isRead, contentsHold, fieldItem, withCursor, fieldStep}
-use Rattle.table_map.proofs.Steps.{step-before}
+use Rattle.table_map.specs.Fields.{signBits, countSignBits, isField, isRead, contentsHold, cutField, judgeField, fieldItem, withCursor, fieldStep}
+use Rattle.table_map.proofs.Steps.{Early, step-else}
 use Rattle.table_map.proofs.Items.{Moves, long-moves}
 
 -- ---- counting
@@ -50,42 +53,65 @@ pub signed-none : (d : Dialect) → countSignBits d [] ≡ 0
 unfolding countSignBits
 signed-none d = refl
 
--- ---- a step, before the end, by what stands at the place
-step-by-item : (c : Fields) (s : List ℕ) → c .at < length s
-    → fieldStep c s ≡ after (fieldItem (c .numeric) (c .columns) s (c .at)) (λ x. ok (withCursor c (item (x .0) (x .1))))
-unfolding fieldStep
-step-by-item c s h = rw (step-before (fieldItem (c .numeric) (c .columns)) s (c .at) h) (after-after (fieldItem (c .numeric) (c .columns) s (c .at)) _ _)
+-- ---- a field that was cut out: its type byte, and its value behind a length behind that
+pub cut-read : (s : List ℕ) (at : ℕ) (a : ℕ × Part) (next : ℕ) → cutField s at ≡ ok (a, next) → (getD s at 0 ≡ a .0) × (longPart s (at + 1) ≡ ok (a .1, next))
+unfolding cutField
+cut-read s at a next e =
+    let kind = getD s at 0 in
+    let x = after-is-ok (within s at 1 at) (λ b. after (longPart s b) (λ v. ok ((kind, v .0), v .1))) (a, next) e in
+    let y = after-is-ok (longPart s (x .0)) (λ v. ok ((kind, v .0), v .1)) (a, next) (x .2) in
+    let b : x .0 ≡ at + 1 = within-ok s at 1 at (x .0) (x .1) .0 in
+    subst (λ (z : (ℕ × Part) × ℕ). (kind ≡ z .0 .0) × (longPart s (at + 1) ≡ ok (z .0 .1, z .1))) (same-ok (y .2))
+    (refl, subst (λ (z : ℕ). longPart s z ≡ ok (y .0)) b (y .1))
+
+-- it takes bytes, and ends within them
+pub cut-moves : Moves cutField
+cut-moves = record {
+  moves = λ s at a next e.
+      let m = long-moves s (at + 1) (a .1) next (cut-read s at a next e .1) in
+      (omega arith, m .2);
+}
+
+-- past the bytes nothing is cut out, and so no field is read
+pub field-early : (numeric columns : ℕ) → Early (fieldItem numeric columns)
+unfolding fieldItem cutField within
+field-early numeric columns = record {
+  early = λ s at h.
+      let l : length s < at + 1 = omega arith in
+      rw (lt-leb (at + 1) (length s) l);
+}
 
 -- a value that was cut out is lent whole
 pub value-lent : (s : List ℕ) (at : ℕ) (p : Part) (next : ℕ) → longPart s at ≡ ok (p, next) → lentPart s p ≡ partOf s p
 value-lent s at p next e =
     let m = long-moves s at p next e in
-    let h : p .start + p .len ≤ length s = omega arith in
-    rw (le-leb _ _ h)
+    lent-is s p (omega arith)
 
--- the value is not there
-pub no-value : (c : Fields) (s : List ℕ) (w : Refusal) → c .at < length s → longPart s (c .at + 1) ≡ refused w → fieldStep c s ≡ refused w
-unfolding fieldItem
-no-value c s w h e = rw (step-by-item c s h, e)
+-- ---- a step, but at the end, is the field's, cut out and judged
+step-by-item : (c : Fields) (s : List ℕ) → (c .at ≡ length s → ⊥)
+    → fieldStep c s ≡ after (fieldItem (c .numeric) (c .columns) s (c .at)) (λ x. ok (withCursor c (item (x .0) (x .1))))
+unfolding fieldStep
+step-by-item c s n =
+    rw (step-else (fieldItem (c .numeric) (c .columns)) (field-early (c .numeric) (c .columns)) s (c .at) n)
+    (after-after (fieldItem (c .numeric) (c .columns) s (c .at)) _ _)
 
--- the type is unknown
-pub no-type : (c : Fields) (s : List ℕ) (p : Part) (next : ℕ) → c .at < length s → longPart s (c .at + 1) ≡ ok (p, next) → isField (getD s (c .at) 0) ≡ false
-    → fieldStep c s ≡ refuse 6 (c .at)
+-- it is not whole
+pub not-cut : (c : Fields) (s : List ℕ) (w : Refusal) → (c .at ≡ length s → ⊥) → cutField s (c .at) ≡ refused w → fieldStep c s ≡ refused w
 unfolding fieldItem
-no-type c s p next h e t = rw (step-by-item c s h, e, t)
+not-cut c s w n e = rw (step-by-item c s n, e)
 
--- the contents break a rule
-pub no-contents : (c : Fields) (s : List ℕ) (p : Part) (next : ℕ) → c .at < length s → longPart s (c .at + 1) ≡ ok (p, next) → isField (getD s (c .at) 0) ≡ true
-    → contentsHold (c .numeric) (c .columns) (getD s (c .at) 0) (partOf s p) ≡ false → fieldStep c s ≡ refuse 7 (c .at)
+-- its type is unknown, or its contents break a rule
+pub not-held : (c : Fields) (s : List ℕ) (f : ℕ × Part) (next : ℕ) (w : Refusal) → (c .at ≡ length s → ⊥) → cutField s (c .at) ≡ ok (f, next)
+    → judgeField (c .numeric) (c .columns) s (c .at) f ≡ refused w → fieldStep c s ≡ refused w
 unfolding fieldItem
-no-contents c s p next h e t u = rw (step-by-item c s h, e, t, u)
+not-held c s f next w n e j = rw (step-by-item c s n, e, j)
 
 -- all is well
-pub a-field : (c : Fields) (s : List ℕ) (p : Part) (next : ℕ) → c .at < length s → longPart s (c .at + 1) ≡ ok (p, next) → isField (getD s (c .at) 0) ≡ true
-    → contentsHold (c .numeric) (c .columns) (getD s (c .at) 0) (partOf s p) ≡ true
-    → fieldStep c s ≡ ok (item (getD s (c .at) 0, p) (record { at = next; numeric = c .numeric; columns = c .columns }))
+pub a-field : (c : Fields) (s : List ℕ) (f : ℕ × Part) (next : ℕ) → (c .at ≡ length s → ⊥) → cutField s (c .at) ≡ ok (f, next)
+    → judgeField (c .numeric) (c .columns) s (c .at) f ≡ ok tt
+    → fieldStep c s ≡ ok (item f (record { at = next; numeric = c .numeric; columns = c .columns }))
 unfolding fieldItem
-a-field c s p next h e t u = rw (step-by-item c s h, e, t, u)
+a-field c s f next n e j = rw (step-by-item c s n, e, j)
 
 -- ---- the other way: a step from a cursor is the walk's step at its place, and keeps its counts
 pub field-stepped : (c : Fields) (s : List ℕ) (a : ℕ × Part) (next : Fields) → fieldStep c s ≡ ok (item a next)
@@ -128,22 +154,31 @@ pub record Read (numeric columns : ℕ) (s : List ℕ) (at : ℕ) (a : ℕ × Pa
   pub value : longPart s (at + 1) ≡ ok (a .1, next)
   pub holds : contentsHold numeric columns (a .0) (partOf s (a .1)) ≡ true
 
+-- a field that passes has a known type, and contents as the walk asks
+judge-read : (numeric columns : ℕ) (s : List ℕ) (at : ℕ) (f : ℕ × Part) → judgeField numeric columns s at f ≡ ok tt
+    → (isField (f .0) ≡ true) × (contentsHold numeric columns (f .0) (lentPart s (f .1)) ≡ true)
+unfolding judgeField
+judge-read numeric columns s at f e =
+    by-test (isField (f .0)) _ _ _ e
+    (λ t g. by-test (contentsHold numeric columns (f .0) (lentPart s (f .1))) _ _ _ g (λ u i. (t, u)) (λ u i. absurd (ok-not-refused (sym i))))
+    (λ t g. absurd (ok-not-refused (sym g)))
+
+-- one that was read was cut out, and passed
+pub field-cut : (numeric columns : ℕ) (s : List ℕ) (at : ℕ) (a : ℕ × Part) (next : ℕ) → fieldItem numeric columns s at ≡ ok (a, next)
+    → (cutField s at ≡ ok (a, next)) × (judgeField numeric columns s at a ≡ ok tt)
+unfolding fieldItem
+field-cut numeric columns s at a next e =
+    let x = after-is-ok (cutField s at) (λ z. after (judgeField numeric columns s at (z .0)) (λ held. ok z)) (a, next) e in
+    let y = after-is-ok (judgeField numeric columns s at (x .0 .0)) (λ held. ok (x .0)) (a, next) (x .2) in
+    subst (λ (z : (ℕ × Part) × ℕ). (cutField s at ≡ ok z) × (judgeField numeric columns s at (z .0) ≡ ok tt)) (same-ok (y .2)) (x .1, y .1)
+
 pub field-read : (numeric columns : ℕ) (s : List ℕ) (at : ℕ) (a : ℕ × Part) (next : ℕ) → fieldItem numeric columns s at ≡ ok (a, next)
     → Read numeric columns s at a next
-unfolding fieldItem
 field-read numeric columns s at a next e =
-    let kind = getD s at 0 in
-    let x =
-    after-is-ok (longPart s (at + 1))
-    (λ v. cond (isField kind) (cond (contentsHold numeric columns kind (partOf s (v .0))) (ok ((kind, v .0), v .1)) (refuse 7 at)) (refuse 6 at))
-    (a, next) e in
-    by-test (isField kind) _ _ _ (x .2)
-    (λ t f. by-test (contentsHold numeric columns kind (partOf s (x .0 .0))) _ _ _ f
-    (λ u g.
-    subst (λ (y : (ℕ × Part) × ℕ). Read numeric columns s at (y .0) (y .1)) (same-ok g)
-    (record { kind = refl; known = t; value = x .1; holds = u }))
-    (λ u g. absurd (ok-not-refused (sym g))))
-    (λ t f. absurd (ok-not-refused (sym f)))
+    let x = field-cut numeric columns s at a next e in
+    let y = cut-read s at a next (x .0) in
+    let z = judge-read numeric columns s at a (x .1) in
+    record { kind = y .0; known = z .0; value = y .1; holds = rw (← value-lent s (at + 1) (a .1) next (y .1)) (z .1) }
 
 -- what its contents are, where the walk judges them: bits for each column that has one, or a default charset
 pub signs-there : (numeric columns : ℕ) (value : List ℕ) → contentsHold numeric columns 1 value ≡ true → length value ≡ bytesFor numeric
@@ -166,8 +201,4 @@ charset-there numeric columns kind value k h =
 
 -- ---- fields move
 pub field-moves : (numeric columns : ℕ) → Moves (fieldItem numeric columns)
-field-moves numeric columns = record {
-  moves = λ s at a next e.
-      let m = long-moves s (at + 1) (a .1) next (field-read numeric columns s at a next e .value) in
-      (omega arith, m .2);
-}
+field-moves numeric columns = record { moves = λ s at a next e. cut-moves .moves s at a next (field-cut numeric columns s at a next e .0) }

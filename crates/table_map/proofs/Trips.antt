@@ -14,13 +14,14 @@ use Rattle.wire.specs.Outcome.{ok, why}
 use Rattle.wire.specs.Number.{leValue, leBytes}
 use Rattle.wire.specs.Packed.{readPacked, packedBytes}
 use Rattle.wire.specs.Stored.{store, stored}
+use Rattle.wire.specs.Parts.{part, partOf, within}
 use Rattle.wire.proofs.Outcomes.{by-test, test-is-ok, ok-not-refused}
 use Rattle.wire.proofs.Stores.{stored-part}
 use Rattle.wire.proofs.Bytes.{leBytes-length}
 use Rattle.wire.proofs.Inverse.{le-back}
 use Rattle.wire.proofs.Forms.{read-back}
 use Rattle.table_map.specs.declared.event.Event.{Event}
-use Rattle.table_map.specs.Parts.{part, partOf, within, shortPart, longPart}
+use Rattle.table_map.specs.Parts.{shortPart, longPart}
 use Rattle.table_map.specs.Events.{readNames, readColumns, readEvent}
 use Rattle.table_map.specs.Writes.{Parts, nameBytes, eventBytes, isEvent, writeEvent, eventSize, columnBytes}
 use Rattle.table_map.specs.Canonical.{partsOf}

@@ -7,6 +7,10 @@ use Rattle.table_map.specs.declared.event.EventRead.{EventRead}
 use Rattle.table_map.specs.declared.event.EventRead.the-variants.{Read as Read₇, Refused as Refused₇}
 use Rattle.table_map.specs.declared.field.FieldStep.{FieldStep}
 use Rattle.table_map.specs.declared.field.FieldStep.the-variants.{Field, End as End₅, Refused as Refused₅}
+use Rattle.table_map.specs.declared.field.FieldCut.{FieldCut}
+use Rattle.table_map.specs.declared.field.FieldCut.the-variants.{Cut, Refused as Refused₈}
+use Rattle.table_map.specs.declared.field.Judged.{Judged}
+use Rattle.table_map.specs.declared.field.Judged.the-variants.{Holds, Refused as Refused₉}
 use Rattle.table_map.specs.declared.list.IntegerStep.{IntegerStep}
 use Rattle.table_map.specs.declared.list.IntegerStep.the-variants.{Item, End, Refused}
 use Rattle.table_map.specs.declared.list.PairStep.{PairStep}
@@ -19,7 +23,7 @@ use Rattle.table_map.specs.declared.list.DefaultCharset.{DefaultCharset}
 use Rattle.table_map.specs.declared.list.DefaultCharset.the-variants.{Read, Refused as Refused₆}
 use Rattle.table_map.specs.Events.{eventOf}
 use Rattle.table_map.specs.Lists.{Stepped, end, item, integerOf, pairOf, stringOf, groupOf, charsetOf}
-use Rattle.table_map.specs.Fields.{fieldOf}
+use Rattle.table_map.specs.Fields.{fieldOf, fieldCutOf, judgedOf}
 
 -- the way back from what a step says
 abbrev back-step : {A C S : Type 0} → (A → C → S) → S → (Refusal → S) → Outcome (Stepped A C) → S
@@ -71,6 +75,22 @@ field-way (Refused₅ r) = refl
 -- of fields
 pub same-field : (a b : FieldStep) → fieldOf a ≡ fieldOf b → a ≡ b
 same-field = same-by-back fieldOf (back-step (λ x next. Field (x .0) (x .1) next) End₅ Refused₅) field-way
+
+cut-way : (a : FieldCut) → back-read (λ x. Cut (x .0 .0) (x .0 .1) (x .1)) Refused₈ (fieldCutOf a) ≡ a
+cut-way (Cut kind value next) = refl
+cut-way (Refused₈ r) = refl
+
+-- of fields cut out
+pub same-cut : (a b : FieldCut) → fieldCutOf a ≡ fieldCutOf b → a ≡ b
+same-cut = same-by-back fieldCutOf (back-read (λ x. Cut (x .0 .0) (x .0 .1) (x .1)) Refused₈) cut-way
+
+judged-way : (a : Judged) → back-read (λ x. Holds) Refused₉ (judgedOf a) ≡ a
+judged-way Holds = refl
+judged-way (Refused₉ r) = refl
+
+-- of judging
+pub same-judged : (a b : Judged) → judgedOf a ≡ judgedOf b → a ≡ b
+same-judged = same-by-back judgedOf (back-read (λ x. Holds) Refused₉) judged-way
 
 charset-way : (a : DefaultCharset) → back-read (λ x. Read (x .0) (record { at = x .1 })) Refused₆ (charsetOf a) ≡ a
 charset-way (Read charset pairs) = refl

@@ -6,7 +6,8 @@ use lib.ListN.{take}
 use Rattle.wire.specs.Outcome.{ok, refuse}
 use Rattle.wire.specs.Number.{leValue, leBytes}
 use Rattle.wire.specs.Packed.{readPacked, formOf, longForm, packedBytes}
-use Rattle.table_map.specs.Parts.{part, within, shortPart, longPart}
+use Rattle.wire.specs.Parts.{part, within}
+use Rattle.table_map.specs.Parts.{shortPart, longPart}
 use Rattle.table_map.specs.Events.{readNames, readColumns, readEvent}
 use Rattle.table_map.specs.Writes.{parts, nameBytes, eventBytes, isEvent, eventSize}
 

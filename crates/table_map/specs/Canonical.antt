@@ -4,8 +4,8 @@ use mathlib.Core.Path.{_≡_}
 use mathlib.Core.List.{List}
 use lib.ListN.{length, getD}
 use Rattle.wire.specs.Packed.{packedBytes}
+use Rattle.wire.specs.Parts.{partOf}
 use Rattle.table_map.specs.declared.event.Event.{Event}
-use Rattle.table_map.specs.Parts.{partOf}
 use Rattle.table_map.specs.Events.{idBytes}
 use Rattle.table_map.specs.Writes.{Parts, parts}
 

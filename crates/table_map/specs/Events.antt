@@ -10,11 +10,12 @@ use Rattle.wire.specs.Bits.{bytesFor}
 use Rattle.wire.specs.Outcome.{Outcome, ok, refused, after}
 use Rattle.wire.specs.Number.{leValue}
 use Rattle.wire.specs.Packed.{readPacked}
-use Rattle.table_map.specs.declared.part.Part.{Part}
+use Rattle.wire.specs.declared.part.Part.{Part}
+use Rattle.wire.specs.Parts.{part, partOf, within}
 use Rattle.table_map.specs.declared.event.Event.{Event}
 use Rattle.table_map.specs.declared.event.EventRead.{EventRead}
 use Rattle.table_map.specs.declared.event.EventRead.the-variants.{Read, Refused}
-use Rattle.table_map.specs.Parts.{part, partOf, within, shortPart, longPart}
+use Rattle.table_map.specs.Parts.{shortPart, longPart}
 
 abbrev pub idBytes : ℕ → ℕ
 idBytes postHeader = cond (eqb postHeader 6) 4 6

@@ -8,13 +8,18 @@ use lib.Dec.{leb, eqb}
 use Rattle.wire.specs.Bits.{bytesFor}
 use Rattle.wire.specs.Outcome.{Outcome, ok, refused, refuse, after}
 use Rattle.wire.specs.Packed.{readPacked}
-use Rattle.value.specs.declared.column.Dialect.{Dialect}
-use Rattle.value.specs.Columns.{hasSignBit}
-use Rattle.table_map.specs.declared.part.Part.{Part}
+use Rattle.wire.specs.declared.part.Part.{Part}
+use Rattle.wire.specs.Parts.{lentPart, within}
+use Rattle.value.specs.declared.classes.Dialect.{Dialect}
+use Rattle.value.specs.Classes.{hasSignBit}
 use Rattle.table_map.specs.declared.field.Fields.{Fields}
 use Rattle.table_map.specs.declared.field.FieldStep.{FieldStep}
 use Rattle.table_map.specs.declared.field.FieldStep.the-variants.{Field, End, Refused}
-use Rattle.table_map.specs.Parts.{partOf, longPart}
+use Rattle.table_map.specs.declared.field.FieldCut.{FieldCut}
+use Rattle.table_map.specs.declared.field.FieldCut.the-variants.{Cut, Refused as NotCut}
+use Rattle.table_map.specs.declared.field.Judged.{Judged}
+use Rattle.table_map.specs.declared.field.Judged.the-variants.{Holds, Refused as NotHeld}
+use Rattle.table_map.specs.Parts.{longPart}
 use Rattle.table_map.specs.Lists.{Rule, Stepped, end, item, step}
 
 -- how many signedness bits a column of the type has
@@ -44,14 +49,23 @@ contentsHold numeric columns kind value =
     (cond (eqb kind 2 || eqb kind 10) (isRead (readPacked value 0))
     true))
 
--- the field at a place: its type and its value
+-- a field cut out at a place: its type byte and its value, whatever they are. 1 at the place for no type byte, 1 or 2 at the length behind it
+unfoldable pub cutField : Rule (ℕ × Part)
+unfolding within longPart
+cutField s at = after (within s at 1 at) (λ a. after (longPart s a) (λ v. ok ((getD s at 0, v .0), v .1)))
+
+-- and judged, its type and then its contents: 6 or 7 at the place
+unfoldable pub judgeField : ℕ → ℕ → List ℕ → ℕ → ℕ × Part → Outcome (Unit {0})
+unfolding contentsHold
+judgeField numeric columns s at f =
+    cond (isField (f .0))
+    (cond (contentsHold numeric columns (f .0) (lentPart s (f .1))) (ok tt) (refuse 7 at))
+    (refuse 6 at)
+
+-- the field at a place: cut out, then judged
 unfoldable pub fieldItem : ℕ → ℕ → Rule (ℕ × Part)
-unfolding longPart contentsHold
-fieldItem numeric columns s at =
-    after (longPart s (at + 1)) (λ v.
-    cond (isField (getD s at 0))
-    (cond (contentsHold numeric columns (getD s at 0) (partOf s (v .0))) (ok ((getD s at 0, v .0), v .1)) (refuse 7 at))
-    (refuse 6 at))
+unfolding cutField judgeField
+fieldItem numeric columns s at = after (cutField s at) (λ x. after (judgeField numeric columns s at (x .0)) (λ held. ok x))
 
 -- a step's answer with a cursor for its place: moved on, with the same counts
 abbrev pub withCursor : Fields → Stepped (ℕ × Part) ℕ → Stepped (ℕ × Part) Fields
@@ -63,8 +77,16 @@ unfoldable pub fieldStep : Fields → List ℕ → Outcome (Stepped (ℕ × Part
 unfolding step fieldItem
 fieldStep c s = after (step (fieldItem (c .numeric) (c .columns)) s (c .at)) (λ x. ok (withCursor c x))
 
--- what the answer of a step says
+-- ---- what the answers say
 abbrev pub fieldOf : FieldStep → Outcome (Stepped (ℕ × Part) Fields)
 fieldOf (Field kind value next) = ok (item (kind, value) next)
 fieldOf End = ok end
 fieldOf (Refused r) = refused r
+
+abbrev pub fieldCutOf : FieldCut → Outcome ((ℕ × Part) × ℕ)
+fieldCutOf (Cut kind value next) = ok ((kind, value), next)
+fieldCutOf (NotCut r) = refused r
+
+abbrev pub judgedOf : Judged → Outcome (Unit {0})
+judgedOf Holds = ok tt
+judgedOf (NotHeld r) = refused r

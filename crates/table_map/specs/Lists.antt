@@ -8,7 +8,7 @@ use lib.Dec.{ltb, eqb}
 use Rattle.wire.specs.declared.refusal.Refusal.{Refusal}
 use Rattle.wire.specs.Outcome.{Outcome, ok, refused, refuse, after}
 use Rattle.wire.specs.Packed.{readPacked}
-use Rattle.table_map.specs.declared.part.Part.{Part}
+use Rattle.wire.specs.declared.part.Part.{Part}
 use Rattle.table_map.specs.declared.list.IntegerStep.{IntegerStep}
 use Rattle.table_map.specs.declared.list.IntegerStep.the-variants.{Item, End, Refused}
 use Rattle.table_map.specs.declared.list.PairStep.{PairStep}

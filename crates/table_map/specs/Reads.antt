@@ -1,9 +1,7 @@
 -- What the answers of the inner readers say. Assumes nothing.
 use Prim.Native.Nat.{ℕ}
 use Rattle.wire.specs.Outcome.{Outcome, ok, refused}
-use Rattle.table_map.specs.declared.part.Part.{Part}
-use Rattle.table_map.specs.declared.part.Place.{Place}
-use Rattle.table_map.specs.declared.part.Place.the-variants.{At, Refused as Refused₁}
+use Rattle.wire.specs.declared.part.Part.{Part}
 use Rattle.table_map.specs.declared.part.Announced.{Announced}
 use Rattle.table_map.specs.declared.part.Announced.the-variants.{Read as Read₂, Refused as Refused₂}
 use Rattle.table_map.specs.declared.part.PartRead.{PartRead}
@@ -14,10 +12,6 @@ use Rattle.table_map.specs.declared.event.ColumnsRead.{ColumnsRead}
 use Rattle.table_map.specs.declared.event.ColumnsRead.the-variants.{Read as Read₅, Refused as Refused₅}
 
 -- ---- of parts
-abbrev pub placeOf : Place → Outcome ℕ
-placeOf (At next) = ok next
-placeOf (Refused₁ r) = refused r
-
 abbrev pub announcedOf : Announced → Outcome (ℕ × ℕ)
 announcedOf (Read₂ p) = ok (p .len, p .start)
 announcedOf (Refused₂ r) = refused r

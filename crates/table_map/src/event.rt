@@ -1,14 +1,14 @@
 // The event's parts, as places in the lent bytes (table_map_event.rs: TableMapEvent).
 use crate::part::Announced;
-use crate::part::Part;
 use crate::part::PartRead;
-use crate::part::Place;
 use crate::part::long_part;
-use crate::part::part_of;
 use crate::part::read_length;
 use crate::part::short_part;
-use crate::part::within;
+use wire::Part;
+use wire::Reach;
 use wire::Refusal;
+use wire::part_of;
+use wire::within;
 ghost use mathlib.Core.Path.{_≡_};
 ghost use Rattle.table_map.specs.Events.{idBytes, readNames, readColumns, readEvent, eventOf, orNone, partIn};
 ghost use Rattle.table_map.specs.Reads.{namesOf, columnsOf};
@@ -68,16 +68,16 @@ fn read_names(s: &[u8], at: usize) -> NamesRead
         PartRead::Refused(r) => return NamesRead::Refused(r),
     };
     let behind = match within(s, first.next, 1, first.next) {
-        Place::At(next) => next,
-        Place::Refused(r) => return NamesRead::Refused(r),
+        Reach::At(next) => next,
+        Reach::Refused(r) => return NamesRead::Refused(r),
     };
     let second = match short_part(s, behind) {
         PartRead::Read(cut) => cut,
         PartRead::Refused(r) => return NamesRead::Refused(r),
     };
     let next = match within(s, second.next, 1, second.next) {
-        Place::At(next) => next,
-        Place::Refused(r) => return NamesRead::Refused(r),
+        Reach::At(next) => next,
+        Reach::Refused(r) => return NamesRead::Refused(r),
     };
     let database = first.part;
     let table = second.part;
@@ -96,8 +96,8 @@ fn read_columns(s: &[u8], at: usize) -> ColumnsRead
         Announced::Refused(r) => return ColumnsRead::Refused(r),
     };
     let behind = match within(s, types.start, types.len, types.start) {
-        Place::At(next) => next,
-        Place::Refused(r) => return ColumnsRead::Refused(r),
+        Reach::At(next) => next,
+        Reach::Refused(r) => return ColumnsRead::Refused(r),
     };
     let cut = match long_part(s, behind) {
         PartRead::Read(cut) => cut,
@@ -106,8 +106,8 @@ fn read_columns(s: &[u8], at: usize) -> ColumnsRead
     let start = cut.next;
     let len = wire::bytes_for(types.len);
     let next = match within(s, start, len, start) {
-        Place::At(next) => next,
-        Place::Refused(r) => return ColumnsRead::Refused(r),
+        Reach::At(next) => next,
+        Reach::Refused(r) => return ColumnsRead::Refused(r),
     };
     let metadata = cut.part;
     let bits = Part { start, len };
@@ -135,12 +135,12 @@ pub fn read_event(event: &[u8], post_header: u8) -> EventRead
 {
     let width = id_bytes(post_header);
     let at = match within(event, 0, width, 0) {
-        Place::At(next) => next,
-        Place::Refused(r) => return EventRead::Refused(r),
+        Reach::At(next) => next,
+        Reach::Refused(r) => return EventRead::Refused(r),
     };
     let behind = match within(event, at, 2, at) {
-        Place::At(next) => next,
-        Place::Refused(r) => return EventRead::Refused(r),
+        Reach::At(next) => next,
+        Reach::Refused(r) => return EventRead::Refused(r),
     };
     let names = match read_names(event, behind) {
         NamesRead::Read(names) => names,

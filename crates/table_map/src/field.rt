@@ -1,19 +1,20 @@
 // The optional fields, one after the other (table_map_event.rs: OptionalMetadataIter).
-use crate::part::Part;
 use crate::part::PartRead;
 use crate::part::long_part;
-use crate::part::part_of;
 use value::Dialect;
 use wire::Packed;
+use wire::Part;
+use wire::Reach;
 use wire::Refusal;
+use wire::part_of;
 use wire::refusal::BAD_FIELD;
-use wire::refusal::SHORT;
 use wire::refusal::UNKNOWN_FIELD;
+use wire::within;
 ghost use mathlib.Core.Path.{_≡_};
 ghost use Prim.Native.Nat.{_≤_};
 ghost use lib.ListN.{length};
 ghost use Rattle.wire.specs.Packed.{readPacked};
-ghost use Rattle.table_map.specs.Fields.{signBits, countSignBits, isField, isRead, contentsHold, fieldStep, fieldOf};
+ghost use Rattle.table_map.specs.Fields.{signBits, countSignBits, isField, isRead, contentsHold, cutField, judgeField, fieldStep, fieldOf, fieldCutOf, judgedOf};
 
 // Where a walk over the optional bytes stands, with what it needs of the map, counted once.
 pub struct Fields {
@@ -27,6 +28,18 @@ pub struct Fields {
 pub enum FieldStep {
     Field { kind: u8, value: Part, next: Fields },
     End,
+    Refused(Refusal),
+}
+
+// A field cut out of the bytes: its type byte, its value, and the place after it.
+pub enum FieldCut {
+    Cut { kind: u8, value: Part, next: usize },
+    Refused(Refusal),
+}
+
+// Whether something passes, or why not.
+pub enum Judged {
+    Holds,
     Refused(Refusal),
 }
 
@@ -44,7 +57,7 @@ impl Fields {
         }
     }
 
-    // The field at the cursor: its value is cut out first, then its type judged, then its contents.
+    // The field at the cursor: cut out, then judged.
     pub fn next(self, optional: &[u8]) -> FieldStep
         ensures { λ r. ⌜ fieldOf r ≡ fieldStep self (now (optional .entry)) ⌝ }
     {
@@ -52,30 +65,56 @@ impl Fields {
         if at == optional.len() {
             return FieldStep::End;
         }
-        if optional.len() < at {
-            return FieldStep::Refused(wire::refuse(SHORT, at));
-        }
-        let cut = match long_part(optional, at + 1) {
-            PartRead::Read(cut) => cut,
-            PartRead::Refused(r) => return FieldStep::Refused(r),
-        };
-        let kind = optional[at];
-        if !is_field(kind) {
-            return FieldStep::Refused(wire::refuse(UNKNOWN_FIELD, at));
-        }
-        let value = cut.part;
-        if !contents_hold(self.numeric, self.columns, kind, part_of(optional, value)) {
-            return FieldStep::Refused(wire::refuse(BAD_FIELD, at));
-        }
-        FieldStep::Field {
-            kind,
-            value,
-            next: Fields {
-                at: cut.next,
-                numeric: self.numeric,
-                columns: self.columns,
+        match cut_field(optional, at) {
+            FieldCut::Cut { kind, value, next } => match self.judge(optional, kind, value) {
+                Judged::Holds => FieldStep::Field {
+                    kind,
+                    value,
+                    next: Fields {
+                        at: next,
+                        numeric: self.numeric,
+                        columns: self.columns,
+                    },
+                },
+                Judged::Refused(r) => FieldStep::Refused(r),
             },
+            FieldCut::Refused(r) => FieldStep::Refused(r),
         }
+    }
+
+    // Whether a field that was cut out at the cursor holds: its type is known, and its contents are as the walk asks.
+    pub fn judge(self, optional: &[u8], kind: u8, value: Part) -> Judged
+        ensures { λ r. ⌜ judgedOf r ≡ judgeField (self .numeric) (self .columns) (now (optional .entry)) (self .at) (kind, value) ⌝ }
+    {
+        let at = self.at;
+        if !is_field(kind) {
+            return Judged::Refused(wire::refuse(UNKNOWN_FIELD, at));
+        }
+        if !contents_hold(self.numeric, self.columns, kind, part_of(optional, value)) {
+            return Judged::Refused(wire::refuse(BAD_FIELD, at));
+        }
+        Judged::Holds
+    }
+}
+
+// Cuts out the field at a place, whatever its type and its contents are.
+pub fn cut_field(optional: &[u8], at: usize) -> FieldCut
+    ensures { λ r. ⌜ fieldCutOf r ≡ cutField (now (optional .entry)) at ⌝ }
+{
+    let behind = match within(optional, at, 1, at) {
+        Reach::At(next) => next,
+        Reach::Refused(r) => return FieldCut::Refused(r),
+    };
+    let cut = match long_part(optional, behind) {
+        PartRead::Read(cut) => cut,
+        PartRead::Refused(r) => return FieldCut::Refused(r),
+    };
+    let kind = optional[at];
+    let value = cut.part;
+    FieldCut::Cut {
+        kind,
+        value,
+        next: cut.next,
     }
 }
 

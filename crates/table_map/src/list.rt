@@ -1,15 +1,15 @@
 // What stands in optional fields: integers, pairs, strings and groups of strings (table_map_event.rs: IterCharsets, IterNonDefault, IterNames, IterSetStrValues and their like), and bits.
 // A cursor is an offset: at the length the list has ended; past it there is no first byte, and the reader of that refuses.
-use crate::part::Part;
 use crate::part::PartRead;
-use crate::part::Place;
 use crate::part::long_part;
 use wire::Packed;
+use wire::Part;
+use wire::Reach;
 use wire::Refusal;
 ghost use mathlib.Core.Path.{_≡_};
 ghost use Rattle.wire.specs.Bits.{bitMsb0};
+ghost use Rattle.wire.specs.Parts.{reachOf};
 ghost use Rattle.table_map.specs.Lists.{step, integerItem, pairItem, stringItem, groupItem, strings, integerOf, pairOf, stringOf, groupOf, defaultCharset, charsetOf};
-ghost use Rattle.table_map.specs.Reads.{placeOf};
 
 // The cursor of a list of integers: fields 3, 7, 8, 11 and 13.
 pub struct Integers {
@@ -143,12 +143,12 @@ impl Groups {
                 value: count,
                 next: first,
             } => match skip_strings(s, first, count) {
-                Place::At(next) => GroupStep::Item {
+                Reach::At(next) => GroupStep::Item {
                     count,
                     first,
                     next: Groups { at: next },
                 },
-                Place::Refused(r) => GroupStep::Refused(r),
+                Reach::Refused(r) => GroupStep::Refused(r),
             },
             Packed::Refused(r) => GroupStep::Refused(r),
         }
@@ -156,8 +156,8 @@ impl Groups {
 }
 
 // Reads n strings, one after the other, up to the first that is not there: n is believed only as far as the bytes go.
-fn skip_strings(s: &[u8], at: usize, n: u64) -> Place
-    ensures { λ r. ⌜ placeOf r ≡ strings n (now (s .entry)) at ⌝ }
+fn skip_strings(s: &[u8], at: usize, n: u64) -> Reach
+    ensures { λ r. ⌜ reachOf r ≡ strings n (now (s .entry)) at ⌝ }
 {
     let mut place = at;
     let mut i: u64 = 0;
@@ -166,11 +166,11 @@ fn skip_strings(s: &[u8], at: usize, n: u64) -> Place
             PartRead::Read(cut) => {
                 place = cut.next;
             }
-            PartRead::Refused(r) => return Place::Refused(r),
+            PartRead::Refused(r) => return Reach::Refused(r),
         }
         i += 1;
     }
-    Place::At(place)
+    Reach::At(place)
 }
 
 // The default charset at the start of fields 2 and 10, and the pairs (rank, charset) that follow it.

@@ -1,23 +1,13 @@
-// Parts of the lent bytes: where they stand, and how they are read behind their lengths (io.rs: checked_eat_u8_str, checked_eat_lenenc_str).
+// Parts of the lent bytes behind their lengths (io.rs: checked_eat_u8_str, checked_eat_lenenc_str).
 use wire::Packed;
+use wire::Part;
+use wire::Reach;
 use wire::Refusal;
-use wire::refusal::SHORT;
+use wire::within;
 ghost use mathlib.Core.Path.{_≡_};
 ghost use Rattle.wire.specs.Packed.{readPacked};
-ghost use Rattle.table_map.specs.Parts.{lentPart, within, shortPart, longPart};
-ghost use Rattle.table_map.specs.Reads.{placeOf, announcedOf, cutOf};
-
-// A part of the lent bytes.
-pub struct Part {
-    pub start: usize,
-    pub len: usize,
-}
-
-// The place after some bytes, or why they are not all there.
-pub(crate) enum Place {
-    At(usize),
-    Refused(Refusal),
-}
+ghost use Rattle.table_map.specs.Parts.{shortPart, longPart};
+ghost use Rattle.table_map.specs.Reads.{announcedOf, cutOf};
 
 // What a packed length announces: it may run past the bytes.
 pub(crate) enum Announced {
@@ -34,29 +24,6 @@ pub(crate) struct Cut {
 pub(crate) enum PartRead {
     Read(Cut),
     Refused(Refusal),
-}
-
-// The bytes of a part, none where it runs past those lent.
-pub fn part_of(s: &[u8], part: Part) -> &[u8]
-    ensures { λ r. ⌜ now r ≡ lentPart (now (s .entry)) part ⌝ }
-{
-    let start = part.start;
-    if wire::has_room(s.len(), start, part.len) {
-        let end = start + part.len;
-        return &s[start..end];
-    }
-    &s[0..0]
-}
-
-// The place after the n bytes from at on; if they end early, the refusal is placed at `place`.
-pub(crate) fn within(s: &[u8], at: usize, n: usize, place: usize) -> Place
-    ensures { λ r. ⌜ placeOf r ≡ within (now (s .entry)) at n place ⌝ }
-{
-    if wire::has_room(s.len(), at, n) {
-        let next = at + n;
-        return Place::At(next);
-    }
-    Place::Refused(wire::refuse(SHORT, place))
 }
 
 // The packed length at `at`, and the bytes behind it that it announces.
@@ -77,13 +44,13 @@ pub(crate) fn short_part(s: &[u8], at: usize) -> PartRead
     ensures { λ r. ⌜ cutOf r ≡ shortPart (now (s .entry)) at ⌝ }
 {
     let start = match within(s, at, 1, at) {
-        Place::At(next) => next,
-        Place::Refused(r) => return PartRead::Refused(r),
+        Reach::At(next) => next,
+        Reach::Refused(r) => return PartRead::Refused(r),
     };
     let len = s[at] as usize;
     let next = match within(s, start, len, at) {
-        Place::At(next) => next,
-        Place::Refused(r) => return PartRead::Refused(r),
+        Reach::At(next) => next,
+        Reach::Refused(r) => return PartRead::Refused(r),
     };
     PartRead::Read(Cut {
         part: Part { start, len },
@@ -100,8 +67,8 @@ pub(crate) fn long_part(s: &[u8], at: usize) -> PartRead
         Announced::Refused(r) => return PartRead::Refused(r),
     };
     let next = match within(s, part.start, part.len, at) {
-        Place::At(next) => next,
-        Place::Refused(r) => return PartRead::Refused(r),
+        Reach::At(next) => next,
+        Reach::Refused(r) => return PartRead::Refused(r),
     };
     PartRead::Read(Cut { part, next })
 }

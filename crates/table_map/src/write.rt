@@ -1,5 +1,5 @@
 // The event written, all or nothing, and its size (table_map_event.rs: MySerialize and BinlogStruct for TableMapEvent).
-use value::Size;
+use wire::Size;
 use wire::Written;
 use wire::refusal::NO_ROOM;
 use wire::refusal::NOT_TAKEN;
@@ -9,8 +9,7 @@ ghost use Prim.Native.Nat.{_+_, _≤_};
 ghost use lib.ListN.{length};
 ghost use Rattle.wire.specs.Number.{leBytes};
 ghost use Rattle.wire.specs.Packed.{packedBytes};
-ghost use Rattle.wire.specs.Stored.{answerOf, leftOf, writtenOf};
-ghost use Rattle.value.specs.Storing.{sizeSaid};
+ghost use Rattle.wire.specs.Stored.{answerOf, leftOf, writtenOf, sizeSaid};
 ghost use Rattle.table_map.specs.Writes.{parts, nameBytes, eventHead, columnBytes, isEvent, writeEvent, eventSize, Put};
 
 // Ids are below this.

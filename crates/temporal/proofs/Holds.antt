@@ -13,7 +13,7 @@ use Rattle.temporal.specs.declared.parts.Time.{Time}
 use Rattle.temporal.specs.declared.parts.Temporal.{Temporal}
 use Rattle.temporal.specs.Fraction.{fractionBytes, unitOf}
 use Rattle.temporal.specs.Times.{timeNumber}
-use Rattle.temporal.specs.Kinds.{sort, timeIn}
+use Rattle.temporal.specs.Kinds.{isTime, timeIn}
 use Rattle.temporal.specs.Domains.{stampDomain, momentDomain, timeDomain, domain}
 use Rattle.temporal.proofs.Ranges.{Clock, Day, clock-of, clock-in, day-of, day-in}
 
@@ -97,6 +97,6 @@ time-in w t h = rw (clock-in (h .clock), eq-eqb (t .micros % unitOf w) 0 (h .uni
 pub time2-room : (m0 : ℕ) (t : Temporal) → domain (Time2 m0) t ≡ true → (timeNumber 64 (timeIn t) < 8388608) × (timeIn t .micros ≤ 999999)
 unfolding domain
 time2-room m0 t e =
-    let a = both-true (eqb (sort t) 3) (timeDomain (fractionBytes m0) (timeIn t)) e in
+    let a = both-true (isTime t) (timeDomain (fractionBytes m0) (timeIn t)) e in
     let c = time-of (fractionBytes m0) (timeIn t) (a .1) .clock in
     (omega arith, c .micros)

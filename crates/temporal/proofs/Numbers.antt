@@ -8,7 +8,6 @@ use native.Mathlib.Decide.{decLe}
 use native.Mathlib.Nat.{zero-mul, zero-mod, zero-div}
 use native.Mathlib.Omega.{arith}
 use borrow.Author.Tests.{le-leb, lt-leb, lt-ltb, le-ltb, eq-eqb, ne-eqb, not-true}
-use lib.Dec.{eqb}
 use Rattle.wire.proofs.Outcomes.{both-true}
 use Rattle.temporal.specs.declared.kind.Kind.{Kind}
 use Rattle.temporal.specs.declared.kind.Kind.the-variants.{Timestamp, OldTime, OldDatetime, Newdate, Timestamp2, Datetime2, Time2}
@@ -21,7 +20,7 @@ use Rattle.temporal.specs.Fraction.{fractionBytes, unitOf}
 use Rattle.temporal.specs.Ranges.{clockFault}
 use Rattle.temporal.specs.Times.{timeBy, timeNumber, timeFault, packedTime, time2Of, time2Whole, time2Fraction}
 use Rattle.temporal.specs.Moments.{momentBy, momentNumber, momentFault, packedDatetime, datetime2Of, datetime2Fault, datetimeOf, dateOf, dateNumber, dateFault, stampOf, stampFault}
-use Rattle.temporal.specs.Kinds.{wholeBytes, fractionSize, partsOf, faultOf, wholeOf, unitsOf, sort, stampIn, dateIn, momentIn, timeIn}
+use Rattle.temporal.specs.Kinds.{wholeBytes, fractionSize, partsOf, faultOf, wholeOf, unitsOf, tag, isStamp, isDate, isMoment, isTime, stampIn, dateIn, momentIn, timeIn}
 use Rattle.temporal.specs.Domains.{domain, stampDomain, dateDomain, momentDomain, timeDomain}
 use Rattle.temporal.proofs.Units.{fraction-small, unit-div, unit-mod, unit-whole, unit-fits, unit-some, unit-zero}
 use Rattle.temporal.proofs.Sorts.{is-since, is-on, is-at, is-lasts}
@@ -52,11 +51,11 @@ stamp-sound w a f h z =
     stamp-in w (stampOf w a f) (record { seconds = omega arith; micros = c .micros; units = unit-mod w f })
 
 timestamp2-law : (m0 : ℕ) → NumberLaw (Timestamp2 m0)
-unfolding domain partsOf faultOf wholeOf unitsOf wholeBytes fractionSize sort stampIn
+unfolding domain partsOf faultOf wholeOf unitsOf wholeBytes fractionSize tag stampIn
 timestamp2-law m0 = record {
   back = λ t e.
       let w = fractionBytes m0 in
-      let a = both-true (eqb (sort t) 0) (stampDomain w (stampIn t)) e in
+      let a = both-true (isStamp t) (stampDomain w (stampIn t)) e in
       let h = stamp-of w (stampIn t) (a .1) in
       let p = stamp-back w (stampIn t) h in
       (ap stampFault p ∙ stamp-clear w (stampIn t) h, omega arith, unit-fits (stampIn t .micros) w (h .micros) (fraction-small m0), ap Since p ∙ is-since t (a .0));
@@ -64,10 +63,10 @@ timestamp2-law m0 = record {
 }
 
 timestamp-law : NumberLaw Timestamp
-unfolding domain partsOf faultOf wholeOf unitsOf wholeBytes fractionSize sort stampIn stampOf
+unfolding domain partsOf faultOf wholeOf unitsOf wholeBytes fractionSize tag stampIn stampOf
 timestamp-law = record {
   back = λ t e.
-      let a = both-true (eqb (sort t) 0) (stampDomain 0 (stampIn t)) e in
+      let a = both-true (isStamp t) (stampDomain 0 (stampIn t)) e in
       let h = stamp-of 0 (stampIn t) (a .1) in
       let z = unit-zero (stampIn t .micros) (h .micros) (h .units) in
       let p : stampOf 0 (stampIn t .seconds) 0 ≡ stampIn t = rw (zero-mul (unitOf 0), ← z) in
@@ -104,12 +103,12 @@ datetime2-back w m h =
     rw (x, unit-whole w (m .micros) (h .units)) (moment-back 64 32 32 13 m (below-64 m h))
 
 datetime2-law : (m0 : ℕ) → NumberLaw (Datetime2 m0)
-unfolding domain partsOf faultOf wholeOf unitsOf wholeBytes fractionSize sort momentIn datetime2Of datetime2Fault packedDatetime
+unfolding domain partsOf faultOf wholeOf unitsOf wholeBytes fractionSize tag momentIn datetime2Of datetime2Fault packedDatetime
 datetime2-law m0 = record {
   back = λ t e.
       let w = fractionBytes m0 in
       let m = momentIn t in
-      let a = both-true (eqb (sort t) 2) (momentDomain w m) e in
+      let a = both-true (isMoment t) (momentDomain w m) e in
       let h = moment-of w m (a .1) in
       let d = h .date in
       let c = h .clock in
@@ -132,11 +131,11 @@ datetime2-law m0 = record {
 }
 
 datetime-law : NumberLaw OldDatetime
-unfolding domain partsOf faultOf wholeOf unitsOf wholeBytes fractionSize sort momentIn datetimeOf
+unfolding domain partsOf faultOf wholeOf unitsOf wholeBytes fractionSize tag momentIn datetimeOf
 datetime-law = record {
   back = λ t e.
       let m = momentIn t in
-      let a = both-true (eqb (sort t) 2) (momentDomain 0 m) e in
+      let a = both-true (isMoment t) (momentDomain 0 m) e in
       let h = moment-of 0 m (a .1) in
       let d = h .date in
       let c = h .clock in
@@ -149,11 +148,11 @@ datetime-law = record {
 
 -- ---- dates
 date-law : NumberLaw Newdate
-unfolding domain partsOf faultOf wholeOf unitsOf wholeBytes fractionSize sort dateIn dateOf dateDomain
+unfolding domain partsOf faultOf wholeOf unitsOf wholeBytes fractionSize tag dateIn dateOf dateDomain
 date-law = record {
   back = λ t e.
       let d = dateIn t in
-      let a = both-true (eqb (sort t) 1) (dateDomain d) e in
+      let a = both-true (isDate t) (dateDomain d) e in
       let h = day-of (d .year) (d .month) (d .day) (a .1) in
       let n = dateNumber d in
       let e1 : n / 32 / 16 ≡ d .year = omega arith in
@@ -172,11 +171,11 @@ time-sound : (w : ℕ) (t : Time) → timeFault t ≡ 0 → t .micros % unitOf w
 time-sound w t z u s = time-in w t (record { clock = clock-clear 838 (t .hours) (t .minutes) (t .seconds) (t .micros) z; units = u; signed = s })
 
 time-law : NumberLaw OldTime
-unfolding domain partsOf faultOf wholeOf unitsOf wholeBytes fractionSize sort timeIn timeBy
+unfolding domain partsOf faultOf wholeOf unitsOf wholeBytes fractionSize tag timeIn timeBy
 time-law = record {
   back = λ t e.
       let x = timeIn t in
-      let a = both-true (eqb (sort t) 3) (not (x .negative) && timeDomain 0 x) e in
+      let a = both-true (isTime t) (not (x .negative) && timeDomain 0 x) e in
       let b = both-true (not (x .negative)) (timeDomain 0 x) (a .1) in
       let h = time-of 0 x (b .1) in
       let c = h .clock in
@@ -261,12 +260,12 @@ time2-sound w h a f k l z =
     subst (Sound w a f) (sym e) (time-sound w t z₁ (unit-mod w u) (λ q. omega arith), rw (unit-div w u h, i) (omega arith), rw (unit-div w u h, i) (omega arith))))
 
 time2-law : (m0 : ℕ) → NumberLaw (Time2 m0)
-unfolding domain partsOf faultOf wholeOf unitsOf wholeBytes fractionSize sort timeIn
+unfolding domain partsOf faultOf wholeOf unitsOf wholeBytes fractionSize tag timeIn
 time2-law m0 = record {
   back = λ t e.
       let w = fractionBytes m0 in
       let x = timeIn t in
-      let a = both-true (eqb (sort t) 3) (timeDomain w x) e in
+      let a = both-true (isTime t) (timeDomain w x) e in
       let h = time-of w x (a .1) in
       let r = time2-back w (fraction-small m0) x h (x .negative) refl in
       (ap timeFault (r .2) ∙ time-clear w x h, r .0, r .1, ap Lasts (r .2) ∙ is-lasts t (a .0));

@@ -11,7 +11,7 @@ use Rattle.temporal.specs.declared.parts.Time.{Time}
 use Rattle.temporal.specs.declared.parts.Temporal.{Temporal}
 use Rattle.temporal.specs.Fraction.{fractionBytes, unitOf}
 use Rattle.temporal.specs.Ranges.{inDay, inClock}
-use Rattle.temporal.specs.Kinds.{sort, stampIn, dateIn, momentIn, timeIn}
+use Rattle.temporal.specs.Kinds.{tag, isStamp, isDate, isMoment, isTime, stampIn, dateIn, momentIn, timeIn}
 
 -- a fraction of a second in units of w bytes: 10,000, 100 or 1 microseconds, or none at all
 abbrev pub inUnits : ℕ → ℕ → Bool
@@ -37,11 +37,11 @@ timeDomain w t =
     && (inUnits w (t .micros) && not (t .negative && eqb (t .hours + t .minutes + t .seconds + t .micros) 0))
 
 unfoldable pub domain : Kind → Temporal → Bool
-unfolding sort stampIn dateIn momentIn timeIn stampDomain dateDomain momentDomain timeDomain fractionBytes
-domain Timestamp t = eqb (sort t) 0 && stampDomain 0 (stampIn t)
-domain OldTime t = eqb (sort t) 3 && (not (timeIn t .negative) && timeDomain 0 (timeIn t))
-domain OldDatetime t = eqb (sort t) 2 && momentDomain 0 (momentIn t)
-domain Newdate t = eqb (sort t) 1 && dateDomain (dateIn t)
-domain (Timestamp2 m0) t = eqb (sort t) 0 && stampDomain (fractionBytes m0) (stampIn t)
-domain (Datetime2 m0) t = eqb (sort t) 2 && momentDomain (fractionBytes m0) (momentIn t)
-domain (Time2 m0) t = eqb (sort t) 3 && timeDomain (fractionBytes m0) (timeIn t)
+unfolding tag stampIn dateIn momentIn timeIn stampDomain dateDomain momentDomain timeDomain fractionBytes
+domain Timestamp t = isStamp t && stampDomain 0 (stampIn t)
+domain OldTime t = isTime t && (not (timeIn t .negative) && timeDomain 0 (timeIn t))
+domain OldDatetime t = isMoment t && momentDomain 0 (momentIn t)
+domain Newdate t = isDate t && dateDomain (dateIn t)
+domain (Timestamp2 m0) t = isStamp t && stampDomain (fractionBytes m0) (stampIn t)
+domain (Datetime2 m0) t = isMoment t && momentDomain (fractionBytes m0) (momentIn t)
+domain (Time2 m0) t = isTime t && timeDomain (fractionBytes m0) (timeIn t)

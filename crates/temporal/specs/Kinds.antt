@@ -2,6 +2,7 @@
 -- stored as. One table. Assumes nothing.
 use Prim.Native.Nat.{ℕ, _+_, _/_}
 use mathlib.Core.Bool.{Bool, true, false}
+use lib.Dec.{eqb}
 use Rattle.temporal.specs.declared.kind.Kind.{Kind}
 use Rattle.temporal.specs.declared.kind.Kind.the-variants.{Timestamp, OldTime, OldDatetime, Newdate, Timestamp2, Datetime2, Time2}
 use Rattle.temporal.specs.declared.parts.Stamp.{Stamp}
@@ -66,13 +67,27 @@ faultOf (Timestamp2 m0) a f = stampFault (stampOf (fractionBytes m0) a f)
 faultOf (Datetime2 m0) a f = datetime2Fault (fractionBytes m0) a f
 faultOf (Time2 m0) a f = timeFault (time2Of (fractionBytes m0) a f)
 
--- ---- the parts of a temporal of one sort; of a temporal of another sort they are all zero
-unfoldable pub sort : Temporal → ℕ
-sort (Since t) = 0
-sort (On d) = 1
-sort (At m) = 2
-sort (Lasts t) = 3
+-- ---- which sort a temporal is of
+unfoldable pub tag : Temporal → ℕ
+tag (Since t) = 0
+tag (On d) = 1
+tag (At m) = 2
+tag (Lasts t) = 3
 
+-- whether it is of this sort
+abbrev pub isStamp : Temporal → Bool
+isStamp t = eqb (tag t) 0
+
+abbrev pub isDate : Temporal → Bool
+isDate t = eqb (tag t) 1
+
+abbrev pub isMoment : Temporal → Bool
+isMoment t = eqb (tag t) 2
+
+abbrev pub isTime : Temporal → Bool
+isTime t = eqb (tag t) 3
+
+-- ---- the parts of a temporal of one sort; of a temporal of another sort they are all zero
 abbrev pub noStamp : Stamp
 noStamp = record { seconds = 0; micros = 0 }
 

@@ -11,7 +11,7 @@ ghost use mathlib.Core.Bool.{_&&_};
 ghost use Prim.Native.Nat.{_+_, _≤_};
 ghost use lib.Dec.{eqb};
 ghost use Rattle.temporal.specs.Ranges.{inDay, inClock};
-ghost use Rattle.temporal.specs.Kinds.{sort, stampIn, dateIn, momentIn, timeIn};
+ghost use Rattle.temporal.specs.Kinds.{isStamp, isDate, isMoment, isTime, stampIn, dateIn, momentIn, timeIn};
 ghost use Rattle.temporal.specs.Domains.{inUnits, stampDomain, dateDomain, momentDomain, timeDomain, domain};
 
 // Whether a column of this kind can hold the temporal.
@@ -31,7 +31,7 @@ pub fn in_domain(kind: Kind, temporal: Temporal) -> bool
 
 fn holds_stamp(w: usize, temporal: Temporal) -> bool
     requires { ⌜ w ≤ 3 ⌝ }
-    ensures { λ r. ⌜ r ≡ eqb (sort temporal) 0 && stampDomain w (stampIn temporal) ⌝ }
+    ensures { λ r. ⌜ r ≡ isStamp temporal && stampDomain w (stampIn temporal) ⌝ }
 {
     let Temporal::Since(t) = temporal else {
         return false;
@@ -43,7 +43,7 @@ fn holds_stamp(w: usize, temporal: Temporal) -> bool
 }
 
 fn holds_date(temporal: Temporal) -> bool
-    ensures { λ r. ⌜ r ≡ eqb (sort temporal) 1 && dateDomain (dateIn temporal) ⌝ }
+    ensures { λ r. ⌜ r ≡ isDate temporal && dateDomain (dateIn temporal) ⌝ }
 {
     let Temporal::On(d) = temporal else {
         return false;
@@ -53,7 +53,7 @@ fn holds_date(temporal: Temporal) -> bool
 
 fn holds_moment(w: usize, temporal: Temporal) -> bool
     requires { ⌜ w ≤ 3 ⌝ }
-    ensures { λ r. ⌜ r ≡ eqb (sort temporal) 2 && momentDomain w (momentIn temporal) ⌝ }
+    ensures { λ r. ⌜ r ≡ isMoment temporal && momentDomain w (momentIn temporal) ⌝ }
 {
     let Temporal::At(m) = temporal else {
         return false;
@@ -70,7 +70,7 @@ fn holds_moment(w: usize, temporal: Temporal) -> bool
 
 fn holds_time(w: usize, temporal: Temporal) -> bool
     requires { ⌜ w ≤ 3 ⌝ }
-    ensures { λ r. ⌜ r ≡ eqb (sort temporal) 3 && timeDomain w (timeIn temporal) ⌝ }
+    ensures { λ r. ⌜ r ≡ isTime temporal && timeDomain w (timeIn temporal) ⌝ }
 {
     let Temporal::Lasts(t) = temporal else {
         return false;

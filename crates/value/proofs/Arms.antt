@@ -1,29 +1,20 @@
--- Tests that antt computes: one that passes at each number below a bound, or at each key of an arm of a match, passes at any of them. So an arm that
--- serves several families tells what they have in common. Assumes nothing.
-use Prim.Native.Nat.{ℕ, zero, suc, _<_}
+-- Tests that antt computes: one that passes at each key of an arm of a match passes at any of them. So an arm that serves several families tells what
+-- they have in common. Assumes nothing.
+use Prim.Native.Nat.{ℕ}
 use mathlib.Core.Bool.{Bool, true, false, _&&_, Bool·beq}
 use mathlib.Core.List.{List, [], _∷_}
 use mathlib.Core.Path.{_≡_, refl, sym, subst, _∙_}
-use mathlib.Core.Logic.{inl, inr, ⊎-elim}
-use native.Mathlib.Nat.{le-of-suc-le-suc, not-suc-le-zero, eq-or-lt-of-le}
+use mathlib.Core.Logic.{inl, inr}
 use lib.Dec.{T}
 use lib.ListN.{getD}
 use types.Run.{OneOf}
 use denote.Enum.Declared.{tagOf}
-use Rattle.value.specs.declared.column.Family.{Family}
-use Rattle.value.proofs.column.Family.{the-type}
-use Rattle.value.specs.declared.column.Family.the-variants.{Integer, Float, Double, Year, Timestamp, Date, Time, Datetime, Timestamp2, Datetime2, Time2, Varchar, Char, Blob, Json, Bit, Decimal, Enum, Set, Unknown}
+use Rattle.wire.proofs.Each.{left, right}
+use Rattle.value.specs.declared.types.Family.{Family}
+use Rattle.value.proofs.types.Family.{the-type}
+use Rattle.value.specs.declared.types.Family.the-variants.{Integer, Float, Double, Year, Timestamp, Date, Time, Datetime, Timestamp2, Datetime2, Time2, Varchar, Char, Blob, Json, Bit, Decimal, Enum, Set, Unknown}
 
 -- ---- tests
--- one part of an `&&`
-pub left : (a b : Bool) → T (a && b) → T a
-left true b t = tt
-left false b t = t
-
-pub right : (a b : Bool) → T (a && b) → T b
-right true b t = t
-right false b t = absurd t
-
 -- a test passes at each of a list, and so at whatever is one of it
 abbrev pub every : (ℕ → Bool) → List ℕ → Bool
 every f [] = true
@@ -34,18 +25,6 @@ at-keys f [] x t e = absurd e
 at-keys f (k ∷ []) x t e = subst (λ (y : ℕ). T (f y)) (sym e) (left (f k) true t)
 at-keys f (k ∷ (l ∷ ks)) x t (inl e) = subst (λ (y : ℕ). T (f y)) (sym e) (left (f k) (every f (l ∷ ks)) t)
 at-keys f (k ∷ (l ∷ ks)) x t (inr e) = at-keys f (l ∷ ks) x (right (f k) (every f (l ∷ ks)) t) e
-
--- a test passes at each number below a bound, and so at any of them
-abbrev pub each : (ℕ → Bool) → ℕ → Bool
-each f zero = true
-each f (suc n) = f n && each f n
-
-pub below : (f : ℕ → Bool) (n : ℕ) → T (each f n) → (k : ℕ) → k < n → T (f k)
-below f zero t k h = absurd (not-suc-le-zero h)
-below f (suc n) t k h =
-    ⊎-elim (λ (e : k ≡ n). subst (λ (y : ℕ). T (f y)) (sym e) (left (f n) (each f n) t))
-    (λ (l : k < n). below f n (right (f n) (each f n) t) k l)
-    (eq-or-lt-of-le (le-of-suc-le-suc h))
 
 -- ---- tags
 -- a family of each tag

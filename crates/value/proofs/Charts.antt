@@ -4,19 +4,20 @@ use mathlib.Core.Bool.{false}
 use mathlib.Core.Path.{_≡_, refl}
 use Rattle.value.specs.declared.shape.Shape.the-variants.{Unsigned, Fixed, Counted, NotTaken}
 use Rattle.value.specs.declared.column.Column.{Column}
-use Rattle.value.specs.Columns.{realType, charLength, decimalBytes, shapeOf}
+use Rattle.value.specs.Types.{realType}
+use Rattle.value.specs.Columns.{declaredLength, decimalBytes, shapeOf}
 
 -- a column that is not flagged unsigned
 abbrev column : ℕ → ℕ → ℕ → Column
 column t a b = record { kind = t; m0 = a; m1 = b; unsigned = false }
 
 -- "CHAR FE FF: 255, one length byte; EE 00: 256, two"
-char-FE-FF : (charLength 254 255 ≡ 255) × (shapeOf (column 254 254 255) ≡ Counted 1)
-unfolding shapeOf
+char-FE-FF : (declaredLength 254 254 255 ≡ 255) × (shapeOf (column 254 254 255) ≡ Counted 1)
+unfolding declaredLength shapeOf
 char-FE-FF = (refl, refl)
 
-char-EE-00 : (charLength 238 0 ≡ 256) × (shapeOf (column 254 238 0) ≡ Counted 2)
-unfolding shapeOf
+char-EE-00 : (declaredLength 254 238 0 ≡ 256) × (shapeOf (column 254 238 0) ≡ Counted 2)
+unfolding declaredLength shapeOf
 char-EE-00 = (refl, refl)
 
 -- "CHAR with m0 0: ... refused here"

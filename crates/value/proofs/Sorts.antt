@@ -5,6 +5,7 @@ use mathlib.Core.List.{[], _∷_}
 use types.Run.{OneOf, miss}
 use denote.Enum.Declared.{tagOf}
 use lib.IntN.{pos}
+use Rattle.wire.specs.Parts.{part}
 use Rattle.value.specs.declared.datum.Value.{Value}
 use Rattle.value.specs.declared.datum.Value.the-variants.{Null, Int, Uint, Float, Double, Year, When, Bytes}
 use Rattle.value.proofs.datum.Value.{the-type as value-type}
@@ -14,7 +15,7 @@ use Rattle.value.proofs.shape.Shape.{the-type as shape-type}
 use Rattle.value.specs.Data.{intIn, numberIn, noWhen, whenIn}
 use Rattle.value.specs.Columns.{isTaken, refusalOf}
 use Rattle.value.specs.Reading.{datumOf}
-use Rattle.value.specs.Storing.{startOf, lenOf}
+use Rattle.value.specs.Storing.{bytesAt}
 
 -- ---- a value that is of another sort than the match asks for
 pub not-int : (v : Value) → OneOf (0 ∷ 2 ∷ 3 ∷ 4 ∷ 5 ∷ 6 ∷ 7 ∷ []) (tagOf value-type v) → intIn (datumOf [] v) ≡ pos 0
@@ -26,7 +27,7 @@ not-int (Float n) o = refl
 not-int (Double n) o = refl
 not-int (Year n) o = refl
 not-int (When t) o = refl
-not-int (Bytes start len) o = refl
+not-int (Bytes p) o = refl
 
 pub not-number : (v : Value) → OneOf (0 ∷ 1 ∷ 6 ∷ 7 ∷ []) (tagOf value-type v) → numberIn (datumOf [] v) ≡ 0
 unfolding numberIn datumOf
@@ -37,7 +38,7 @@ not-number (Float n) o = absurd (miss (0 ∷ 1 ∷ 6 ∷ 7 ∷ []) 3 tt o)
 not-number (Double n) o = absurd (miss (0 ∷ 1 ∷ 6 ∷ 7 ∷ []) 4 tt o)
 not-number (Year n) o = absurd (miss (0 ∷ 1 ∷ 6 ∷ 7 ∷ []) 5 tt o)
 not-number (When t) o = refl
-not-number (Bytes start len) o = refl
+not-number (Bytes p) o = refl
 
 pub not-when : (v : Value) → OneOf (0 ∷ 1 ∷ 2 ∷ 3 ∷ 4 ∷ 5 ∷ 7 ∷ []) (tagOf value-type v) → whenIn (datumOf [] v) ≡ noWhen
 unfolding whenIn datumOf
@@ -48,18 +49,18 @@ not-when (Float n) o = refl
 not-when (Double n) o = refl
 not-when (Year n) o = refl
 not-when (When t) o = absurd (miss (0 ∷ 1 ∷ 2 ∷ 3 ∷ 4 ∷ 5 ∷ 7 ∷ []) 6 tt o)
-not-when (Bytes start len) o = refl
+not-when (Bytes p) o = refl
 
-pub not-bytes : (v : Value) → OneOf (0 ∷ 1 ∷ 2 ∷ 3 ∷ 4 ∷ 5 ∷ 6 ∷ []) (tagOf value-type v) → (startOf v ≡ 0) × (lenOf v ≡ 0)
-unfolding startOf lenOf
-not-bytes Null o = (refl, refl)
-not-bytes (Int z) o = (refl, refl)
-not-bytes (Uint n) o = (refl, refl)
-not-bytes (Float n) o = (refl, refl)
-not-bytes (Double n) o = (refl, refl)
-not-bytes (Year n) o = (refl, refl)
-not-bytes (When t) o = (refl, refl)
-not-bytes (Bytes start len) o = absurd (miss (0 ∷ 1 ∷ 2 ∷ 3 ∷ 4 ∷ 5 ∷ 6 ∷ []) 7 tt o)
+pub not-bytes : (v : Value) → OneOf (0 ∷ 1 ∷ 2 ∷ 3 ∷ 4 ∷ 5 ∷ 6 ∷ []) (tagOf value-type v) → bytesAt v ≡ part 0 0
+unfolding bytesAt
+not-bytes Null o = refl
+not-bytes (Int z) o = refl
+not-bytes (Uint n) o = refl
+not-bytes (Float n) o = refl
+not-bytes (Double n) o = refl
+not-bytes (Year n) o = refl
+not-bytes (When t) o = refl
+not-bytes (Bytes p) o = absurd (miss (0 ∷ 1 ∷ 2 ∷ 3 ∷ 4 ∷ 5 ∷ 6 ∷ []) 7 tt o)
 
 -- ---- a shape that there is
 pub there-is : (sh : Shape) → OneOf (0 ∷ 1 ∷ 2 ∷ 3 ∷ 4 ∷ 5 ∷ 6 ∷ 7 ∷ []) (tagOf shape-type sh) → (isTaken sh ≡ true) × (refusalOf sh ≡ 0)

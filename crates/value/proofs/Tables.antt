@@ -12,11 +12,12 @@ use Rattle.temporal.proofs.Forms.{size-least}
 use Rattle.value.specs.declared.shape.Shape.{Shape}
 use Rattle.value.specs.declared.shape.Shape.the-variants.{Unsigned, Signed, FloatBits, DoubleBits, YearByte, Timed, Fixed, Counted, NotTaken}
 use Rattle.value.specs.declared.column.Column.{Column}
-use Rattle.value.specs.declared.column.Family.{Family}
-use Rattle.value.specs.declared.column.Family.the-variants.{Integer, Float, Double, Year, Timestamp, Date, Time, Datetime, Timestamp2, Datetime2, Time2, Varchar, Char, Blob, Json, Bit, Decimal, Enum, Set, Unknown}
-use Rattle.value.specs.Columns.{familyOf, shapeIn, shapeOf, isTaken, refusalOf, leftoverBytes, digitsBytes, decimalBytes, lengthBytes, charLength, or30}
+use Rattle.value.specs.declared.types.Family.{Family}
+use Rattle.value.specs.declared.types.Family.the-variants.{Integer, Float, Double, Year, Timestamp, Date, Time, Datetime, Timestamp2, Datetime2, Time2, Varchar, Char, Blob, Json, Bit, Decimal, Enum, Set, Unknown}
+use Rattle.value.specs.Types.{familyOf, or30}
+use Rattle.value.specs.Columns.{shapeIn, shapeOf, isTaken, refusalOf, leftoverBytes, digitsBytes, decimalBytes, declaredIn, lengthBytes}
 use Rattle.value.specs.Shapes.{Sized, need}
-use Rattle.value.proofs.Arms.{below, left, right}
+use Rattle.wire.proofs.Each.{below, left, right}
 
 -- ---- the table of a decimal's leftover digits
 pub leftover-rule : (digits : ℕ) → digits < 9 → leftoverBytes digits ≡ (digits + 1) / 2
@@ -106,8 +107,8 @@ fine-in Datetime m0 m1 u w = pick Fine (eqb m0 0 && eqb m1 0) (λ e. tt) (inr re
 fine-in Timestamp2 m0 m1 u w = pick Fine (leb m0 6 && eqb m1 0) (λ e. tt) (inr refl)
 fine-in Datetime2 m0 m1 u w = pick Fine (leb m0 6 && eqb m1 0) (λ e. tt) (inr refl)
 fine-in Time2 m0 m1 u w = pick Fine (leb m0 6 && eqb m1 0) (λ e. tt) (inr refl)
-fine-in Varchar m0 m1 u w = one-or-two (m0 + 256 * m1)
-fine-in Char m0 m1 u w = pick Fine (eqb (or30 m0) 254) (λ e. one-or-two (charLength m0 m1)) (inr refl)
+fine-in Varchar m0 m1 u w = one-or-two (declaredIn Varchar m0 m1)
+fine-in Char m0 m1 u w = pick Fine (eqb (or30 m0) 254) (λ e. one-or-two (declaredIn Char m0 m1)) (inr refl)
 fine-in Blob m0 m1 u w =
     pick Fine (leb 1 m0 && (leb m0 4 && eqb m1 0))
     (λ e. (leb→le 1 m0 (left (leb 1 m0) _ e), leb→le m0 4 (left (leb m0 4) _ (right (leb 1 m0) _ e)))) (inr refl)

@@ -3,10 +3,7 @@ use mathlib.Core.Path.{_≡_, refl}
 use Rattle.wire.proofs.Outcomes.{back-read, same-by-back}
 use Rattle.value.specs.declared.reading.Read.{Read}
 use Rattle.value.specs.declared.reading.Read.the-variants.{Got, Refused}
-use Rattle.value.specs.declared.storing.Size.{Size}
-use Rattle.value.specs.declared.storing.Size.the-variants.{Takes, Refused as Refused′}
 use Rattle.value.specs.Reading.{readOf}
-use Rattle.value.specs.Storing.{sizeSaid}
 
 read-way : (a : Read) → back-read (λ x. Got (x .0) (x .1)) Refused (readOf a) ≡ a
 read-way (Got value next) = refl
@@ -15,11 +12,3 @@ read-way (Refused r) = refl
 -- of readers
 pub same-read : (a b : Read) → readOf a ≡ readOf b → a ≡ b
 same-read = same-by-back readOf (back-read (λ x. Got (x .0) (x .1)) Refused) read-way
-
-size-way : (a : Size) → back-read Takes Refused′ (sizeSaid a) ≡ a
-size-way (Takes n) = refl
-size-way (Refused′ r) = refl
-
--- of sizes
-pub same-size : (a b : Size) → sizeSaid a ≡ sizeSaid b → a ≡ b
-same-size = same-by-back sizeSaid (back-read Takes Refused′) size-way

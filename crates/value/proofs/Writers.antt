@@ -1,21 +1,23 @@
 -- Values and what they say: which a column takes, and the bytes that it stores. Laws for the writers of the code. Assumes nothing.
-use Prim.Native.Nat.{ℕ, _+_, _-_, _/_, _^_, _≤_, min}
+use Prim.Native.Nat.{ℕ, _+_, _-_, _^_, _≤_, min}
 use mathlib.Core.Path.{_≡_, refl, sym, ap, _∙_}
 use mathlib.Core.Bool.{true, false, _&&_, false≢true}
 use mathlib.Core.Logic.{dite}
 use mathlib.Core.List.{List, [], _++_, append-nil}
 use native.Mathlib.Decide.{decLe}
 use native.Mathlib.Omega.{arith}
-use borrow.Author.Tests.{lt-ltb, le-ltb, le-leb, lt-leb, eq-eqb, ne-eqb, leb-true, ltb-true}
-use lib.ListN.{length, take, drop, length-drop, length-append}
-use lib.Seq.{length-take-le}
+use borrow.Author.Tests.{lt-ltb, le-ltb, le-leb, lt-leb, eq-eqb, ne-eqb, leb-true}
+use lib.ListN.{length, length-append}
 use lib.Dec.{leb, ltb, eqb}
 use Rattle.wire.specs.Outcome.{ok, refuse}
 use Rattle.wire.specs.Number.{leBytes}
 use Rattle.wire.specs.Signed.{twosOf, inHalves}
+use Rattle.wire.specs.declared.part.Part.{Part}
+use Rattle.wire.specs.Parts.{partOf, lentPart}
 use Rattle.wire.specs.Stored.{store}
 use Rattle.wire.proofs.Bytes.{leBytes-length}
 use Rattle.wire.proofs.Outcomes.{both-true}
+use Rattle.wire.proofs.Parts.{part-length, lent-is}
 use Rattle.temporal.specs.declared.kind.Kind.{Kind}
 use Rattle.temporal.specs.Domains.{domain as timedDomain}
 use Rattle.temporal.specs.Reading.{writeTemporal}
@@ -23,16 +25,15 @@ use Rattle.value.specs.declared.shape.Shape.{Shape}
 use Rattle.value.specs.declared.shape.Shape.the-variants.{Unsigned, Signed, FloatBits, DoubleBits, YearByte, Timed, Fixed, Counted, NotTaken}
 use Rattle.value.specs.declared.datum.Value.{Value}
 use Rattle.value.specs.declared.datum.Value.the-variants.{Null, Int, Uint, Float, Double, Year, When, Bytes}
-use Rattle.value.specs.Data.{Datum, bytes, tag, intIn, numberIn, whenIn, bytesIn, magnitudeOf}
+use Rattle.value.specs.Data.{Datum, bytes, tag, isInt, isUint, isFloat, isDouble, isYear, isWhen, isBytes, intIn, numberIn, whenIn, bytesIn}
 use Rattle.value.specs.Domains.{domain}
 use Rattle.value.specs.Shapes.{bytesOf, need}
 use Rattle.value.specs.Columns.{isTaken, refusalOf}
 use Rattle.value.specs.Reading.{taken, datumOf}
-use Rattle.value.specs.Storing.{startOf, lenOf, isLent, isIn, storedBytes, writeValue, sizeOf}
+use Rattle.value.specs.Storing.{bytesAt, isLent, isIn, storedBytes, writeValue, sizeOf}
 use Rattle.value.proofs.Facts.{need-bytes}
 use Rattle.value.proofs.Laws.{taken-at}
 use Rattle.value.proofs.Readers.{narrow}
-use Rattle.value.proofs.Signs.{halves-is}
 
 -- ---- all but its bytes a value says whatever is lent
 any : {B : Type 0} (f : Datum → B) → ((b c : List ℕ) → f (bytes b) ≡ f (bytes c)) → (s : List ℕ) (v : Value) → f (datumOf s v) ≡ f (datumOf [] v)
@@ -44,7 +45,7 @@ any f e s (Float n) = refl
 any f e s (Double n) = refl
 any f e s (Year n) = refl
 any f e s (When t) = refl
-any f e s (Bytes start len) = e _ _
+any f e s (Bytes p) = e _ _
 
 pub tag-any : (s : List ℕ) (v : Value) → tag (datumOf s v) ≡ tag (datumOf [] v)
 unfolding tag
@@ -63,8 +64,8 @@ unfolding whenIn
 when-any = any whenIn (λ b c. refl)
 
 -- its bytes are a part of what is lent
-pub bytes-part : (s : List ℕ) (v : Value) → bytesIn (datumOf s v) ≡ take (lenOf v) (drop (startOf v) s)
-unfolding bytesIn datumOf startOf lenOf
+pub bytes-part : (s : List ℕ) (v : Value) → bytesIn (datumOf s v) ≡ partOf s (bytesAt v)
+unfolding bytesIn datumOf bytesAt
 bytes-part s Null = refl
 bytes-part s (Int z) = refl
 bytes-part s (Uint n) = refl
@@ -72,13 +73,15 @@ bytes-part s (Float n) = refl
 bytes-part s (Double n) = refl
 bytes-part s (Year n) = refl
 bytes-part s (When t) = refl
-bytes-part s (Bytes start len) = refl
+bytes-part s (Bytes p) = refl
 
-pub bytes-length : (s : List ℕ) (v : Value) → isLent s v ≡ true → length (bytesIn (datumOf s v)) ≡ lenOf v
+-- which end within it
+pub lent-fits : (s : List ℕ) (v : Value) → isLent s v ≡ true → bytesAt v .start + bytesAt v .len ≤ length s
 unfolding isLent
-bytes-length s v h =
-    let l : startOf v + lenOf v ≤ length s = leb-true (startOf v + lenOf v) (length s) h in
-    ap length (bytes-part s v) ∙ length-take-le (lenOf v) (drop (startOf v) s) (rw length-drop (omega arith))
+lent-fits s v h = leb-true (bytesAt v .start + bytesAt v .len) (length s) h
+
+pub bytes-length : (s : List ℕ) (v : Value) → isLent s v ≡ true → length (bytesIn (datumOf s v)) ≡ bytesAt v .len
+bytes-length s v h = ap length (bytes-part s v) ∙ part-length s (bytesAt v) (lent-fits s v h)
 
 -- ---- which values a column takes, as the code tests it
 pub not-in : (sh : Shape) (s : List ℕ) (v : Value) → isLent s v ≡ false → false ≡ isIn sh s v
@@ -92,36 +95,40 @@ below n most k e =
     (λ h. le-leb n most h ∙ sym (lt-ltb n (most + 1) (omega arith)))
     (λ h. lt-leb n most (omega arith) ∙ sym (le-ltb n (most + 1) (omega arith))))
 
+-- the greatest number of k bytes, of a width that there is
+pub top-narrow : (k most : ℕ) → k ≤ 8 → most + 1 ≡ 256 ^ min k 8 → most + 1 ≡ 256 ^ k
+top-narrow k most h e = rw (narrow k h) at e
+
 -- a number of k bytes, of the sort t
 pub in-plain : (sh : Shape) (t k most : ℕ) (s : List ℕ) (v : Value) → ((d : Datum) → domain sh d ≡ (eqb (tag d) t && ltb (numberIn d) (256 ^ k))) → most + 1 ≡ 256 ^ k
     → isLent s v ≡ true → (eqb (tag (datumOf [] v)) t && (leb 0 (numberIn (datumOf [] v)) && leb (numberIn (datumOf [] v)) most)) ≡ isIn sh s v
 unfolding isIn
 in-plain sh t k most s v f e h = rw (h, f (datumOf s v), tag-any s v, number-any s v, below (numberIn (datumOf [] v)) most k e)
 
-pub unsigned-domain : (k : ℕ) (d : Datum) → domain (Unsigned k) d ≡ (eqb (tag d) 2 && ltb (numberIn d) (256 ^ k))
+pub unsigned-domain : (k : ℕ) (d : Datum) → domain (Unsigned k) d ≡ (isUint d && ltb (numberIn d) (256 ^ k))
 unfolding domain
 unsigned-domain k d = refl
 
-pub float-domain : (d : Datum) → domain FloatBits d ≡ (eqb (tag d) 3 && ltb (numberIn d) (256 ^ 4))
+pub float-domain : (d : Datum) → domain FloatBits d ≡ (isFloat d && ltb (numberIn d) (256 ^ 4))
 unfolding domain
 float-domain d = refl
 
-pub double-domain : (d : Datum) → domain DoubleBits d ≡ (eqb (tag d) 4 && ltb (numberIn d) (256 ^ 8))
+pub double-domain : (d : Datum) → domain DoubleBits d ≡ (isDouble d && ltb (numberIn d) (256 ^ 8))
 unfolding domain
 double-domain d = refl
 
 pub in-year : (s : List ℕ) (v : Value) → isLent s v ≡ true
-    → (eqb (tag (datumOf [] v)) 5 && (leb 1900 (numberIn (datumOf [] v)) && leb (numberIn (datumOf [] v)) 2155)) ≡ isIn YearByte s v
+    → (isYear (datumOf [] v) && (leb 1900 (numberIn (datumOf [] v)) && leb (numberIn (datumOf [] v)) 2155)) ≡ isIn YearByte s v
 unfolding isIn domain
 in-year s v h = rw (h, tag-any s v, number-any s v)
 
-pub in-signed : (k most : ℕ) (s : List ℕ) (v : Value) → most + 1 ≡ 256 ^ k → isLent s v ≡ true
-    → (eqb (tag (datumOf [] v)) 1 && inHalves (most + 1) (intIn (datumOf [] v))) ≡ isIn (Signed k) s v
+pub in-signed : (k : ℕ) (s : List ℕ) (v : Value) → k ≤ 8 → isLent s v ≡ true
+    → (isInt (datumOf [] v) && inHalves (256 ^ min k 8) (intIn (datumOf [] v))) ≡ isIn (Signed k) s v
 unfolding isIn domain
-in-signed k most s v e h = rw (h, tag-any s v, int-any s v, e)
+in-signed k s v l h = rw (h, tag-any s v, int-any s v, narrow k l)
 
 pub in-timed : (k : Kind) (s : List ℕ) (v : Value) → isLent s v ≡ true
-    → (eqb (tag (datumOf [] v)) 6 && timedDomain k (whenIn (datumOf [] v))) ≡ isIn (Timed k) s v
+    → (isWhen (datumOf [] v) && timedDomain k (whenIn (datumOf [] v))) ≡ isIn (Timed k) s v
 unfolding isIn domain
 in-timed k s v h = rw (h, tag-any s v, when-any s v)
 
@@ -133,23 +140,18 @@ just n m =
     (λ g. rw (le-leb n m h, lt-leb m n (omega arith)) (sym (ne-eqb m n (λ e. omega arith)))))
     (λ h. rw (lt-leb n m (omega arith)) (sym (ne-eqb m n (λ e. omega arith))))
 
-pub in-fixed : (n : ℕ) (s : List ℕ) (v : Value) → isLent s v ≡ true → (eqb (tag (datumOf [] v)) 7 && (leb n (lenOf v) && leb (lenOf v) n)) ≡ isIn (Fixed n) s v
+pub in-fixed : (n : ℕ) (s : List ℕ) (v : Value) → isLent s v ≡ true → (isBytes (datumOf [] v) && (leb n (bytesAt v .len) && leb (bytesAt v .len) n)) ≡ isIn (Fixed n) s v
 unfolding isIn domain
-in-fixed n s v h = rw (h, tag-any s v, bytes-length s v h, just n (lenOf v))
+in-fixed n s v h = rw (h, tag-any s v, bytes-length s v h, just n (bytesAt v .len))
 
 pub in-counted : (k most : ℕ) (s : List ℕ) (v : Value) → most + 1 ≡ 256 ^ k → isLent s v ≡ true
-    → (eqb (tag (datumOf [] v)) 7 && (leb 0 (lenOf v) && leb (lenOf v) most)) ≡ isIn (Counted k) s v
+    → (isBytes (datumOf [] v) && (leb 0 (bytesAt v .len) && leb (bytesAt v .len) most)) ≡ isIn (Counted k) s v
 unfolding isIn domain
-in-counted k most s v e h = rw (h, tag-any s v, bytes-length s v h, below (lenOf v) most k e)
+in-counted k most s v e h = rw (h, tag-any s v, bytes-length s v h, below (bytesAt v .len) most k e)
 
 pub in-none : (n : ℕ) (s : List ℕ) (v : Value) → isLent s v ≡ true → false ≡ isIn (NotTaken n) s v
 unfolding isIn domain
 in-none n s v h = rw h
-
--- the bytes of a value that are lent end within the list
-pub lent-fits : (s : List ℕ) (v : Value) → isLent s v ≡ true → startOf v + lenOf v ≤ length s
-unfolding isLent
-lent-fits s v h = leb-true (startOf v + lenOf v) (length s) h
 
 -- a value that a column takes is lent, and in the domain
 pub is-in : (sh : Shape) (s : List ℕ) (v : Value) → isIn sh s v ≡ true → (isLent s v ≡ true) × (domain sh (datumOf s v) ≡ true)
@@ -169,28 +171,18 @@ size-is sh s v h = rw (append-nil (bytesOf sh (datumOf s v))) at (need-bytes sh 
 pub size-at : (sh sh′ : Shape) (n : ℕ) (s : List ℕ) (v : Value) → sh ≡ sh′ → isIn sh s v ≡ true → ((b : List ℕ) → need sh′ b ≡ n) → n ≡ length (bytesOf sh (datumOf s v))
 size-at sh sh′ n s v e h f = sym (f (bytesOf sh (datumOf s v))) ∙ ap (λ (x : Shape). need x (bytesOf sh (datumOf s v))) (sym e) ∙ size-is sh s v h
 
-pub size-counted : (k : ℕ) (s : List ℕ) (v : Value) → isIn (Counted k) s v ≡ true → k + lenOf v ≡ length (bytesOf (Counted k) (datumOf s v))
+pub size-counted : (k : ℕ) (s : List ℕ) (v : Value) → isIn (Counted k) s v ≡ true → k + bytesAt v .len ≡ length (bytesOf (Counted k) (datumOf s v))
 unfolding bytesOf
 size-counted k s v h =
     let l = bytes-length s v (is-in (Counted k) s v h .0) in
     sym (length-append (leBytes k (length (bytesIn (datumOf s v)))) (bytesIn (datumOf s v)) ∙ rw (leBytes-length, l))
 
--- ---- numbers that the code may take apart
-pub signed-small : (k most : ℕ) (s : List ℕ) (v : Value) → most + 1 ≡ 256 ^ k → isIn (Signed k) s v ≡ true → magnitudeOf (intIn (datumOf [] v)) ≤ most
-unfolding isIn domain
-signed-small k most s v e h =
-    let w = both-true (isLent s v) _ h in
-    let d = both-true (eqb (tag (datumOf s v)) 1) _ (w .1) in
-    let t : ltb (magnitudeOf (intIn (datumOf [] v))) ((most + 1) / 2) ≡ true =
-    sym (halves-is (most + 1) (intIn (datumOf [] v))) ∙ ap (λ (m : ℕ). inHalves m (intIn (datumOf [] v))) e ∙ rw (int-any s v) at (d .1) in
-    let l = ltb-true (magnitudeOf (intIn (datumOf [] v))) ((most + 1) / 2) t in
-    omega arith
-
+-- ---- a number that the code may take apart
 pub year-least : (s : List ℕ) (v : Value) → isIn YearByte s v ≡ true → 1900 ≤ numberIn (datumOf [] v)
 unfolding isIn domain
 year-least s v h =
     let w = both-true (isLent s v) _ h in
-    let d = both-true (eqb (tag (datumOf s v)) 5) _ (w .1) in
+    let d = both-true (isYear (datumOf s v)) _ (w .1) in
     let t = both-true (leb 1900 (numberIn (datumOf s v))) _ (d .1) in
     rw (number-any s v) at (leb-true 1900 (numberIn (datumOf s v)) (t .0))
 
@@ -199,9 +191,9 @@ pub put-unsigned : (k : ℕ) (s : List ℕ) (v : Value) → k ≤ 8 → bytesOf 
 unfolding bytesOf
 put-unsigned k s v h = rw (narrow k h, number-any s v)
 
-pub put-signed : (k most : ℕ) (s : List ℕ) (v : Value) → k ≤ 8 → most + 1 ≡ 256 ^ k → bytesOf (Signed k) (datumOf s v) ≡ leBytes (min k 8) (twosOf (most + 1) (intIn (datumOf [] v)))
+pub put-signed : (k : ℕ) (s : List ℕ) (v : Value) → k ≤ 8 → bytesOf (Signed k) (datumOf s v) ≡ leBytes (min k 8) (twosOf (256 ^ min k 8) (intIn (datumOf [] v)))
 unfolding bytesOf
-put-signed k most s v h m = rw (narrow k h, m, int-any s v)
+put-signed k s v h = rw (narrow k h, int-any s v)
 
 pub put-float : (s : List ℕ) (v : Value) → bytesOf FloatBits (datumOf s v) ≡ leBytes 4 (numberIn (datumOf [] v))
 unfolding bytesOf
@@ -215,11 +207,11 @@ pub put-year : (s : List ℕ) (v : Value) → bytesOf YearByte (datumOf s v) ≡
 unfolding bytesOf
 put-year s v = ap (λ (n : ℕ). leBytes 1 (n - 1900)) (number-any s v)
 
-pub put-fixed : (n : ℕ) (s : List ℕ) (v : Value) → bytesOf (Fixed n) (datumOf s v) ≡ leBytes 0 (lenOf v) ++ take (lenOf v) (drop (startOf v) s)
+pub put-fixed : (n : ℕ) (s : List ℕ) (v : Value) → bytesOf (Fixed n) (datumOf s v) ≡ leBytes 0 (bytesAt v .len) ++ partOf s (bytesAt v)
 unfolding bytesOf leBytes
 put-fixed n s v = bytes-part s v
 
-pub put-counted : (k : ℕ) (s : List ℕ) (v : Value) → isLent s v ≡ true → bytesOf (Counted k) (datumOf s v) ≡ leBytes k (lenOf v) ++ take (lenOf v) (drop (startOf v) s)
+pub put-counted : (k : ℕ) (s : List ℕ) (v : Value) → isLent s v ≡ true → bytesOf (Counted k) (datumOf s v) ≡ leBytes k (bytesAt v .len) ++ partOf s (bytesAt v)
 unfolding bytesOf
 put-counted k s v h = rw (bytes-length s v h, bytes-part s v)
 
@@ -228,7 +220,7 @@ pub put-timed : (k : Kind) (s : List ℕ) (v : Value) (buf : List ℕ) (at : ℕ
 unfolding isIn domain bytesOf writeTemporal
 put-timed k s v buf at h =
     let w = both-true (isLent s v) _ h in
-    let d = both-true (eqb (tag (datumOf s v)) 6) _ (w .1) in
+    let d = both-true (isWhen (datumOf s v)) _ (w .1) in
     let t : timedDomain k (whenIn (datumOf [] v)) ≡ true = rw (when-any s v) at (d .1) in
     rw (t, when-any s v)
 
@@ -250,14 +242,13 @@ pub stored-in : (sh : Shape) (p : ℕ) (s : List ℕ) (v : Value) → isTaken sh
 unfolding storedBytes
 stored-in sh p s v t h = rw (taken-at sh p t, h)
 
--- the part that the code lends, from a start to an end that it added up
-pub lent-part : (s : List ℕ) (v : Value) (k start len : ℕ) → isLent s v ≡ true → start ≡ startOf v → len ≡ lenOf v
-    → leBytes k (length (take (start + len - start) (drop start s))) ++ take (start + len - start) (drop start s) ≡ leBytes k (lenOf v) ++ take (lenOf v) (drop (startOf v) s)
-lent-part s v k start len h e f =
+-- the bytes b of the part that the code lends
+pub lent-part : (s : List ℕ) (v : Value) (k : ℕ) (p : Part) (b : List ℕ) → isLent s v ≡ true → p ≡ bytesAt v → b ≡ lentPart s p
+    → leBytes k (length b) ++ b ≡ leBytes k (bytesAt v .len) ++ partOf s (bytesAt v)
+lent-part s v k p b h e f =
     let l = lent-fits s v h in
-    let d : startOf v + lenOf v - startOf v ≡ lenOf v = omega arith in
-    let n : length (take (lenOf v) (drop (startOf v) s)) ≡ lenOf v = length-take-le (lenOf v) (drop (startOf v) s) (rw length-drop (omega arith)) in
-    rw (e, f, d, n)
+    let g : b ≡ partOf s (bytesAt v) = f ∙ ap (lentPart s) e ∙ lent-is s (bytesAt v) l in
+    rw (g, part-length s (bytesAt v) l)
 
 -- ---- what the writer and the size answer
 pub writes-not : (sh : Shape) (p : ℕ) (s : List ℕ) (v : Value) (buf : List ℕ) (at : ℕ) → isTaken sh ≡ false → writeValue sh p s v buf at ≡ refuse (refusalOf sh) p

@@ -1,5 +1,5 @@
--- The one table of column types, and what follows from a type and its metadata m0, m1: how many bytes of metadata, the real type, which are accepted
--- and how their values are stored, and the classes by which a map's optional fields count columns. Assumes nothing.
+-- How the values of a column are stored: what follows from its type and its metadata m0, m1, which metadata are accepted, and the sizes that they tell.
+-- Assumes nothing.
 use Prim.Native.Nat.{ℕ, _+_, _-_, _*_, _/_, _%_}
 use mathlib.Core.Bool.{Bool, true, false, cond, _&&_, _||_}
 use mathlib.Core.List.{[], _∷_}
@@ -9,94 +9,42 @@ use Rattle.temporal.specs.declared.kind.Kind.the-variants.{Timestamp as StoredT
 use Rattle.value.specs.declared.shape.Shape.{Shape}
 use Rattle.value.specs.declared.shape.Shape.the-variants.{Unsigned, Signed, FloatBits, DoubleBits, YearByte, Timed, Fixed, Counted, NotTaken}
 use Rattle.value.specs.declared.column.Column.{Column}
-use Rattle.value.specs.declared.column.Dialect.{Dialect}
-use Rattle.value.specs.declared.column.Dialect.the-variants.{Document, Mysql, Mariadb}
-use Rattle.value.specs.declared.column.Family.{Family}
-use Rattle.value.specs.declared.column.Family.the-variants.{Integer, Float, Double, Year, Timestamp, Date, Time, Datetime, Timestamp2, Datetime2, Time2, Varchar, Char, Blob, Json, Bit, Decimal, Enum, Set, Unknown}
-
--- ---- the table
-unfoldable pub familyOf : ℕ → Family
-familyOf t =
-    cond (eqb t 1) (Integer 1)
-    (cond (eqb t 2) (Integer 2)
-    (cond (eqb t 3) (Integer 4)
-    (cond (eqb t 4) Float
-    (cond (eqb t 5) Double
-    (cond (eqb t 7) Timestamp
-    (cond (eqb t 8) (Integer 8)
-    (cond (eqb t 9) (Integer 3)
-    (cond (eqb t 10) Date
-    (cond (eqb t 11) Time
-    (cond (eqb t 12) Datetime
-    (cond (eqb t 13) Year
-    (cond (eqb t 14) Date
-    (cond (eqb t 15) Varchar
-    (cond (eqb t 16) Bit
-    (cond (eqb t 17) Timestamp2
-    (cond (eqb t 18) Datetime2
-    (cond (eqb t 19) Time2
-    (cond (eqb t 242) Blob
-    (cond (eqb t 245) Json
-    (cond (eqb t 246) Decimal
-    (cond (eqb t 247) Enum
-    (cond (eqb t 248) Set
-    (cond (eqb t 249) Blob
-    (cond (eqb t 250) Blob
-    (cond (eqb t 251) Blob
-    (cond (eqb t 252) Blob
-    (cond (eqb t 253) Varchar
-    (cond (eqb t 254) Char
-    (cond (eqb t 255) Blob
-    Unknown)))))))))))))))))))))))))))))
-
--- ---- what the family alone tells: whether there is such a type, how many bytes of metadata it has, and whether it is numeric.
--- "Numeric are types 1, 2, 3, 4, 5, 8, 9, 246": to these document 01 gives a signedness bit
-unfoldable pub traitsOf : Family → Bool × ℕ × Bool
-traitsOf (Integer k) = (true, 0, true)
-traitsOf Float = (true, 1, true)
-traitsOf Double = (true, 1, true)
-traitsOf Year = (true, 0, false)
-traitsOf Timestamp = (true, 0, false)
-traitsOf Date = (true, 0, false)
-traitsOf Time = (true, 0, false)
-traitsOf Datetime = (true, 0, false)
-traitsOf Timestamp2 = (true, 1, false)
-traitsOf Datetime2 = (true, 1, false)
-traitsOf Time2 = (true, 1, false)
-traitsOf Varchar = (true, 2, false)
-traitsOf Char = (true, 2, false)
-traitsOf Blob = (true, 1, false)
-traitsOf Json = (true, 1, false)
-traitsOf Bit = (true, 2, false)
-traitsOf Decimal = (true, 2, true)
-traitsOf Enum = (true, 2, false)
-traitsOf Set = (true, 2, false)
-traitsOf Unknown = (false, 0, false)
-
-unfoldable pub isKnown : Family → Bool
-unfolding traitsOf
-isKnown f = traitsOf f .0
-
-unfoldable pub metadataBytes : Family → ℕ
-unfolding traitsOf
-metadataBytes f = traitsOf f .1
-
-unfoldable pub isNumeric : Family → Bool
-unfolding traitsOf
-isNumeric f = traitsOf f .2
-
--- ---- the real type. "m0 or-ed with 0x30": the two bits of 0x30 set, the others as they are
-abbrev pub or30 : ℕ → ℕ
-or30 m0 = m0 / 64 * 64 + 48 + m0 % 16
-
--- "Real type of 10 is 14"; of 254 it is told by m0
-unfoldable pub realType : ℕ → ℕ → ℕ
-realType t m0 = cond (eqb t 10) 14 (cond (eqb t 254) (or30 m0) t)
+use Rattle.value.specs.declared.types.Family.{Family}
+use Rattle.value.specs.declared.types.Family.the-variants.{Integer, Float, Double, Year, Timestamp, Date, Time, Datetime, Timestamp2, Datetime2, Time2, Varchar, Char, Blob, Json, Bit, Decimal, Enum, Set, Unknown}
+use Rattle.value.specs.Types.{familyOf, or30}
 
 -- ---- sizes that metadata tell
 -- "254: m1 + 16·((m0 and 0x30) xor 0x30)"
 abbrev pub charLength : ℕ → ℕ → ℕ
 charLength m0 m1 = m1 + 16 * (48 - m0 / 16 % 4 * 16)
+
+-- the declared length of a string, in bytes: "15, 253: declared length m0+256·m1", and that of 254; other types declare none
+unfoldable pub declaredIn : Family → ℕ → ℕ → ℕ
+declaredIn (Integer k) m0 m1 = 0
+declaredIn Float m0 m1 = 0
+declaredIn Double m0 m1 = 0
+declaredIn Year m0 m1 = 0
+declaredIn Timestamp m0 m1 = 0
+declaredIn Date m0 m1 = 0
+declaredIn Time m0 m1 = 0
+declaredIn Datetime m0 m1 = 0
+declaredIn Timestamp2 m0 m1 = 0
+declaredIn Datetime2 m0 m1 = 0
+declaredIn Time2 m0 m1 = 0
+declaredIn Varchar m0 m1 = m0 + 256 * m1
+declaredIn Char m0 m1 = charLength m0 m1
+declaredIn Blob m0 m1 = 0
+declaredIn Json m0 m1 = 0
+declaredIn Bit m0 m1 = 0
+declaredIn Decimal m0 m1 = 0
+declaredIn Enum m0 m1 = 0
+declaredIn Set m0 m1 = 0
+declaredIn Unknown m0 m1 = 0
+
+-- the same by the type
+unfoldable pub declaredLength : ℕ → ℕ → ℕ → ℕ
+unfolding familyOf declaredIn
+declaredLength t m0 m1 = declaredIn (familyOf t) m0 m1
 
 -- "Declared below 256: one length byte, else two"
 abbrev pub lengthBytes : ℕ → ℕ
@@ -120,7 +68,7 @@ abbrev pub given : Bool → Shape → Shape
 given t sh = cond t sh (NotTaken 5)
 
 unfoldable pub shapeIn : Family → ℕ → ℕ → Bool → Shape
-unfolding decimalBytes
+unfolding declaredIn decimalBytes
 shapeIn (Integer k) m0 m1 unsigned = given (eqb m0 0 && eqb m1 0) (cond unsigned (Unsigned k) (Signed k))
 shapeIn Float m0 m1 unsigned = given (eqb m0 4 && eqb m1 0) FloatBits
 shapeIn Double m0 m1 unsigned = given (eqb m0 8 && eqb m1 0) DoubleBits
@@ -132,8 +80,8 @@ shapeIn Datetime m0 m1 unsigned = given (eqb m0 0 && eqb m1 0) (Timed OldDatetim
 shapeIn Timestamp2 m0 m1 unsigned = given (leb m0 6 && eqb m1 0) (Timed (StoredTimestamp2 m0))
 shapeIn Datetime2 m0 m1 unsigned = given (leb m0 6 && eqb m1 0) (Timed (StoredDatetime2 m0))
 shapeIn Time2 m0 m1 unsigned = given (leb m0 6 && eqb m1 0) (Timed (StoredTime2 m0))
-shapeIn Varchar m0 m1 unsigned = Counted (lengthBytes (m0 + 256 * m1))
-shapeIn Char m0 m1 unsigned = given (eqb (or30 m0) 254) (Counted (lengthBytes (charLength m0 m1)))
+shapeIn Varchar m0 m1 unsigned = Counted (lengthBytes (declaredIn Varchar m0 m1))
+shapeIn Char m0 m1 unsigned = given (eqb (or30 m0) 254) (Counted (lengthBytes (declaredIn Char m0 m1)))
 shapeIn Blob m0 m1 unsigned = given (leb 1 m0 && (leb m0 4 && eqb m1 0)) (Counted m0)
 shapeIn Json m0 m1 unsigned = given (eqb m0 4 && eqb m1 0) (Counted 4)
 shapeIn Bit m0 m1 unsigned = given (leb m0 7 && (leb 1 (8 * m1 + m0) && leb (8 * m1 + m0) 64)) (Fixed ((8 * m1 + m0 + 7) / 8))
@@ -170,32 +118,3 @@ refusalOf (Timed k) = 0
 refusalOf (Fixed n) = 0
 refusalOf (Counted k) = 0
 refusalOf (NotTaken n) = n
-
--- ---- classes, by dialect
-abbrev pub isMysql : Dialect → Bool
-isMysql Document = false
-isMysql Mysql = true
-isMysql Mariadb = false
-
-abbrev pub isMariadb : Dialect → Bool
-isMariadb Document = false
-isMariadb Mysql = false
-isMariadb Mariadb = true
-
--- what the dialect gives a signedness bit, by type byte: YEAR too, on every server
-unfoldable pub hasSignBit : Dialect → ℕ → Bool
-unfolding isNumeric familyOf
-hasSignBit d t = isNumeric (familyOf t) || (eqb t 13 && (isMysql d || isMariadb d))
-
--- "Character columns have real type 15, 252, 253 or 254"
-unfoldable pub isCharacter : ℕ → Bool
-isCharacter t = eqb t 15 || (eqb t 252 || (eqb t 253 || eqb t 254))
-
--- what the dialect gives a charset in fields 2 and 3, by real type: VECTOR too on MySQL, geometry on MariaDB
-unfoldable pub hasCharset : Dialect → ℕ → Bool
-unfolding isCharacter
-hasCharset d t = isCharacter t || ((eqb t 242 && isMysql d) || (eqb t 255 && isMariadb d))
-
--- "types 10 and 11 rank ENUM and SET columns together", by real type
-unfoldable pub isEnumOrSet : ℕ → Bool
-isEnumOrSet t = eqb t 247 || eqb t 248

@@ -1,7 +1,9 @@
 -- A value, on paper: bytes are themselves, and not their place. Assumes nothing.
 use Prim.Native.Nat.{ℕ}
+use mathlib.Core.Bool.{Bool}
 use mathlib.Core.List.{List, []}
-use lib.IntN.{ℤ, pos, negsuc}
+use lib.Dec.{eqb}
+use lib.IntN.{ℤ, pos}
 use Rattle.temporal.specs.declared.parts.Temporal.{Temporal}
 use Rattle.temporal.specs.declared.parts.Temporal.the-variants.{Since}
 
@@ -25,6 +27,28 @@ tag (double n) = 4
 tag (year n) = 5
 tag (when t) = 6
 tag (bytes b) = 7
+
+-- whether it is this one
+abbrev pub isInt : Datum → Bool
+isInt d = eqb (tag d) 1
+
+abbrev pub isUint : Datum → Bool
+isUint d = eqb (tag d) 2
+
+abbrev pub isFloat : Datum → Bool
+isFloat d = eqb (tag d) 3
+
+abbrev pub isDouble : Datum → Bool
+isDouble d = eqb (tag d) 4
+
+abbrev pub isYear : Datum → Bool
+isYear d = eqb (tag d) 5
+
+abbrev pub isWhen : Datum → Bool
+isWhen d = eqb (tag d) 6
+
+abbrev pub isBytes : Datum → Bool
+isBytes d = eqb (tag d) 7
 
 -- what a value of one sort holds, and nothing in particular of any other
 unfoldable pub intIn : Datum → ℤ
@@ -71,8 +95,3 @@ bytesIn (double n) = []
 bytesIn (year n) = []
 bytesIn (when t) = []
 bytesIn (bytes b) = b
-
--- the n of a number that is n or -1 - n
-unfoldable pub magnitudeOf : ℤ → ℕ
-magnitudeOf (pos n) = n
-magnitudeOf (negsuc n) = n

@@ -7,21 +7,21 @@ use Rattle.wire.specs.Signed.{inHalves}
 use Rattle.temporal.specs.Domains.{domain as timedDomain}
 use Rattle.value.specs.declared.shape.Shape.{Shape}
 use Rattle.value.specs.declared.shape.Shape.the-variants.{Unsigned, Signed, FloatBits, DoubleBits, YearByte, Timed, Fixed, Counted, NotTaken}
-use Rattle.value.specs.Data.{Datum, tag, intIn, numberIn, whenIn, bytesIn}
+use Rattle.value.specs.Data.{Datum, tag, isInt, isUint, isFloat, isDouble, isYear, isWhen, isBytes, intIn, numberIn, whenIn, bytesIn}
 
 unfoldable pub domain : Shape → Datum → Bool
 unfolding tag intIn numberIn whenIn bytesIn inHalves timedDomain
 -- a number of k bytes
-domain (Unsigned k) d = eqb (tag d) 2 && ltb (numberIn d) (256 ^ k)
+domain (Unsigned k) d = isUint d && ltb (numberIn d) (256 ^ k)
 -- from -256^k/2 to 256^k/2 - 1
-domain (Signed k) d = eqb (tag d) 1 && inHalves (256 ^ k) (intIn d)
+domain (Signed k) d = isInt d && inHalves (256 ^ k) (intIn d)
 -- any bits
-domain FloatBits d = eqb (tag d) 3 && ltb (numberIn d) (256 ^ 4)
-domain DoubleBits d = eqb (tag d) 4 && ltb (numberIn d) (256 ^ 8)
-domain YearByte d = eqb (tag d) 5 && (leb 1900 (numberIn d) && leb (numberIn d) 2155)
-domain (Timed k) d = eqb (tag d) 6 && timedDomain k (whenIn d)
+domain FloatBits d = isFloat d && ltb (numberIn d) (256 ^ 4)
+domain DoubleBits d = isDouble d && ltb (numberIn d) (256 ^ 8)
+domain YearByte d = isYear d && (leb 1900 (numberIn d) && leb (numberIn d) 2155)
+domain (Timed k) d = isWhen d && timedDomain k (whenIn d)
 -- just n bytes, whatever they are
-domain (Fixed n) d = eqb (tag d) 7 && eqb (length (bytesIn d)) n
+domain (Fixed n) d = isBytes d && eqb (length (bytesIn d)) n
 -- as many as k bytes can count
-domain (Counted k) d = eqb (tag d) 7 && ltb (length (bytesIn d)) (256 ^ k)
+domain (Counted k) d = isBytes d && ltb (length (bytesIn d)) (256 ^ k)
 domain (NotTaken n) d = false

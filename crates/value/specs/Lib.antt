@@ -1,6 +1,8 @@
--- The definitions of the crate: what people must believe. `Columns`: the one table of column types, and what follows from a type. `Data`: values, on
+-- The definitions of the crate: what people must believe. `Types`: the one table of column types. `Columns`: how the values of a column are stored. `Data`: values, on
 -- paper. `Domains`: which values a column can hold. `Shapes`: their stored bytes. `Reading`, `Storing`: values read and written.
+pub mod Types
 pub mod Columns
+pub mod Classes
 pub mod Data
 pub mod Domains
 pub mod Shapes

@@ -5,6 +5,7 @@ use mathlib.Core.Bool.{cond}
 use mathlib.Core.List.{List}
 use lib.ListN.{length, take, drop}
 use lib.Dec.{leb, eqb}
+use Rattle.wire.specs.Parts.{part, partOf}
 use Rattle.wire.specs.Outcome.{Outcome, ok, refused, refuse, after}
 use Rattle.value.specs.declared.shape.Shape.{Shape}
 use Rattle.value.specs.declared.datum.Value.{Value}
@@ -45,7 +46,7 @@ placed e (float n) = Float n
 placed e (double n) = Double n
 placed e (year n) = Year n
 placed e (when t) = When t
-placed e (bytes b) = Bytes (e - length b) (length b)
+placed e (bytes b) = Bytes (part (e - length b) (length b))
 
 -- the value of s at a place, and the place after it
 unfoldable pub readValue : Shape → ℕ → List ℕ → ℕ → Outcome (Value × ℕ)
@@ -61,7 +62,7 @@ datumOf s (Float n) = float n
 datumOf s (Double n) = double n
 datumOf s (Year n) = year n
 datumOf s (When t) = when t
-datumOf s (Bytes start len) = bytes (take len (drop start s))
+datumOf s (Bytes p) = bytes (partOf s p)
 
 -- what the answer of a reader says
 abbrev pub readOf : Read → Outcome (Value × ℕ)

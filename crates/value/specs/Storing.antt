@@ -4,42 +4,32 @@ use mathlib.Core.Bool.{Bool, cond, _&&_}
 use mathlib.Core.List.{List}
 use lib.ListN.{length}
 use lib.Dec.{leb}
-use Rattle.wire.specs.Outcome.{Outcome, ok, refused, refuse, after}
+use Rattle.wire.specs.Outcome.{Outcome, ok, refuse, after}
+use Rattle.wire.specs.declared.part.Part.{Part}
+use Rattle.wire.specs.Parts.{part}
 use Rattle.wire.specs.Stored.{store}
 use Rattle.value.specs.declared.shape.Shape.{Shape}
 use Rattle.value.specs.declared.datum.Value.{Value}
 use Rattle.value.specs.declared.datum.Value.the-variants.{Null, Int, Uint, Float, Double, Year, When, Bytes}
-use Rattle.value.specs.declared.storing.Size.{Size}
-use Rattle.value.specs.declared.storing.Size.the-variants.{Takes, Refused}
 use Rattle.value.specs.Domains.{domain}
 use Rattle.value.specs.Shapes.{bytesOf}
 use Rattle.value.specs.Reading.{taken, datumOf}
 
 -- where a value's bytes stand; a value that is no bytes has none
-unfoldable pub startOf : Value → ℕ
-startOf Null = 0
-startOf (Int z) = 0
-startOf (Uint n) = 0
-startOf (Float n) = 0
-startOf (Double n) = 0
-startOf (Year n) = 0
-startOf (When t) = 0
-startOf (Bytes start len) = start
-
-unfoldable pub lenOf : Value → ℕ
-lenOf Null = 0
-lenOf (Int z) = 0
-lenOf (Uint n) = 0
-lenOf (Float n) = 0
-lenOf (Double n) = 0
-lenOf (Year n) = 0
-lenOf (When t) = 0
-lenOf (Bytes start len) = len
+unfoldable pub bytesAt : Value → Part
+bytesAt Null = part 0 0
+bytesAt (Int z) = part 0 0
+bytesAt (Uint n) = part 0 0
+bytesAt (Float n) = part 0 0
+bytesAt (Double n) = part 0 0
+bytesAt (Year n) = part 0 0
+bytesAt (When t) = part 0 0
+bytesAt (Bytes p) = p
 
 -- whether they are all there
 unfoldable pub isLent : List ℕ → Value → Bool
-unfolding startOf lenOf
-isLent s v = leb (startOf v + lenOf v) (length s)
+unfolding bytesAt
+isLent s v = leb (bytesAt v .start + bytesAt v .len) (length s)
 
 -- whether a column of the shape takes the value
 unfoldable pub isIn : Shape → List ℕ → Value → Bool
@@ -60,8 +50,3 @@ sizeOf sh p s v = after (storedBytes sh p s v) (λ b. ok (length b))
 unfoldable pub writeValue : Shape → ℕ → List ℕ → Value → List ℕ → ℕ → Outcome (ℕ × List ℕ)
 unfolding storedBytes store
 writeValue sh p s v buf at = after (storedBytes sh p s v) (λ b. store buf at b)
-
--- what the answer of a call for the size says
-abbrev pub sizeSaid : Size → Outcome ℕ
-sizeSaid (Takes n) = ok n
-sizeSaid (Refused r) = refused r

@@ -1,24 +1,20 @@
-// The one table of column types, and what follows from a type and its metadata (constants.rs: ColumnType).
+// How the values of a column are stored: what follows from its type and its metadata.
 use crate::shape::Shape;
 use crate::shape::is_taken;
+use crate::types::Family;
+use crate::types::family_of;
+use crate::types::or_30;
 use temporal::Kind;
 use wire::refusal::BAD_METADATA;
 use wire::refusal::TYPE_NOT_TAKEN;
+use wire::wide;
 ghost use mathlib.Core.Path.{_≡_};
-ghost use mathlib.Core.Bool.{false, cond, _&&_, _||_};
+ghost use mathlib.Core.Bool.{false, cond, _&&_};
 ghost use Prim.Native.Nat.{_≤_, _<_};
 ghost use lib.Dec.{leb, eqb};
-ghost use Rattle.value.specs.Columns.{familyOf, metadataBytes, isKnown, or30, realType, lengthBytes, leftoverBytes, digitsBytes, decimalBytes, given, shapeIn, shapeOf, isTaken, isMysql, isMariadb, isNumeric, hasSignBit, isCharacter, hasCharset, isEnumOrSet};
-ghost use Rattle.value.specs.declared.column.Family.the-variants.{Char, Blob, Bit, Decimal, Enum, Set};
+ghost use Rattle.value.specs.Columns.{declaredIn, declaredLength, lengthBytes, leftoverBytes, digitsBytes, decimalBytes, given, shapeIn, shapeOf, isTaken};
+ghost use Rattle.value.specs.declared.types.Family.the-variants.{Char, Blob, Bit, Decimal, Enum, Set};
 ghost use Rattle.value.specs.declared.shape.Shape.the-variants.{Unsigned, Signed};
-
-// Which columns a server counts where it gives signedness bits and charsets: document 01's lists, or those that servers of this
-// name were seen to use.
-pub enum Dialect {
-    Document,
-    Mysql,
-    Mariadb,
-}
 
 // What must be known of a column to read its values: its real type, its metadata, and whether an integer is unsigned.
 pub struct Column {
@@ -28,145 +24,22 @@ pub struct Column {
     pub unsigned: bool,
 }
 
-// What a column type is.
-pub enum Family {
-    // 1, 2, 9, 3, 8
-    Integer { width: usize },
-    // 4
-    Float,
-    // 5
-    Double,
-    // 13
-    Year,
-    // 7
-    Timestamp,
-    // 10 and 14
-    Date,
-    // 11
-    Time,
-    // 12
-    Datetime,
-    // 17
-    Timestamp2,
-    // 18
-    Datetime2,
-    // 19
-    Time2,
-    // 15, 253
-    Varchar,
-    // 254
-    Char,
-    // 242, 249..252, 255
-    Blob,
-    // 245
-    Json,
-    // 16
-    Bit,
-    // 246
-    Decimal,
-    // 247
-    Enum,
-    // 248
-    Set,
-    Unknown,
-}
-
-// The family of a type byte.
-pub fn family_of(kind: u8) -> Family
-    ensures { λ r. ⌜ r ≡ familyOf kind ⌝ }
+// The declared length of a string, in bytes; other families declare none. That of a CHAR is m1 and, above it, two bits of m0 that are kept inverted.
+fn declared_in(family: Family, m0: u8, m1: u8) -> usize
+    ensures { λ r. ⌜ r ≡ declaredIn family m0 m1 ⌝ }
 {
-    match kind {
-        1 => Family::Integer { width: 1 },
-        2 => Family::Integer { width: 2 },
-        3 => Family::Integer { width: 4 },
-        4 => Family::Float,
-        5 => Family::Double,
-        7 => Family::Timestamp,
-        8 => Family::Integer { width: 8 },
-        9 => Family::Integer { width: 3 },
-        10 => Family::Date,
-        11 => Family::Time,
-        12 => Family::Datetime,
-        13 => Family::Year,
-        14 => Family::Date,
-        15 => Family::Varchar,
-        16 => Family::Bit,
-        17 => Family::Timestamp2,
-        18 => Family::Datetime2,
-        19 => Family::Time2,
-        242 => Family::Blob,
-        245 => Family::Json,
-        246 => Family::Decimal,
-        247 => Family::Enum,
-        248 => Family::Set,
-        249 => Family::Blob,
-        250 => Family::Blob,
-        251 => Family::Blob,
-        252 => Family::Blob,
-        253 => Family::Varchar,
-        254 => Family::Char,
-        255 => Family::Blob,
-        _ => Family::Unknown,
-    }
-}
-
-// Whether there is such a type.
-pub fn is_known(kind: u8) -> bool
-    ensures { λ r. ⌜ r ≡ isKnown (familyOf kind) ⌝ }
-{
-    match family_of(kind) {
-        Family::Unknown => false,
-        _ => true,
-    }
-}
-
-// How many bytes of metadata a type has (ColumnType::get_metadata).
-pub fn metadata_bytes(kind: u8) -> usize
-    ensures { λ r. ⌜ r ≡ metadataBytes (familyOf kind) ⌝ }
-{
-    match family_of(kind) {
-        Family::Float
-        | Family::Double
-        | Family::Timestamp2
-        | Family::Datetime2
-        | Family::Time2
-        | Family::Blob
-        | Family::Json => 1,
-        Family::Varchar
-        | Family::Char
-        | Family::Bit
-        | Family::Decimal
-        | Family::Enum
-        | Family::Set => 2,
+    match family {
+        Family::Varchar => (wide(m0) + 256 * wide(m1)) as usize,
+        Family::Char => (wide(m1) + 16 * (48 - wide(m0) / 16 % 4 * 16)) as usize,
         _ => 0,
     }
 }
 
-// m0 or-ed with 0x30: the two bits of 0x30 set, the others as they are. Written as sums and products, it needs no laws of bits.
-fn or_30(m0: u8) -> u8
-    ensures { λ r. ⌜ r ≡ or30 m0 ⌝ }
+// The same of a column.
+pub fn declared_length(column: Column) -> usize
+    ensures { λ r. ⌜ r ≡ declaredLength (column .kind) (column .m0) (column .m1) ⌝ }
 {
-    m0 / 64 * 64 + 48 + m0 % 16
-}
-
-// The real type of a column of the type, which is told by m0 for 254 (TableMapEvent::get_real_type).
-pub fn real_type(kind: u8, m0: u8) -> u8
-    ensures { λ r. ⌜ r ≡ realType kind m0 ⌝ }
-{
-    if kind == 10 {
-        return 14;
-    }
-    if kind == 254 {
-        return or_30(m0);
-    }
-    kind
-}
-
-// A byte as a usize. The contract spares callers the proof that the cast keeps it.
-fn wide(x: u8) -> usize
-    ensures { λ r. ⌜ r ≡ x ⌝ }
-{
-    x as usize
+    declared_in(family_of(column.kind), column.m0, column.m1)
 }
 
 // How many bytes the length of a string takes, by the declared length.
@@ -193,7 +66,8 @@ fn leftover_bytes(digits: usize) -> usize
 fn digits_bytes(digits: u8) -> usize
     ensures { λ r. ⌜ r ≡ digitsBytes digits ⌝ }
 {
-    wide(digits) / 9 * 4 + leftover_bytes(wide(digits) % 9)
+    let n = wide(digits) as usize;
+    n / 9 * 4 + leftover_bytes(n % 9)
 }
 
 // How many bytes a decimal takes.
@@ -239,13 +113,11 @@ fn integer_shape(width: usize, unsigned: bool) -> Shape
     Shape::Signed(width)
 }
 
-// The declared length is m1 and, above it, two bits of m0 that are kept inverted.
 fn char_shape(m0: u8, m1: u8) -> Shape
     ensures { λ r. ⌜ r ≡ shapeIn Char m0 m1 false ⌝ }
 {
     if or_30(m0) == 254 {
-        let declared = wide(m1) + 16 * (48 - wide(m0) / 16 % 4 * 16);
-        return Shape::Counted(length_bytes(declared));
+        return Shape::Counted(length_bytes(declared_in(Family::Char, m0, m1)));
     }
     Shape::NotTaken(BAD_METADATA)
 }
@@ -260,7 +132,7 @@ fn blob_shape(m0: u8, m1: u8) -> Shape
         return Shape::NotTaken(BAD_METADATA);
     }
     if m1 == 0 {
-        return Shape::Counted(wide(m0));
+        return Shape::Counted(wide(m0) as usize);
     }
     Shape::NotTaken(BAD_METADATA)
 }
@@ -271,7 +143,7 @@ fn bit_shape(m0: u8, m1: u8) -> Shape
     if 7 < m0 {
         return Shape::NotTaken(BAD_METADATA);
     }
-    let bits = 8 * wide(m1) + wide(m0);
+    let bits = (8 * wide(m1) + wide(m0)) as usize;
     if bits < 1 {
         return Shape::NotTaken(BAD_METADATA);
     }
@@ -308,7 +180,7 @@ fn enum_shape(m1: u8) -> Shape
     if 2 < m1 {
         return Shape::NotTaken(BAD_METADATA);
     }
-    Shape::Unsigned(wide(m1))
+    Shape::Unsigned(wide(m1) as usize)
 }
 
 fn set_shape(m1: u8) -> Shape
@@ -318,7 +190,7 @@ fn set_shape(m1: u8) -> Shape
         return Shape::NotTaken(BAD_METADATA);
     }
     if m1 <= 4 {
-        return Shape::Fixed(wide(m1));
+        return Shape::Fixed(wide(m1) as usize);
     }
     if m1 == 8 {
         return Shape::Fixed(8);
@@ -342,7 +214,7 @@ fn shape_in(family: Family, m0: u8, m1: u8, unsigned: bool) -> Shape
         Family::Timestamp2 => if_digits(m0, m1, Shape::Timed(Kind::Timestamp2 { m0 })),
         Family::Datetime2 => if_digits(m0, m1, Shape::Timed(Kind::Datetime2 { m0 })),
         Family::Time2 => if_digits(m0, m1, Shape::Timed(Kind::Time2 { m0 })),
-        Family::Varchar => Shape::Counted(length_bytes(wide(m0) + 256 * wide(m1))),
+        Family::Varchar => Shape::Counted(length_bytes(declared_in(Family::Varchar, m0, m1))),
         Family::Char => char_shape(m0, m1),
         Family::Blob => blob_shape(m0, m1),
         Family::Json => if_just(m0, m1, 4, Shape::Counted(4)),
@@ -374,91 +246,4 @@ pub fn is_accepted(column: Column) -> bool
     ensures { λ r. ⌜ r ≡ isTaken (shapeOf column) ⌝ }
 {
     is_taken(shape_of(column))
-}
-
-// Whether document 01 gives the type a signedness bit (ColumnType::is_numeric_type).
-pub fn is_numeric(kind: u8) -> bool
-    ensures { λ r. ⌜ r ≡ isNumeric (familyOf kind) ⌝ }
-{
-    match family_of(kind) {
-        Family::Integer { width: _ } | Family::Float | Family::Double | Family::Decimal => true,
-        _ => false,
-    }
-}
-
-fn is_mysql(dialect: Dialect) -> bool
-    ensures { λ r. ⌜ r ≡ isMysql dialect ⌝ }
-{
-    match dialect {
-        Dialect::Document => false,
-        Dialect::Mysql => true,
-        Dialect::Mariadb => false,
-    }
-}
-
-fn is_mariadb(dialect: Dialect) -> bool
-    ensures { λ r. ⌜ r ≡ isMariadb dialect ⌝ }
-{
-    match dialect {
-        Dialect::Document => false,
-        Dialect::Mysql => false,
-        Dialect::Mariadb => true,
-    }
-}
-
-fn is_server(dialect: Dialect) -> bool
-    ensures { λ r. ⌜ r ≡ (isMysql dialect || isMariadb dialect) ⌝ }
-{
-    match dialect {
-        Dialect::Document => false,
-        Dialect::Mysql => true,
-        Dialect::Mariadb => true,
-    }
-}
-
-// Whether the dialect gives the type a signedness bit.
-pub fn has_sign_bit(dialect: Dialect, kind: u8) -> bool
-    ensures { λ r. ⌜ r ≡ hasSignBit dialect kind ⌝ }
-{
-    if kind == 13 {
-        return is_server(dialect);
-    }
-    is_numeric(kind)
-}
-
-// Whether columns of the real type are character columns (ColumnType::is_character_type).
-pub fn is_character(real: u8) -> bool
-    ensures { λ r. ⌜ r ≡ isCharacter real ⌝ }
-{
-    match real {
-        15 => true,
-        252 => true,
-        253 => true,
-        254 => true,
-        _ => false,
-    }
-}
-
-// Whether the dialect gives columns of the real type a charset.
-pub fn has_charset(dialect: Dialect, real: u8) -> bool
-    ensures { λ r. ⌜ r ≡ hasCharset dialect real ⌝ }
-{
-    if real == 242 {
-        return is_mysql(dialect);
-    }
-    if real == 255 {
-        return is_mariadb(dialect);
-    }
-    is_character(real)
-}
-
-// Whether columns of the real type are ENUM or SET columns (ColumnType::is_enum_or_set_type).
-pub fn is_enum_or_set(real: u8) -> bool
-    ensures { λ r. ⌜ r ≡ isEnumOrSet real ⌝ }
-{
-    match real {
-        247 => true,
-        248 => true,
-        _ => false,
-    }
 }

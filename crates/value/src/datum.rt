@@ -1,13 +1,14 @@
 // A value of a column, and its parts by sort.
 use temporal::Stamp;
 use temporal::Temporal;
+use wire::Part;
 ghost use mathlib.Core.Path.{_≡_};
 ghost use mathlib.Core.List.{[]};
 ghost use Rattle.value.specs.Data.{tag, intIn, numberIn, whenIn};
 ghost use Rattle.value.specs.Reading.{datumOf};
-ghost use Rattle.value.specs.Storing.{startOf, lenOf};
+ghost use Rattle.value.specs.Storing.{bytesAt};
 
-// Floats by their bits. Bytes are a start and a length in the slice that they were read from or are lent in.
+// Floats by their bits. Bytes are a part of the slice that they were read from or are lent in.
 pub enum Value {
     Null,
     Int(i64),
@@ -16,7 +17,7 @@ pub enum Value {
     Double(u64),
     Year(u16),
     When(Temporal),
-    Bytes { start: usize, len: usize },
+    Bytes(Part),
 }
 
 // The sorts of values that `tag_of` tells; it tells 0 for NULL.
@@ -46,7 +47,7 @@ pub(crate) fn tag_of(value: Value) -> u8
         Value::Double(_) => DOUBLE,
         Value::Year(_) => YEAR,
         Value::When(_) => WHEN,
-        Value::Bytes { start: _, len: _ } => BYTES,
+        Value::Bytes(_) => BYTES,
     }
 }
 
@@ -86,22 +87,12 @@ pub(crate) fn when_in(value: Value) -> Temporal
     }
 }
 
-// ---- where a value's bytes stand; a value that is no bytes has none
-
-pub(crate) fn start_of(value: Value) -> usize
-    ensures { λ r. ⌜ r ≡ startOf value ⌝ }
+// Where a value's bytes stand; a value that is no bytes has none.
+pub(crate) fn bytes_at(value: Value) -> Part
+    ensures { λ r. ⌜ r ≡ bytesAt value ⌝ }
 {
     match value {
-        Value::Bytes { start, len: _ } => start,
-        _ => 0,
-    }
-}
-
-pub(crate) fn len_of(value: Value) -> usize
-    ensures { λ r. ⌜ r ≡ lenOf value ⌝ }
-{
-    match value {
-        Value::Bytes { start: _, len } => len,
-        _ => 0,
+        Value::Bytes(part) => part,
+        _ => Part { start: 0, len: 0 },
     }
 }

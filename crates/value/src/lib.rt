@@ -1,39 +1,41 @@
 // The kinds of columns, and one stored value of a column: read, written, and its size.
 // Ports mysql_common 0.38.2: binlog/value.rs, and of constants.rs the column types and their classes.
-pub mod column;
+mod classes;
+mod column;
 mod datum;
 mod reading;
 mod shape;
-mod signed;
 mod storing;
+mod types;
 
+pub use classes::Dialect;
+pub use classes::has_charset;
+pub use classes::has_sign_bit;
+pub use classes::is_character;
+pub use classes::is_enum_or_set;
 pub use column::Column;
-pub use column::Dialect;
-pub use column::Family;
-pub use column::family_of;
-pub use column::has_charset;
-pub use column::has_sign_bit;
+pub use column::declared_length;
 pub use column::is_accepted;
-pub use column::is_character;
-pub use column::is_enum_or_set;
-pub use column::is_known;
-pub use column::is_numeric;
-pub use column::metadata_bytes;
-pub use column::real_type;
 pub use column::shape_of;
 pub use datum::Value;
 pub use reading::Read;
 use reading::read_shape;
 pub use shape::Shape;
-pub use storing::Size;
 use storing::size_shape;
 use storing::write_shape;
+pub use types::Family;
+pub use types::family_of;
+pub use types::is_known;
+pub use types::is_numeric;
+pub use types::metadata_bytes;
+pub use types::real_type;
+use wire::Size;
 use wire::Written;
 ghost use mathlib.Core.Path.{_≡_};
-ghost use Rattle.wire.specs.Stored.{answerOf, leftOf, writtenOf};
+ghost use Rattle.wire.specs.Stored.{answerOf, leftOf, writtenOf, sizeSaid};
 ghost use Rattle.value.specs.Columns.{shapeOf};
 ghost use Rattle.value.specs.Reading.{readValue, readOf};
-ghost use Rattle.value.specs.Storing.{writeValue, sizeOf, sizeSaid};
+ghost use Rattle.value.specs.Storing.{writeValue, sizeOf};
 
 // ---- a value of a column at a place; `place` is what a refusal tells
 

@@ -1,10 +1,9 @@
 // A stored value read, by its shape (binlog/value.rs: BinlogValue::deserialize).
 use crate::datum::Value;
 use crate::shape::Shape;
-use crate::signed::signed;
-use crate::signed::top;
 use temporal::Kind;
 use temporal::TemporalRead;
+use wire::Part;
 use wire::Refusal;
 use wire::refusal::IMAGE_SHORT;
 ghost use mathlib.Core.Path.{_≡_};
@@ -75,8 +74,7 @@ fn read_signed(k: usize, s: &[u8], at: usize, place: usize) -> Read
     }
     let next = at + k;
     let x = wire::read_le(s, at, k);
-    let most = top(k);
-    let value = Value::Int(signed(x, most));
+    let value = Value::Int(wire::signed_of(k, x));
     Read::Got { value, next }
 }
 
@@ -135,7 +133,7 @@ fn read_fixed(n: usize, s: &[u8], at: usize, place: usize) -> Read
         return short(place);
     }
     let next = at + n;
-    let value = Value::Bytes { start: at, len: n };
+    let value = Value::Bytes(Part { start: at, len: n });
     Read::Got { value, next }
 }
 
@@ -152,6 +150,6 @@ fn read_counted(k: usize, s: &[u8], at: usize, place: usize) -> Read
         return short(place);
     }
     let next = start + len;
-    let value = Value::Bytes { start, len };
+    let value = Value::Bytes(Part { start, len });
     Read::Got { value, next }
 }

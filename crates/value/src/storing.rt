@@ -7,43 +7,35 @@ use crate::datum::UINT;
 use crate::datum::Value;
 use crate::datum::WHEN;
 use crate::datum::YEAR;
+use crate::datum::bytes_at;
 use crate::datum::int_in;
-use crate::datum::len_of;
 use crate::datum::number_in;
-use crate::datum::start_of;
 use crate::datum::tag_of;
 use crate::datum::when_in;
 use crate::shape::Shape;
 use crate::shape::is_taken;
 use crate::shape::refusal_of;
-use crate::signed::in_halves;
-use crate::signed::top;
-use crate::signed::twos;
 use temporal::Kind;
-use wire::Refusal;
+use wire::Size;
 use wire::Written;
 use wire::refusal::NO_ROOM;
 use wire::refusal::NOT_TAKEN;
+use wire::top_of;
 ghost use mathlib.Core.Path.{_≡_};
 ghost use mathlib.Core.Bool.{true, _&&_};
 ghost use mathlib.Core.List.{[], _++_};
-ghost use Prim.Native.Nat.{_+_, _≤_, _<_};
-ghost use lib.ListN.{length, take, drop};
+ghost use Prim.Native.Nat.{_+_, _^_, _≤_, _<_, min};
+ghost use lib.ListN.{length};
 ghost use lib.Dec.{leb, eqb};
 ghost use Rattle.wire.specs.Number.{leBytes};
+ghost use Rattle.wire.specs.Parts.{partOf};
 ghost use Rattle.wire.specs.Signed.{inHalves};
-ghost use Rattle.wire.specs.Stored.{store, answerOf, leftOf, writtenOf};
+ghost use Rattle.wire.specs.Stored.{store, answerOf, leftOf, writtenOf, sizeSaid};
 ghost use Rattle.temporal.specs.Domains.{domain as timedDomain};
-ghost use Rattle.value.specs.Data.{tag, intIn, numberIn, whenIn};
+ghost use Rattle.value.specs.Data.{tag, isInt, isWhen, isBytes, intIn, numberIn, whenIn};
 ghost use Rattle.value.specs.Shapes.{Sized, bytesOf};
 ghost use Rattle.value.specs.Reading.{datumOf};
-ghost use Rattle.value.specs.Storing.{startOf, lenOf, isLent, isIn, writeValue, sizeOf, sizeSaid};
-
-// How many bytes a value takes, or why a column does not take it.
-pub enum Size {
-    Takes(usize),
-    Refused(Refusal),
-}
+ghost use Rattle.value.specs.Storing.{bytesAt, isLent, isIn, writeValue, sizeOf};
 
 // Whether a value is a number of a sort, from least to most.
 fn is_number(value: Value, sort: u8, least: u64, most: u64) -> bool
@@ -59,24 +51,24 @@ fn is_number(value: Value, sort: u8, least: u64, most: u64) -> bool
     n <= most
 }
 
-// Whether a value is a signed number of a width whose greatest number is most.
-fn is_signed(value: Value, most: u64) -> bool
-    ensures { λ r. ⌜ r ≡ (eqb (tag (datumOf [] value)) 1 && inHalves (most + 1) (intIn (datumOf [] value))) ⌝ }
+// Whether a value is a signed number of k bytes.
+fn is_signed(value: Value, k: usize) -> bool
+    ensures { λ r. ⌜ r ≡ (isInt (datumOf [] value) && inHalves (256 ^ min k 8) (intIn (datumOf [] value))) ⌝ }
 {
     if tag_of(value) != INT {
         return false;
     }
-    in_halves(int_in(value), most)
+    wire::in_halves(k, int_in(value))
 }
 
 // Whether a value is bytes, from least to most of them.
 fn is_bytes(value: Value, least: u64, most: u64) -> bool
-    ensures { λ r. ⌜ r ≡ (eqb (tag (datumOf [] value)) 7 && (leb least (lenOf value) && leb (lenOf value) most)) ⌝ }
+    ensures { λ r. ⌜ r ≡ (isBytes (datumOf [] value) && (leb least (bytesAt value .len) && leb (bytesAt value .len) most)) ⌝ }
 {
     if tag_of(value) != BYTES {
         return false;
     }
-    let n = len_of(value) as u64;
+    let n = bytes_at(value).len as u64;
     if n < least {
         return false;
     }
@@ -85,7 +77,7 @@ fn is_bytes(value: Value, least: u64, most: u64) -> bool
 
 // Whether a value is a temporal that a column of the kind holds.
 fn is_timed(value: Value, kind: Kind) -> bool
-    ensures { λ r. ⌜ r ≡ (eqb (tag (datumOf [] value)) 6 && timedDomain kind (whenIn (datumOf [] value))) ⌝ }
+    ensures { λ r. ⌜ r ≡ (isWhen (datumOf [] value) && timedDomain kind (whenIn (datumOf [] value))) ⌝ }
 {
     if tag_of(value) != WHEN {
         return false;
@@ -97,7 +89,8 @@ fn is_timed(value: Value, kind: Kind) -> bool
 fn is_lent(value: Value, lent: &[u8]) -> bool
     ensures { λ r. ⌜ r ≡ isLent (now (lent .entry)) value ⌝ }
 {
-    wire::has_room(lent.len(), start_of(value), len_of(value))
+    let part = bytes_at(value);
+    wire::has_room(lent.len(), part.start, part.len)
 }
 
 // Whether a column of the shape takes the value.
@@ -109,14 +102,14 @@ pub(crate) fn is_in(shape: Shape, value: Value, lent: &[u8]) -> bool
         return false;
     }
     match shape {
-        Shape::Unsigned(k) => is_number(value, UINT, 0, top(k)),
-        Shape::Signed(k) => is_signed(value, top(k)),
-        Shape::FloatBits => is_number(value, FLOAT, 0, top(4)),
-        Shape::DoubleBits => is_number(value, DOUBLE, 0, top(8)),
+        Shape::Unsigned(k) => is_number(value, UINT, 0, top_of(k)),
+        Shape::Signed(k) => is_signed(value, k),
+        Shape::FloatBits => is_number(value, FLOAT, 0, top_of(4)),
+        Shape::DoubleBits => is_number(value, DOUBLE, 0, top_of(8)),
         Shape::YearByte => is_number(value, YEAR, 1900, 2155),
         Shape::Timed(kind) => is_timed(value, kind),
         Shape::Fixed(n) => is_bytes(value, n as u64, n as u64),
-        Shape::Counted(k) => is_bytes(value, 0, top(k)),
+        Shape::Counted(k) => is_bytes(value, 0, top_of(k)),
         Shape::NotTaken(_) => false,
     }
 }
@@ -134,7 +127,7 @@ pub(crate) fn size_in(shape: Shape, value: Value, lent: &[u8]) -> usize
         Shape::YearByte => 1,
         Shape::Timed(kind) => temporal::temporal_size(kind),
         Shape::Fixed(n) => n,
-        Shape::Counted(k) => k + len_of(value),
+        Shape::Counted(k) => k + bytes_at(value).len,
         // Not reached: such a shape takes no value.
         Shape::NotTaken(_) => 0,
     }
@@ -158,12 +151,10 @@ fn write_counted(k: usize, bytes: &[u8], buf: &mut [u8], at: usize) -> Written
 // Writes the bytes of a value behind a length of k bytes.
 fn write_part(k: usize, value: Value, lent: &[u8], buf: &mut [u8], at: usize) -> Written
     requires { ⌜ (k ≤ 4) × (isLent (now lent) value ≡ true) ⌝ }
-    ensures { λ r. ⌜ writtenOf r ≡ answerOf (store (now (buf .entry)) at (leBytes k (lenOf value) ++ take (lenOf value) (drop (startOf value) (now (lent .entry))))) ⌝ }
-    ensures { λ _. ⌜ now (buf .exit) ≡ leftOf (now (buf .entry)) (store (now (buf .entry)) at (leBytes k (lenOf value) ++ take (lenOf value) (drop (startOf value) (now (lent .entry))))) ⌝ }
+    ensures { λ r. ⌜ writtenOf r ≡ answerOf (store (now (buf .entry)) at (leBytes k (bytesAt value .len) ++ partOf (now (lent .entry)) (bytesAt value))) ⌝ }
+    ensures { λ _. ⌜ now (buf .exit) ≡ leftOf (now (buf .entry)) (store (now (buf .entry)) at (leBytes k (bytesAt value .len) ++ partOf (now (lent .entry)) (bytesAt value))) ⌝ }
 {
-    let start = start_of(value);
-    let end = start + len_of(value);
-    write_counted(k, &lent[start..end], buf, at)
+    write_counted(k, wire::part_of(lent, bytes_at(value)), buf, at)
 }
 
 // Writes a value that a column of the shape takes.
@@ -180,7 +171,7 @@ pub(crate) fn store_shape(
 {
     match shape {
         Shape::Unsigned(k) => wire::write_le(buf, at, k, number_in(value)),
-        Shape::Signed(k) => wire::write_le(buf, at, k, twos(int_in(value), top(k))),
+        Shape::Signed(k) => wire::write_le(buf, at, k, wire::twos_of(k, int_in(value))),
         Shape::FloatBits => wire::write_le(buf, at, 4, number_in(value)),
         Shape::DoubleBits => wire::write_le(buf, at, 8, number_in(value)),
         Shape::YearByte => wire::write_le(buf, at, 1, number_in(value) - 1900),

@@ -31,7 +31,7 @@ least (When (Since s)) = omega arith
 least (When (On d)) = omega arith
 least (When (At m)) = omega arith
 least (When (Lasts t)) = omega arith
-least (Bytes start len) = omega arith
+least (Bytes p) = omega arith
 
 most : (v : Value) → kindOf v ≤ 11
 unfolding kindOf
@@ -45,7 +45,7 @@ most (When (Since s)) = omega arith
 most (When (On d)) = omega arith
 most (When (At m)) = omega arith
 most (When (Lasts t)) = omega arith
-most (Bytes start len) = omega arith
+most (Bytes p) = omega arith
 
 -- ---- the parts of a value make it
 sign-back : (b : Bool) → eqb (cond b 1 0) 1 ≡ b
@@ -67,7 +67,7 @@ makes (When (Since s)) rest h = refl
 makes (When (On d)) rest h = refl
 makes (When (At m)) rest h = refl
 makes (When (Lasts t)) rest h = ap (λ (b : Bool). When (Lasts (signed t b))) (sign-back (t .negative))
-makes (Bytes start len) rest h = refl
+makes (Bytes p) rest h = refl
 
 -- ---- a value that the machine can hold is made again of its kind and its parts, whatever stands behind them
 pub value-back : (v : Value) (rest : List ℕ) → isHeld v ≡ true → valueOf (kindOf v) (partsOf v ++ rest) ≡ ok v
@@ -90,4 +90,4 @@ seven (When (Since s)) = (_, refl)
 seven (When (On d)) = (_, refl)
 seven (When (At m)) = (_, refl)
 seven (When (Lasts t)) = (_, refl)
-seven (Bytes start len) = (_, refl)
+seven (Bytes p) = (_, refl)

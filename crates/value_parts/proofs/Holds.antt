@@ -7,6 +7,7 @@ use borrow.Author.Tests.{le-leb, lt-ltb}
 use lib.IntN.{ℤ, pos, negsuc}
 use mir.Syntax.{w64}
 use mir.Val.{SFits}
+use Rattle.wire.specs.declared.part.Part.{Part}
 use Rattle.wire.specs.Signed.{inHalves, twosOf}
 use Rattle.wire.proofs.Signs.{signs-back}
 use Rattle.temporal.specs.declared.parts.Stamp.{Stamp}
@@ -55,9 +56,9 @@ pub held-year : (n : ℕ) → n ≤ topOfBits 16 → isHeld (Year n) ≡ true
 unfolding isHeld inHalves intIn datumOf topsOf kindOf partsOf fit
 held-year n h = rw (le-leb n (topOfBits 16) h)
 
-pub held-bytes : (start len : ℕ) → start ≤ topOfBits 64 → len ≤ topOfBits 64 → isHeld (Bytes start len) ≡ true
+pub held-bytes : (p : Part) → p .start ≤ topOfBits 64 → p .len ≤ topOfBits 64 → isHeld (Bytes p) ≡ true
 unfolding isHeld inHalves intIn datumOf topsOf kindOf partsOf fit
-held-bytes start len a b = rw (le-leb start (topOfBits 64) a, le-leb len (topOfBits 64) b)
+held-bytes p a b = rw (le-leb (p .start) (topOfBits 64) a, le-leb (p .len) (topOfBits 64) b)
 
 pub held-stamp : (s : Stamp) → s .seconds ≤ topOfBits 32 → s .micros ≤ topOfBits 32 → isHeld (When (Since s)) ≡ true
 unfolding isHeld inHalves intIn datumOf topsOf kindOf partsOf fit

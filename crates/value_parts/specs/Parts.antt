@@ -5,6 +5,7 @@ use mathlib.Core.List.{List, [], _∷_}
 use lib.ListN.{getD}
 use lib.Dec.{leb, eqb}
 use Rattle.wire.specs.Outcome.{Outcome, ok, refused, refuse}
+use Rattle.wire.specs.Parts.{part}
 use Rattle.wire.specs.Signed.{signedOf, twosOf, inHalves}
 use Rattle.temporal.specs.declared.parts.Stamp.{Stamp}
 use Rattle.temporal.specs.declared.parts.Date.{Date}
@@ -30,7 +31,7 @@ kindOf (Year y) = 7
 kindOf (When (On d)) = 8
 kindOf (When (At m)) = 9
 kindOf (When (Lasts t)) = 10
-kindOf (Bytes start len) = 11
+kindOf (Bytes p) = 11
 
 -- a signed integer is its two's complement in 64 bits, and a sign 1 where it is negative
 unfoldable pub partsOf : Value → List ℕ
@@ -45,7 +46,7 @@ partsOf (Year y) = y ∷ []
 partsOf (When (On d)) = d .year ∷ (d .month ∷ (d .day ∷ []))
 partsOf (When (At m)) = m .year ∷ (m .month ∷ (m .day ∷ (m .hour ∷ (m .minute ∷ (m .second ∷ (m .micros ∷ []))))))
 partsOf (When (Lasts t)) = cond (t .negative) 1 0 ∷ (t .hours ∷ (t .minutes ∷ (t .seconds ∷ (t .micros ∷ []))))
-partsOf (Bytes start len) = start ∷ (len ∷ [])
+partsOf (Bytes p) = p .start ∷ (p .len ∷ [])
 
 -- the first k of some parts, 0 for each that is not there
 unfoldable pub padded : ℕ → List ℕ → List ℕ
@@ -122,7 +123,7 @@ made kind ps =
     (cond (eqb kind 8) (When (On (dateOf ps)))
     (cond (eqb kind 9) (When (At (momentOf ps)))
     (cond (eqb kind 10) (When (Lasts (timeOf ps)))
-    (cond (eqb kind 11) (Bytes (getD ps 0 0) (getD ps 1 0))
+    (cond (eqb kind 11) (Bytes (part (getD ps 0 0) (getD ps 1 0)))
     Null)))))))))
 
 -- 13 at 0 for a kind that there is not, for fewer parts than the kind has, and for a part that is too great

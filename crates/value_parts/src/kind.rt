@@ -51,6 +51,6 @@ pub fn kind_of(value: Value) -> u64
         Value::Double(_) => DOUBLE,
         Value::Year(_) => YEAR,
         Value::When(t) => temporal_kind(t),
-        Value::Bytes { start: _, len: _ } => BYTES,
+        Value::Bytes(_) => BYTES,
     }
 }

@@ -3,7 +3,6 @@
 pub mod kind;
 mod made;
 mod parts;
-mod twos;
 
 pub use kind::kind_of;
 pub use made::Made;

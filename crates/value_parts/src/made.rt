@@ -10,13 +10,13 @@ use crate::kind::SINCE;
 use crate::kind::TIME;
 use crate::kind::UINT;
 use crate::kind::YEAR;
-use crate::twos::signed;
 use temporal::Date;
 use temporal::Moment;
 use temporal::Stamp;
 use temporal::Temporal;
 use temporal::Time;
 use value::Value;
+use wire::Part;
 use wire::Refusal;
 use wire::refusal::NOT_TAKEN;
 ghost use mathlib.Core.Path.{_≡_};
@@ -166,7 +166,7 @@ fn make_value(kind: u64, parts: &[u64]) -> Value
     ensures { λ r. ⌜ r ≡ made kind (now (parts .entry)) ⌝ }
 {
     match kind {
-        INT => Value::Int(signed(part(parts, 0))),
+        INT => Value::Int(wire::signed_of(8, part(parts, 0))),
         UINT => Value::Uint(part(parts, 0)),
         FLOAT => Value::Float(part_32(parts, 0)),
         DOUBLE => Value::Double(part(parts, 0)),
@@ -175,10 +175,10 @@ fn make_value(kind: u64, parts: &[u64]) -> Value
         DATE => Value::When(Temporal::On(date_of(parts))),
         MOMENT => Value::When(Temporal::At(moment_of(parts))),
         TIME => Value::When(Temporal::Lasts(time_of(parts))),
-        BYTES => Value::Bytes {
+        BYTES => Value::Bytes(Part {
             start: part(parts, 0) as usize,
             len: part(parts, 1) as usize,
-        },
+        }),
         _ => Value::Null,
     }
 }

@@ -1,5 +1,4 @@
 // The parts of a value, each a number.
-use crate::twos::twos;
 use temporal::Temporal;
 use value::Value;
 ghost use mathlib.Core.Path.{_≡_};
@@ -50,12 +49,12 @@ pub fn parts_of(value: Value) -> [u64; 7]
 {
     match value {
         Value::Null => [0, 0, 0, 0, 0, 0, 0],
-        Value::Int(z) => one_part(twos(z)),
+        Value::Int(z) => one_part(wire::twos_of(8, z)),
         Value::Uint(n) => one_part(n),
         Value::Float(bits) => one_part(bits as u64),
         Value::Double(bits) => one_part(bits),
         Value::Year(y) => one_part(y as u64),
         Value::When(t) => temporal_parts(t),
-        Value::Bytes { start, len } => [start as u64, len as u64, 0, 0, 0, 0, 0],
+        Value::Bytes(part) => [part.start as u64, part.len as u64, 0, 0, 0, 0, 0],
     }
 }

@@ -1,5 +1,5 @@
 -- Binary digits of a number: the one that is written is read back, and all others are kept. Assumes nothing.
-use Prim.Native.Nat.{ℕ, zero, suc, _+_, _*_, _/_, _%_, _^_, _≤_, _<_}
+use Prim.Native.Nat.{ℕ, zero, suc, _+_, _-_, _*_, _/_, _%_, _^_, _≤_, _<_}
 use mathlib.Core.Path.{_≡_, refl, sym, ap, _∙_}
 use mathlib.Core.Bool.{Bool, true, false, cond}
 use mathlib.Core.List.{List, [], _∷_}
@@ -12,7 +12,7 @@ use lib.ListN.{length, getD}
 use lib.Seq.{getD-set-same, getD-set-other}
 use lib.Dec.{eqb}
 use lib.Pow.{pow-pos}
-use Rattle.wire.specs.Bits.{digit, withDigit, lsb0, msb0, bitLsb0, bitMsb0}
+use Rattle.wire.specs.Bits.{digit, lsb0, bitLsb0}
 use Rattle.wire.specs.Stored.{stored}
 use Rattle.wire.proofs.Stores.{stored-one}
 
@@ -50,20 +50,12 @@ digit-least x j e =
     let q : 1 * 2 ^ j ≤ x = le-div-iff-mul-le (pow-pos j) .0 (omega arith) in
     omega arith
 
--- a digit that is not there can be added within the width
-pub digit-room : (n x j : ℕ) → j < n → x < 2 ^ n → digit x j ≡ false → x + 2 ^ j < 2 ^ n
-digit-room zero x j h l e = absurd (omega arith)
-digit-room (suc n) x zero h l e =
-    let p : 2 ^ suc n ≡ 2 ^ n * 2 = pow-suc 2 n in
-    let o : x % 2 ≡ 1 → ⊥ = eqb-false (x % 2) 1 (sym (low-digit x) ∙ e) in
-    omega arith
-digit-room (suc n) x (suc j) h l e =
-    let p : 2 ^ suc n ≡ 2 ^ n * 2 = pow-suc 2 n in
-    let q : 2 ^ suc j ≡ 2 ^ j * 2 = pow-suc 2 j in
-    let r = digit-room n (x / 2) j (omega arith) (omega arith) (sym (half-digit x j) ∙ e) in
-    omega arith
-
 -- ---- the number with one digit written: its lowest digit, and its half
+-- x with its binary digit j made 1 or 0
+unfoldable pub withDigit : ℕ → ℕ → Bool → ℕ
+unfolding digit
+withDigit x j on = cond (digit x j) (cond on x (x - 2 ^ j)) (cond on (x + 2 ^ j) x)
+
 abbrev number : Bool → ℕ
 number on = cond on 1 0
 
@@ -121,7 +113,7 @@ digit-kept x (suc j) (suc k) on n =
     rw (half-with x j on (digit (x / 2) j) refl)
     (half-digit _ k ∙ rw h (digit-kept (x / 2) j k on (λ e. n (ap suc e))) ∙ sym (half-digit x k))
 
--- ---- bits of a buffer, in either order: digit q of the byte p, after digit j of the byte `at` was written
+-- ---- bits of a list of bytes: digit q of the byte p, after digit j of the byte `at` was written
 module _ (d : List ℕ) (at j : ℕ) (on : Bool) (h : at < length d) where
   abbrev written : List ℕ
   written = stored d at (withDigit (getD d at 0) j on ∷ [])
@@ -138,22 +130,12 @@ module _ (d : List ℕ) (at j : ℕ) (on : Bool) (h : at < length d) where
       (λ e. rw (e, same-byte) (digit-kept (getD d at 0) j q on (n e)))
       (λ e. rw (other-byte p e))
 
--- the bit that a writer of bits wrote is read back, in either order
+-- the bit that was written is read back
 pub lsb0-written : (d : List ℕ) (i : ℕ) (on : Bool) → i / 8 < length d → bitLsb0 (stored d (i / 8) (withDigit (getD d (i / 8) 0) (lsb0 i) on ∷ [])) i ≡ on
 unfolding bitLsb0
 lsb0-written d i on h = rw (same-byte d (i / 8) (lsb0 i) on h) (digit-written (getD d (i / 8) 0) (lsb0 i) on)
 
--- the highest first
-pub msb0-written : (d : List ℕ) (i : ℕ) (on : Bool) → i / 8 < length d → bitMsb0 (stored d (i / 8) (withDigit (getD d (i / 8) 0) (msb0 i) on ∷ [])) i ≡ on
-unfolding bitMsb0
-msb0-written d i on h = rw (same-byte d (i / 8) (msb0 i) on h) (digit-written (getD d (i / 8) 0) (msb0 i) on)
-
--- and every other bit is what it was, in either order
+-- and every other bit is what it was
 pub lsb0-kept : (d : List ℕ) (i k : ℕ) (on : Bool) → i / 8 < length d → (k ≡ i → ⊥) → bitLsb0 (stored d (i / 8) (withDigit (getD d (i / 8) 0) (lsb0 i) on ∷ [])) k ≡ bitLsb0 d k
 unfolding bitLsb0
 lsb0-kept d i k on h n = kept d (i / 8) (lsb0 i) on h (k / 8) (lsb0 k) (λ e f. n (omega arith))
-
--- the highest first
-pub msb0-kept : (d : List ℕ) (i k : ℕ) (on : Bool) → i / 8 < length d → (k ≡ i → ⊥) → bitMsb0 (stored d (i / 8) (withDigit (getD d (i / 8) 0) (msb0 i) on ∷ [])) k ≡ bitMsb0 d k
-unfolding bitMsb0
-msb0-kept d i k on h n = kept d (i / 8) (msb0 i) on h (k / 8) (msb0 k) (λ e f. n (omega arith))

@@ -1,11 +1,16 @@
 -- No two answers look the same on paper, so any two results that a contract allows are equal. Assumes nothing.
 use mathlib.Core.Path.{_≡_, refl}
-use Rattle.wire.specs.Stored.{writtenOf}
+use Rattle.wire.specs.Stored.{writtenOf, sizeSaid}
+use Rattle.wire.specs.Parts.{reachOf}
 use Rattle.wire.specs.Packed.{packedOf}
 use Rattle.wire.specs.declared.store.Written.{Written}
 use Rattle.wire.specs.declared.store.Written.the-variants.{Done, Refused}
 use Rattle.wire.specs.declared.packed.Packed.{Packed}
 use Rattle.wire.specs.declared.packed.Packed.the-variants.{Value, Refused as Refused′}
+use Rattle.wire.specs.declared.store.Size.{Size}
+use Rattle.wire.specs.declared.store.Size.the-variants.{Takes, Refused as Refused₂}
+use Rattle.wire.specs.declared.part.Reach.{Reach}
+use Rattle.wire.specs.declared.part.Reach.the-variants.{At, Refused as Refused₃}
 use Rattle.wire.proofs.Outcomes.{back-read, same-by-back}
 
 written-way : (a : Written) → back-read Done Refused (writtenOf a) ≡ a
@@ -23,3 +28,19 @@ packed-way (Refused′ r) = refl
 -- of packed integers
 pub same-packed : (a b : Packed) → packedOf a ≡ packedOf b → a ≡ b
 same-packed = same-by-back packedOf (back-read (λ x. Value (x .0) (x .1)) Refused′) packed-way
+
+size-way : (a : Size) → back-read Takes Refused₂ (sizeSaid a) ≡ a
+size-way (Takes n) = refl
+size-way (Refused₂ r) = refl
+
+-- of calls for a size
+pub same-size : (a b : Size) → sizeSaid a ≡ sizeSaid b → a ≡ b
+same-size = same-by-back sizeSaid (back-read Takes Refused₂) size-way
+
+reach-way : (a : Reach) → back-read At Refused₃ (reachOf a) ≡ a
+reach-way (At next) = refl
+reach-way (Refused₃ r) = refl
+
+-- of `within`
+pub same-reach : (a b : Reach) → reachOf a ≡ reachOf b → a ≡ b
+same-reach = same-by-back reachOf (back-read At Refused₃) reach-way

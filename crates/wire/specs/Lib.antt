@@ -4,4 +4,5 @@ pub mod Number
 pub mod Signed
 pub mod Stored
 pub mod Bits
+pub mod Parts
 pub mod Packed

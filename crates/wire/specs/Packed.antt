@@ -1,14 +1,20 @@
 -- Packed integers (document 01, port order 1): a first byte 0..250 is the value; 252, 253, 254 precede 2, 3, 8 little-endian bytes; 251 and 255
--- are refused. Longer forms than needed are read; the shortest is written. Assumes nothing.
+-- are refused. Longer forms than needed are read; the shortest is written. Beside them the integers of a width, which are read alike. Assumes nothing.
 use Prim.Native.Nat.{ℕ, _+_}
 use mathlib.Core.List.{List, [], _∷_}
 use mathlib.Core.Bool.{cond}
 use lib.ListN.{length, getD, take, drop}
 use lib.Dec.{ltb, leb, eqb}
-use Rattle.wire.specs.Outcome.{Outcome, ok, refused, refuse}
+use Rattle.wire.specs.Outcome.{Outcome, ok, refused, refuse, after}
 use Rattle.wire.specs.Number.{leValue, leBytes}
+use Rattle.wire.specs.Parts.{within}
 use Rattle.wire.specs.declared.packed.Packed.{Packed}
 use Rattle.wire.specs.declared.packed.Packed.the-variants.{Value, Refused}
+
+-- the number of the k bytes at `at` of s, the least significant first, and the place after them
+unfoldable pub readFixed : ℕ → List ℕ → ℕ → Outcome (ℕ × ℕ)
+unfolding within leValue
+readFixed k s at = after (within s at k at) (λ next. ok (leValue (take k (drop at s)), next))
 
 -- the k bytes after the first, which is at `at`, are the value: the value, and the place after it
 unfoldable pub longForm : List ℕ → ℕ → ℕ → Outcome (ℕ × ℕ)

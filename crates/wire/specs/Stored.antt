@@ -7,6 +7,8 @@ use lib.Dec.{leb}
 use Rattle.wire.specs.Outcome.{Outcome, ok, refused, refuse}
 use Rattle.wire.specs.declared.store.Written.{Written}
 use Rattle.wire.specs.declared.store.Written.the-variants.{Done, Refused}
+use Rattle.wire.specs.declared.store.Size.{Size}
+use Rattle.wire.specs.declared.store.Size.the-variants.{Takes, Refused as Refused′}
 
 -- the buffer with bs in it from `at` on
 unfoldable pub stored : List ℕ → ℕ → List ℕ → List ℕ
@@ -30,3 +32,8 @@ leftOf buf (refused w) = buf
 abbrev pub writtenOf : Written → Outcome ℕ
 writtenOf (Done next) = ok next
 writtenOf (Refused r) = refused r
+
+-- what the answer of a call for a size says
+abbrev pub sizeSaid : Size → Outcome ℕ
+sizeSaid (Takes n) = ok n
+sizeSaid (Refused′ r) = refused r

@@ -1,7 +1,11 @@
-// Packed ("length-encoded") integers (io.rs: read_lenenc_int, put_lenenc_int; misc/mod.rs: lenenc_int_len).
+// Packed ("length-encoded") integers (io.rs: read_lenenc_int, put_lenenc_int; misc/mod.rs: lenenc_int_len), and those of a width, whose readers
+// answer alike.
 use crate::fixed::le;
+use crate::fixed::least;
 use crate::fixed::put_le;
 use crate::fixed::wide;
+use crate::part::Reach;
+use crate::part::within;
 use crate::refusal::NO_ROOM;
 use crate::refusal::NOT_PACKED;
 use crate::refusal::Refusal;
@@ -11,16 +15,30 @@ use crate::store::Written;
 use crate::store::has_room;
 ghost use mathlib.Core.Path.{_≡_};
 ghost use mathlib.Core.List.{_∷_};
-ghost use Prim.Native.Nat.{_+_, _≤_, _<_};
+ghost use Prim.Native.Nat.{_+_, _≤_, _<_, min};
 ghost use lib.ListN.{length};
 ghost use Rattle.wire.specs.Number.{leBytes};
-ghost use Rattle.wire.specs.Packed.{readPacked, longForm, packedBytes, packedOf};
+ghost use Rattle.wire.specs.Packed.{readFixed, readPacked, longForm, packedBytes, packedOf};
 ghost use Rattle.wire.specs.Stored.{store, answerOf, leftOf, writtenOf};
 
 // The value and the place after it, or why there is none.
 pub enum Packed {
     Value { value: u64, next: usize },
     Refused(Refusal),
+}
+
+// The number of the k bytes at `at`, the least significant first: of all of them, or of none. A width over 8 is taken as 8.
+pub fn read_fixed(s: &[u8], at: usize, k: usize) -> Packed
+    ensures { λ r. ⌜ packedOf r ≡ readFixed (min k 8) (now (s .entry)) at ⌝ }
+{
+    let w = least(k, 8);
+    match within(s, at, w, at) {
+        Reach::At(next) => Packed::Value {
+            value: le(s, at, w),
+            next,
+        },
+        Reach::Refused(r) => Packed::Refused(r),
+    }
 }
 
 // The packed integer at `at`.

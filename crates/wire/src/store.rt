@@ -14,6 +14,12 @@ pub enum Written {
     Refused(Refusal),
 }
 
+// How many bytes something takes, or why it is not taken: what every call for a size answers.
+pub enum Size {
+    Takes(usize),
+    Refused(Refusal),
+}
+
 // Whether n bytes from at on lie within len bytes. The sum of at and n may be too large to be made.
 pub fn has_room(len: usize, at: usize, n: usize) -> bool
     ensures { λ r. ⌜ r ≡ leb (at + n) len ⌝ }

@@ -2,8 +2,8 @@
 use mathlib.Core.Path.{sym, ap, _∙_}
 use native.Mathlib.Omega.{arith}
 use Rattle.wire.specs.Stored.{stored}
-use Rattle.value.specs.declared.column.Dialect.{Dialect}
-use Rattle.table_map.specs.declared.part.Part.{Part}
+use Rattle.wire.specs.declared.part.Part.{Part}
+use Rattle.value.specs.declared.classes.Dialect.{Dialect}
 use Rattle.table_map.specs.Events.{readEvent}
 use Rattle.map_check.specs.Names.{namesPart}
 use Rattle.feed_abi.specs.Calls.{partNumbers, dialectOf, askedOf, feedNames}

@@ -9,7 +9,6 @@ use Rattle.image.proofs.put.start.Statement.{statement}
 use Rattle.image.proofs.put.start.Tie as tie
 use Rattle.image.proofs.put.start.Reads as reads
 use Rattle.image.proofs.put.start.Lts as lts
-use Rattle.image.proofs.presence.count_bits.Reads as count-bits-reads
 use Rattle.image.proofs.put.put_nulls.Reads as put-nulls-reads
 use Rattle.image.proofs.put.read_head_nulls.Reads as read-head-nulls-reads
 use Rattle.wire.proofs.refuse.Reads as refuse-reads
@@ -35,20 +34,17 @@ returns-2 c = let a = c .before .before .before .before .before .before .before 
     let q = sym (c .before .before .before .before .before .read-head-nulls .ensures) ∙ ap headTold (c .before .before .before .head .given .1) in
     put-refused (a .buf .now) (start-full (a .profile .now) (a .presence .now) (a .nulls .now) (a .buf .now) q (c .before .if1 .taken) ∙ ap refused (sym (c .refuse .ensures)))
 
-count-bits-requires : tie.Need-count-bits-requires
-count-bits-requires c κs = search needs
-
 put-nulls-requires : tie.Need-put-nulls-requires
-put-nulls-requires c κs = let a = c .before .before .before .before .before .before .before .before .before .before .before .args in
-    let q = sym (c .before .before .before .before .before .before .read-head-nulls .ensures) ∙ ap headTold (c .before .before .before .before .head .given .1) in
-    (nulls-size (a .profile .now) (a .presence .now) (a .nulls .now) (a .buf .now) q _ (c .count-bits .ensures), nulls-fit (a .profile .now) (a .presence .now) (a .nulls .now) (a .buf .now) q (c .before .before .if1 .left))
+put-nulls-requires c κs = let a = c .before .before .before .before .before .before .before .before .before .before .args in
+    let q = sym (c .before .before .before .before .before .read-head-nulls .ensures) ∙ ap headTold (c .before .before .before .head .given .1) in
+    (nulls-size (a .profile .now) (a .presence .now) (a .nulls .now) (a .buf .now) q, nulls-fit (a .profile .now) (a .presence .now) (a .nulls .now) (a .buf .now) q (c .before .if1 .left))
 
 same-length : tie.Need-same-length
 same-length c = search needs
 
 returns-3 : tie.Need-returns-3
-returns-3 c = let a = c .before .before .before .before .before .before .before .before .before .before .before .before .before .before .args in
-    start-done (a .profile .now) (a .presence .now) (a .nulls .now) (a .buf .now) (sym (c .before .before .before .before .before .before .before .before .before .read-head-nulls .ensures) ∙ ap headTold (c .before .before .before .before .before .before .before .head .given .1)) _ _ (c .before .before .before .count-bits .ensures) (c .before .before .put-nulls .ensures) (c .before .before .before .before .before .if1 .left)
+returns-3 c = let a = c .before .before .before .before .before .before .before .before .before .before .before .before .before .args in
+    start-done (a .profile .now) (a .presence .now) (a .nulls .now) (a .buf .now) (sym (c .before .before .before .before .before .before .before .before .read-head-nulls .ensures) ∙ ap headTold (c .before .before .before .before .before .before .head .given .1)) _ (c .before .before .put-nulls .ensures) (c .before .before .before .before .if1 .left)
 
 pub start-spec : {M : Type 1} → statement M
 start-spec =
@@ -60,7 +56,6 @@ start-spec =
     returns
     refuse-requires
     returns-2
-    count-bits-requires
     put-nulls-requires
     same-length
     returns-3)

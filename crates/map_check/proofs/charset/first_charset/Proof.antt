@@ -7,7 +7,7 @@ use Rattle.map_check.proofs.charset.first_charset.Tie as tie
 use Rattle.map_check.proofs.charset.first_charset.Reads as reads
 use Rattle.map_check.proofs.charset.first_charset.Lts as lts
 use Rattle.map_check.proofs.charset.behind_default.Reads as behind-default-reads
-use Rattle.map_check.proofs.field.value_in.Reads as value-in-reads
+use Rattle.map_check.proofs.found.value_in.Reads as value-in-reads
 
 enum-told : tie.Need-enum-told
 enum-told c = search needs

@@ -8,7 +8,7 @@ use Rattle.map_check.proofs.charset.next_charset.Reads as reads
 use Rattle.map_check.proofs.charset.next_charset.Lts as lts
 use Rattle.map_check.proofs.charset.next_listed.Reads as next-listed-reads
 use Rattle.map_check.proofs.charset.next_paired.Reads as next-paired-reads
-use Rattle.map_check.proofs.field.value_in.Reads as value-in-reads
+use Rattle.map_check.proofs.found.value_in.Reads as value-in-reads
 
 enum-told : tie.Need-enum-told
 enum-told c = search needs

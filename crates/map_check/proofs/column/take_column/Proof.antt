@@ -11,7 +11,7 @@ use Rattle.map_check.proofs.column.take_column.Statement.{statement}
 use Rattle.map_check.proofs.column.take_column.Tie as tie
 use Rattle.map_check.proofs.column.take_column.Reads as reads
 use Rattle.map_check.proofs.column.take_column.Lts as lts
-use Rattle.map_check.proofs.column.declare.Reads as declare-reads
+use Rattle.map_check.proofs.declare.declare.Reads as declare-reads
 use Rattle.map_check.proofs.column.is_accepted.Reads as is-accepted-reads
 use Rattle.value.proofs.is_known.Reads as is-known-reads
 use Rattle.value.proofs.metadata_bytes.Reads as metadata-bytes-reads

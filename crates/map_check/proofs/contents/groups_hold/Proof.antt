@@ -16,10 +16,10 @@ use Rattle.map_check.proofs.contents.groups_hold.Lts as lts
 use Rattle.table_map.proofs.list.Groups.next.Reads as next-reads
 
 abbrev Inv-loop : tie.InvT-loop
-Inv-loop value n at₀ count₀ at count = Met groupItem whatever n value at count
+Inv-loop value size at₀ count₀ at count = Met groupItem whatever (size .0) value at count
 
 abbrev μ-loop : tie.MeasureT-loop
-μ-loop value n at₀ count₀ at count = length value - at
+μ-loop value size at₀ count₀ at count = length value - at
 
 loop-holds : tie.Need-loop-holds Inv-loop μ-loop
 loop-holds c = none-met
@@ -47,7 +47,7 @@ enum-told : tie.Need-enum-told Inv-loop μ-loop
 enum-told c = search needs
 
 returns : tie.Need-returns Inv-loop μ-loop
-returns c = no-more group-moves (c .before .before .before .loop .inv) (sym (c .before .before .next .ensures) ∙ ap groupOf (c .enum-told .given .1))
+returns c = no-more group-moves (c .before .before .before .before .loop .inv) (sym (c .before .before .before .next .ensures) ∙ ap groupOf (c .before .enum-told .given .1))
 
 enum-told-2 : tie.Need-enum-told-2 Inv-loop μ-loop
 enum-told-2 c = search needs

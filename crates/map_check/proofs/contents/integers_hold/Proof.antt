@@ -18,10 +18,10 @@ use Rattle.map_check.proofs.contents.integer_holds.Reads as integer-hol
 use Rattle.table_map.proofs.list.Integers.next.Reads as next-reads
 
 abbrev Inv-loop : tie.InvT-loop
-Inv-loop value meaning n at₀ count₀ at count = Met integerItem (integerHolds meaning) n value at count
+Inv-loop value meaning size at₀ count₀ at count = Met integerItem (integerHolds meaning) (size .0) value at count
 
 abbrev μ-loop : tie.MeasureT-loop
-μ-loop value meaning n at₀ count₀ at count = length value - at
+μ-loop value meaning size at₀ count₀ at count = length value - at
 
 loop-holds : tie.Need-loop-holds Inv-loop μ-loop
 loop-holds c = none-met
@@ -59,7 +59,7 @@ enum-told : tie.Need-enum-told Inv-loop μ-loop
 enum-told c = search needs
 
 returns-2 : tie.Need-returns-2 Inv-loop μ-loop
-returns-2 c = no-more integer-moves (c .before .before .before .loop .inv) (sym (c .before .before .next .ensures) ∙ ap integerOf (c .enum-told .given .1))
+returns-2 c = no-more integer-moves (c .before .before .before .before .loop .inv) (sym (c .before .before .before .next .ensures) ∙ ap integerOf (c .before .enum-told .given .1))
 
 enum-told-2 : tie.Need-enum-told-2 Inv-loop μ-loop
 enum-told-2 c = search needs

@@ -19,10 +19,10 @@ use Rattle.map_check.proofs.contents.is_charset.Reads as is-charset-rea
 use Rattle.table_map.proofs.list.Pairs.next.Reads as next-reads
 
 abbrev Inv-loop : tie.InvT-loop
-Inv-loop value start size above at₀ low₀ at low = pairsWhole size low value at ≡ pairsWhole size 0 value start
+Inv-loop value start above at₀ low₀ at low = pairsWhole above low value at ≡ pairsWhole above 0 value start
 
 abbrev μ-loop : tie.MeasureT-loop
-μ-loop value start size above at₀ low₀ at low = length value - at
+μ-loop value start above at₀ low₀ at low = length value - at
 
 loop-holds : tie.Need-loop-holds Inv-loop μ-loop
 loop-holds c = refl

@@ -5,7 +5,7 @@ use Rattle.map_check.proofs.entries.is_nullable.Statement.{statement}
 use Rattle.map_check.proofs.entries.is_nullable.Tie as tie
 use Rattle.map_check.proofs.entries.is_nullable.Reads as reads
 use Rattle.map_check.proofs.entries.is_nullable.Lts as lts
-use Rattle.table_map.proofs.part_of.Reads as part-of-reads
+use Rattle.wire.proofs.part_of.Reads as part-of-reads
 use Rattle.wire.proofs.bit_lsb0.Reads as bit-lsb0-reads
 
 part-of-requires : tie.Need-part-of-requires

@@ -6,7 +6,7 @@ use Rattle.map_check.proofs.entries.is_sign_known.Statement.{statement}
 use Rattle.map_check.proofs.entries.is_sign_known.Tie as tie
 use Rattle.map_check.proofs.entries.is_sign_known.Reads as reads
 use Rattle.map_check.proofs.entries.is_sign_known.Lts as lts
-use Rattle.map_check.proofs.entries.stands.Reads as stands-reads
+use Rattle.map_check.proofs.found.stands.Reads as stands-reads
 use Rattle.value.proofs.is_numeric.Reads as is-numeric-reads
 
 is-numeric-requires : tie.Need-is-numeric-requires

@@ -7,7 +7,7 @@ use Rattle.map_check.proofs.entries.is_unsigned.Tie as tie
 use Rattle.map_check.proofs.entries.is_unsigned.Reads as reads
 use Rattle.map_check.proofs.entries.is_unsigned.Lts as lts
 use Rattle.map_check.proofs.entries.is_sign_known.Reads as is-sign-known-reads
-use Rattle.map_check.proofs.field.value_in.Reads as value-in-reads
+use Rattle.map_check.proofs.found.value_in.Reads as value-in-reads
 use Rattle.table_map.proofs.flag.Reads as flag-reads
 
 is-sign-known-requires : tie.Need-is-sign-known-requires

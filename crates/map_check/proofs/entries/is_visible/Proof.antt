@@ -6,8 +6,8 @@ use Rattle.map_check.proofs.entries.is_visible.Statement.{statement}
 use Rattle.map_check.proofs.entries.is_visible.Tie as tie
 use Rattle.map_check.proofs.entries.is_visible.Reads as reads
 use Rattle.map_check.proofs.entries.is_visible.Lts as lts
-use Rattle.map_check.proofs.entries.stands.Reads as stands-reads
-use Rattle.map_check.proofs.field.value_in.Reads as value-in-reads
+use Rattle.map_check.proofs.found.stands.Reads as stands-reads
+use Rattle.map_check.proofs.found.value_in.Reads as value-in-reads
 use Rattle.table_map.proofs.flag.Reads as flag-reads
 
 stands-requires : tie.Need-stands-requires

@@ -2,7 +2,7 @@
 use mathlib.Core.Path.{refl, _∙_}
 use native.Mathlib.Omega.{arith}
 use lib.ListN.{getD}
-use Rattle.value.specs.Columns.{familyOf}
+use Rattle.value.specs.Types.{familyOf}
 use Rattle.map_check.proofs.Counts.{at-most-wider}
 use Rattle.map_check.proofs.Making.{few-metadata, came}
 use borrow.Author.Needs.{needs}
@@ -11,7 +11,7 @@ use Rattle.map_check.proofs.entries.next_entry.Tie as tie
 use Rattle.map_check.proofs.entries.next_entry.Reads as reads
 use Rattle.map_check.proofs.entries.next_entry.Lts as lts
 use Rattle.map_check.proofs.charset.charset_if.Reads as charset-if-reads
-use Rattle.map_check.proofs.column.declare.Reads as declare-reads
+use Rattle.map_check.proofs.declare.declare.Reads as declare-reads
 use Rattle.map_check.proofs.entries.pick_charset.Reads as pick-charset-reads
 use Rattle.map_check.proofs.entries.entry_with.Reads as entry-with-reads
 use Rattle.map_check.proofs.rank.ranks_after.Reads as ranks-after-reads

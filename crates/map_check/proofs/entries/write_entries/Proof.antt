@@ -1,11 +1,12 @@
 -- `map_check::entries::write_entries` meets its contract. The loop's invariant: what is to be stored from here on is what was to be
 -- stored from the start. Assumes nothing.
-use Prim.Native.Nat.{_+_, _-_, _*_, _≤_}
+use Prim.Native.Nat.{_-_, _≤_}
 use mathlib.Core.Path.{_≡_, refl, ap, _∙_}
 use native.Mathlib.Omega.{arith}
 use lib.ListN.{length}
 use Rattle.wire.specs.Stored.{stored}
-use Rattle.record.specs.Records.{entriesBytes}
+use Rattle.record.specs.Records.{entryAt, entriesBytes}
+use Rattle.record.proofs.Places.{place-few}
 use Rattle.map_check.specs.declared.rank.Place.{Place}
 use Rattle.map_check.specs.Columns.{declareAll}
 use Rattle.map_check.specs.Ranks.{place, noRanks}
@@ -19,13 +20,14 @@ use Rattle.map_check.proofs.entries.write_entries.Reads as reads
 use Rattle.map_check.proofs.entries.write_entries.Lts as lts
 use Rattle.map_check.proofs.entries.first_standing.Reads as first-standing-reads
 use Rattle.map_check.proofs.entries.next_entry.Reads as next-entry-reads
+use Rattle.record.proofs.entry_at.Reads as entry-at-reads
 use Rattle.record.proofs.write_entry.Reads as write-entry-reads
 
 abbrev Inv-loop : tie.InvT-loop
 Inv-loop dialect event types metadata facts buf₀ standing₀ buf standing =
     Ready event facts standing × (standing .place .0 ≤ length types) × (length buf ≡ length buf₀)
-    × (stored buf (6 + 6 * standing .place .0) (entriesBytes (toCome dialect event facts types metadata standing))
-    ≡ stored buf₀ 6 (entriesBytes (entriesFrom dialect event facts (declareAll types metadata) (place 0) noRanks)))
+    × (stored buf (entryAt (standing .place .0)) (entriesBytes (toCome dialect event facts types metadata standing))
+    ≡ stored buf₀ (entryAt 0) (entriesBytes (entriesFrom dialect event facts (declareAll types metadata) (place 0) noRanks)))
 
 abbrev μ-loop : tie.MeasureT-loop
 μ-loop dialect event types metadata facts buf₀ standing₀ buf standing = length types - standing .place .0
@@ -44,11 +46,8 @@ loop-holds c = (
 next-entry-requires : tie.Need-next-entry-requires Inv-loop μ-loop
 next-entry-requires c κs = (c .if1 .taken, c .before .before .before .before .before .before .before .before .pre .0 .few, c .before .before .loop .inv .0)
 
-mul-at : tie.Need-mul-at Inv-loop μ-loop
-mul-at c = omega (arith, c .before .before .if1 .taken, c .before .before .before .before .before .before .before .before .before .before .pre .0 .few)
-
-add-at : tie.Need-add-at Inv-loop μ-loop
-add-at c = omega (arith, c .before .before .if1 .taken, c .before .before .before .before .before .before .before .before .before .before .pre .0 .few)
+entry-at-requires : tie.Need-entry-at-requires Inv-loop μ-loop
+entry-at-requires c κs = search needs
 
 write-entry-requires : tie.Need-write-entry-requires Inv-loop μ-loop
 write-entry-requires c κs = search needs
@@ -61,7 +60,8 @@ loop-again c =
     let a = c .before .before .before .before .before .before .before .before .before .before .before .before .before .before .before .args in
     let l = c .before .before .before .before .before .before .before .before .before .loop in
     let t = c .before .before .before .before .before .before .next-entry in
-    let w = turn-stored (a .dialect) (a .event .now) (a .facts) (a .types .now) (a .metadata .now) (l .standing) (t .result) (l .buf) _ _ (t .ensures) (c .before .before .before .before .before .before .before .if1 .taken) (omega (arith, c .before .before .before .before .before .before .before .before .before .before .before .before .before .before .before .pre .1, l .inv .2)) (c .before .before .before .write-entry .ensures .1) (l .inv .3) in
+    let q = c .before .before .before .before .before .entry-at .ensures ∙ place-few (l .standing .place .0) (omega (arith, c .before .before .before .before .before .before .before .if1 .taken, c .before .before .before .before .before .before .before .before .before .before .before .before .before .before .before .pre .0 .few)) in
+    let w = turn-stored (a .dialect) (a .event .now) (a .facts) (a .types .now) (a .metadata .now) (l .standing) (t .result) (l .buf) _ _ (t .ensures) (c .before .before .before .before .before .before .before .if1 .taken) (omega (arith, c .before .before .before .before .before .before .before .before .before .before .before .before .before .before .before .pre .1, l .inv .2)) (rw q at (c .before .before .before .write-entry .ensures .1)) (l .inv .3) in
     (t .ensures .ready, omega (arith, c .before .before .before .before .before .before .before .if1 .taken, t .ensures .place), w .0 ∙ l .inv .2, w .1)
 
 same-length : tie.Need-same-length Inv-loop μ-loop
@@ -82,8 +82,7 @@ write-entries-spec =
     first-standing-requires
     loop-holds
     next-entry-requires
-    mul-at
-    add-at
+    entry-at-requires
     write-entry-requires
     loop-less
     loop-again

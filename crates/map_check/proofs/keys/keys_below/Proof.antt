@@ -18,11 +18,11 @@ use Rattle.map_check.proofs.keys.keys_below.Lts as lts
 use Rattle.map_check.proofs.keys.key_at.Reads as key-at-reads
 
 abbrev Inv-loop : tie.InvT-loop
-Inv-loop value paired n above at₀ at =
-    (at ≤ length value) × (listHolds (keyItem paired) (λ k. ltb k n) value at ≡ listHolds (keyItem paired) (λ k. ltb k n) value 0)
+Inv-loop value paired above at₀ at =
+    (at ≤ length value) × (listHolds (keyItem paired) (λ k. ltb k above) value at ≡ listHolds (keyItem paired) (λ k. ltb k above) value 0)
 
 abbrev μ-loop : tie.MeasureT-loop
-μ-loop value paired n above at₀ at = length value - at
+μ-loop value paired above at₀ at = length value - at
 
 loop-holds : tie.Need-loop-holds Inv-loop μ-loop
 loop-holds c = (omega arith, refl)
@@ -38,7 +38,7 @@ returns c =
     let a = c .before .before .before .before .before .before .before .before .args in
     let r = sym (c .before .before .before .before .key-at .ensures) ∙ ap packedOf (c .before .before .key .given .1) in
     let e = item-stepped (keyItem (a .paired)) _ _ _ _ (c .before .before .before .before .before .loop-test .taken) r in
-    rw (← (c .before .before .before .before .before .before .loop .inv .1), list-item (keyItem (a .paired)) (λ k. ltb k (a .n)) (key-moves (a .paired)) _ _ _ _ e, le-ltb _ _ (c .if1 .taken))
+    rw (← (c .before .before .before .before .before .before .loop .inv .1), list-item (keyItem (a .paired)) (λ k. ltb k (a .columns .0)) (key-moves (a .paired)) _ _ _ _ e, le-ltb _ _ (c .if1 .taken))
 
 loop-less : tie.Need-loop-less Inv-loop μ-loop
 loop-less c =
@@ -52,7 +52,7 @@ loop-again c =
     let r = sym (c .before .before .before .before .key-at .ensures) ∙ ap packedOf (c .before .before .key .given .1) in
     let e = item-stepped (keyItem (a .paired)) _ _ _ _ (c .before .before .before .before .before .loop-test .taken) r in (
       key-moves (a .paired) .moves _ _ _ _ r .1,
-      rw (← (c .before .before .before .before .before .before .loop .inv .1), list-item (keyItem (a .paired)) (λ k. ltb k (a .n)) (key-moves (a .paired)) _ _ _ _ e, lt-ltb _ _ (c .if1 .left)),
+      rw (← (c .before .before .before .before .before .before .loop .inv .1), list-item (keyItem (a .paired)) (λ k. ltb k (a .columns .0)) (key-moves (a .paired)) _ _ _ _ e, lt-ltb _ _ (c .if1 .left)),
     )
 
 enum-told : tie.Need-enum-told Inv-loop μ-loop

@@ -1,6 +1,6 @@
 -- `map_check::keys::keys_checked` meets its contract. Assumes nothing.
 use mathlib.Core.Path.{sym, ap, _∙_}
-use Rattle.map_check.specs.Fields.{judgedOf}
+use Rattle.table_map.specs.Fields.{judgedOf}
 use borrow.Author.Needs.{needs}
 use Rattle.map_check.proofs.keys.keys_checked.Statement.{statement}
 use Rattle.map_check.proofs.keys.keys_checked.Tie as tie

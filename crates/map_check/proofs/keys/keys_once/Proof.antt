@@ -8,8 +8,8 @@ use borrow.Author.Needs.{needs}
 use Rattle.wire.specs.declared.refusal.Refusal.{Refusal}
 use Rattle.wire.specs.Outcome.{refused}
 use Rattle.wire.specs.Packed.{packedOf}
-use Rattle.map_check.specs.declared.field.Judged.the-variants.{Kept}
-use Rattle.map_check.specs.Fields.{judgedOf}
+use Rattle.table_map.specs.declared.field.Judged.the-variants.{Holds}
+use Rattle.table_map.specs.Fields.{judgedOf}
 use Rattle.map_check.proofs.Repeats.{Reached, Compared, reached-first, reached-next, compared-none, compared-more, repeats, reads-again, ends-past, ends-stop}
 use Rattle.map_check.proofs.KeyItems.{key-moves}
 use Rattle.map_check.proofs.keys.keys_once.Statement.{statement}
@@ -20,13 +20,13 @@ use Rattle.map_check.proofs.keys.key_at.Reads as key-at-reads
 use Rattle.wire.proofs.refuse.Reads as refuse-reads
 
 abbrev Inv-loop : tie.InvT-loop
-Inv-loop value paired start answer₀ later key next earlier₀ answer earlier = (answer ≡ Kept) × Compared paired value start later key earlier
+Inv-loop value paired start answer₀ later key next earlier₀ answer earlier = (answer ≡ Holds) × Compared paired value start later key earlier
 
 abbrev μ-loop : tie.MeasureT-loop
 μ-loop value paired start answer₀ later key next earlier₀ answer earlier = later - earlier
 
 abbrev Inv-later : tie.InvT-later
-Inv-later value paired start answer₀ later₀ answer later = (answer ≡ Kept) × Reached paired value start later
+Inv-later value paired start answer₀ later₀ answer later = (answer ≡ Holds) × Reached paired value start later
 
 abbrev μ-later : tie.MeasureT-later
 μ-later value paired start answer₀ later₀ answer later = length value - later

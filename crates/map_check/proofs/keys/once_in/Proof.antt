@@ -3,14 +3,14 @@ use mathlib.Core.Path.{ap}
 use mathlib.Core.Logic.{⊎-elim}
 use native.Mathlib.Omega.{arith}
 use lib.ListN.{length}
-use Rattle.map_check.proofs.Lent.{lent-ends}
+use Rattle.wire.proofs.Parts.{lent-ends}
 use borrow.Author.Needs.{needs}
 use Rattle.map_check.proofs.keys.once_in.Statement.{statement}
 use Rattle.map_check.proofs.keys.once_in.Tie as tie
 use Rattle.map_check.proofs.keys.once_in.Reads as reads
 use Rattle.map_check.proofs.keys.once_in.Lts as lts
 use Rattle.map_check.proofs.keys.keys_once.Reads as keys-once-reads
-use Rattle.table_map.proofs.part_of.Reads as part-of-reads
+use Rattle.wire.proofs.part_of.Reads as part-of-reads
 
 enum-known-field : tie.Need-enum-known-field
 enum-known-field c = search needs

@@ -2,8 +2,9 @@
 use mathlib.Core.Path.{refl, sym, ap, _∙_}
 use Rattle.wire.specs.declared.store.Written.the-variants.{Refused}
 use Rattle.wire.specs.Stored.{writtenOf}
+use Rattle.table_map.specs.Fields.{judgedOf}
 use Rattle.map_check.specs.Columns.{sizesTold}
-use Rattle.map_check.specs.Fields.{judgedOf}
+use Rattle.map_check.specs.Standing.{keptOf}
 use Rattle.map_check.proofs.Links.{columned, fielded, too-many, columns-refuse, fields-refuse, keys-refuse, keys-pass, takes}
 use borrow.Author.Needs.{needs}
 use Rattle.map_check.proofs.map.check_event.Statement.{statement}
@@ -12,12 +13,10 @@ use Rattle.map_check.proofs.map.check_event.Reads as reads
 use Rattle.map_check.proofs.map.check_event.Lts as lts
 use Rattle.map_check.proofs.column.take_columns.Reads as take-columns-reads
 use Rattle.map_check.proofs.entries.write_record.Reads as write-record-reads
-use Rattle.map_check.proofs.field.find_field.Reads as find-field-reads
 use Rattle.map_check.proofs.field.keep_fields.Reads as keep-fields-reads
 use Rattle.map_check.proofs.keys.keys_checked.Reads as keys-checked-reads
-use Rattle.map_check.proofs.map.facts_of.Reads as facts-of-reads
-use Rattle.table_map.proofs.part_of.Reads as part-of-reads
 use Rattle.table_map.proofs.field.Fields.new.Reads as new-reads
+use Rattle.wire.proofs.part_of.Reads as part-of-reads
 use Rattle.wire.proofs.refuse.Reads as refuse-reads
 
 part-of-requires : tie.Need-part-of-requires
@@ -55,8 +54,8 @@ new-requires c κs = search needs
 keep-fields-requires : tie.Need-keep-fields-requires
 keep-fields-requires c κs = search needs
 
-enum-told : tie.Need-enum-told
-enum-told c = search needs
+enum-known-kept : tie.Need-enum-known-kept
+enum-known-kept c = search needs
 
 enum-known-r-2 : tie.Need-enum-known-r-2
 enum-known-r-2 c = search needs
@@ -66,54 +65,43 @@ returns-3 c =
     let a = c .before .before .before .before .before .before .before .before .before .before .before .before .before .before .args in
     let columns = columned (a .dialect) (a .event .now) (a .e) _ _ _ (c .before .before .before .before .before .before .before .before .before .before .before .part-of .ensures) (c .before .before .before .before .before .before .before .before .before .before .part-of2 .ensures) (c .before .before .before .before .before .before .before .before .before .if1 .left)
     (sym (c .before .before .before .before .before .before .before .before .take-columns .ensures) ∙ ap sizesTold (c .before .before .before .before .before .before .sizes .given .1)) in
-    rw (fields-refuse _ (c .before .r2 .given .0 .0) columns (c .before .before .before .before .new .ensures) (sym (c .before .before .before .keep-fields .ensures) ∙ ap judgedOf (c .before .r2 .given .1))) (refl, refl)
-
-find-field-requires : tie.Need-find-field-requires
-find-field-requires c κs = search needs
-
-find-field-requires-2 : tie.Need-find-field-requires-2
-find-field-requires-2 c κs = search needs
+    rw (fields-refuse _ (c .before .r2 .given .0 .0) columns (c .before .before .before .before .new .ensures) (sym (c .before .before .before .keep-fields .ensures) ∙ ap keptOf (c .before .r2 .given .1))) (refl, refl)
 
 keys-checked-requires : tie.Need-keys-checked-requires
 keys-checked-requires c κs = search needs
 
-enum-told-2 : tie.Need-enum-told-2
-enum-told-2 c = search needs
+enum-told : tie.Need-enum-told
+enum-told c = search needs
 
 enum-known-r-3 : tie.Need-enum-known-r-3
 enum-known-r-3 c = search needs
 
 returns-4 : tie.Need-returns-4
 returns-4 c =
-    let a = c .before .before .before .before .before .before .before .before .before .before .before .before .before .before .before .before .before .before .before .args in
-    let columns = columned (a .dialect) (a .event .now) (a .e) _ _ _ (c .before .before .before .before .before .before .before .before .before .before .before .before .before .before .before .before .part-of .ensures) (c .before .before .before .before .before .before .before .before .before .before .before .before .before .before .before .part-of2 .ensures) (c .before .before .before .before .before .before .before .before .before .before .before .before .before .before .if1 .left)
-    (sym (c .before .before .before .before .before .before .before .before .before .before .before .before .before .take-columns .ensures) ∙ ap sizesTold (c .before .before .before .before .before .before .before .before .before .before .before .sizes .given .1)) in
-    let fields = fielded columns (c .before .before .before .before .before .before .before .before .before .new .ensures) (sym (c .before .before .before .before .before .before .before .before .keep-fields .ensures) ∙ ap judgedOf (c .before .before .before .before .before .before .enum-told .given .1)) in
-    let said = sym (c .before .before .before .keys-checked .ensures) ∙ ap judgedOf (c .before .r3 .given .1) in
-    rw (keys-refuse (c .before .r3 .given .0 .0) fields (rw (← (c .before .before .before .before .before .find-field .ensures), ← (c .before .before .before .before .find-field2 .ensures)) said)) (refl, refl)
-
-facts-of-requires : tie.Need-facts-of-requires
-facts-of-requires c κs = search needs
+    let a = c .before .before .before .before .before .before .before .before .before .before .before .before .before .before .before .before .before .before .args in
+    let columns = columned (a .dialect) (a .event .now) (a .e) _ _ _ (c .before .before .before .before .before .before .before .before .before .before .before .before .before .before .before .part-of .ensures) (c .before .before .before .before .before .before .before .before .before .before .before .before .before .before .part-of2 .ensures) (c .before .before .before .before .before .before .before .before .before .before .before .before .before .if1 .left)
+    (sym (c .before .before .before .before .before .before .before .before .before .before .before .before .take-columns .ensures) ∙ ap sizesTold (c .before .before .before .before .before .before .before .before .before .before .sizes .given .1)) in
+    let fields = fielded columns (c .before .before .before .before .before .before .before .before .new .ensures) (sym (c .before .before .before .before .before .before .before .keep-fields .ensures) ∙ ap keptOf (c .before .before .before .before .before .kept .given .1)) in
+    rw (keys-refuse (c .before .r3 .given .0 .0) fields (sym (c .before .before .before .keys-checked .ensures) ∙ ap judgedOf (c .before .r3 .given .1))) (refl, refl)
 
 write-record-requires : tie.Need-write-record-requires
 write-record-requires c κs =
-    let a = c .before .before .before .before .before .before .before .before .before .before .before .before .before .before .before .before .before .before .before .before .args in
-    let columns = columned (a .dialect) (a .event .now) (a .e) _ _ _ (c .before .before .before .before .before .before .before .before .before .before .before .before .before .before .before .before .before .part-of .ensures) (c .before .before .before .before .before .before .before .before .before .before .before .before .before .before .before .before .part-of2 .ensures) (c .before .before .before .before .before .before .before .before .before .before .before .before .before .before .before .if1 .left)
-    (sym (c .before .before .before .before .before .before .before .before .before .before .before .before .before .before .take-columns .ensures) ∙ ap sizesTold (c .before .before .before .before .before .before .before .before .before .before .before .before .sizes .given .1)) in
-    let fields = fielded columns (c .before .before .before .before .before .before .before .before .before .before .new .ensures) (sym (c .before .before .before .before .before .before .before .before .before .keep-fields .ensures) ∙ ap judgedOf (c .before .before .before .before .before .before .before .enum-told .given .1)) in
-    rw (c .before .facts-of .ensures) (takes fields)
+    let a = c .before .before .before .before .before .before .before .before .before .before .before .before .before .before .before .before .before .before .args in
+    let columns = columned (a .dialect) (a .event .now) (a .e) _ _ _ (c .before .before .before .before .before .before .before .before .before .before .before .before .before .before .before .part-of .ensures) (c .before .before .before .before .before .before .before .before .before .before .before .before .before .before .part-of2 .ensures) (c .before .before .before .before .before .before .before .before .before .before .before .before .before .if1 .left)
+    (sym (c .before .before .before .before .before .before .before .before .before .before .before .before .take-columns .ensures) ∙ ap sizesTold (c .before .before .before .before .before .before .before .before .before .before .sizes .given .1)) in
+    let fields = fielded columns (c .before .before .before .before .before .before .before .before .new .ensures) (sym (c .before .before .before .before .before .before .before .keep-fields .ensures) ∙ ap keptOf (c .before .before .before .before .before .kept .given .1)) in
+    takes fields
 
 same-length : tie.Need-same-length
 same-length c = search needs
 
 returns-5 : tie.Need-returns-5
 returns-5 c =
-    let a = c .before .before .before .before .before .before .before .before .before .before .before .before .before .before .before .before .before .before .before .before .before .before .before .args in
-    let columns = columned (a .dialect) (a .event .now) (a .e) _ _ _ (c .before .before .before .before .before .before .before .before .before .before .before .before .before .before .before .before .before .before .before .before .part-of .ensures) (c .before .before .before .before .before .before .before .before .before .before .before .before .before .before .before .before .before .before .before .part-of2 .ensures) (c .before .before .before .before .before .before .before .before .before .before .before .before .before .before .before .before .before .before .if1 .left)
-    (sym (c .before .before .before .before .before .before .before .before .before .before .before .before .before .before .before .before .before .take-columns .ensures) ∙ ap sizesTold (c .before .before .before .before .before .before .before .before .before .before .before .before .before .before .before .sizes .given .1)) in
-    let fields = fielded columns (c .before .before .before .before .before .before .before .before .before .before .before .before .before .new .ensures) (sym (c .before .before .before .before .before .before .before .before .before .before .before .before .keep-fields .ensures) ∙ ap judgedOf (c .before .before .before .before .before .before .before .before .before .before .enum-told .given .1)) in
-    let said = sym (c .before .before .before .before .before .before .before .keys-checked .ensures) ∙ ap judgedOf (c .before .before .before .before .before .enum-told2 .given .1) in
-    rw (keys-pass fields (rw (← (c .before .before .before .before .before .before .before .before .before .find-field .ensures), ← (c .before .before .before .before .before .before .before .before .find-field2 .ensures)) said), ← (c .before .before .before .before .facts-of .ensures)) (c .before .before .write-record .ensures)
+    let a = c .before .before .before .before .before .before .before .before .before .before .before .before .before .before .before .before .before .before .before .before .before .args in
+    let columns = columned (a .dialect) (a .event .now) (a .e) _ _ _ (c .before .before .before .before .before .before .before .before .before .before .before .before .before .before .before .before .before .before .part-of .ensures) (c .before .before .before .before .before .before .before .before .before .before .before .before .before .before .before .before .before .part-of2 .ensures) (c .before .before .before .before .before .before .before .before .before .before .before .before .before .before .before .before .if1 .left)
+    (sym (c .before .before .before .before .before .before .before .before .before .before .before .before .before .before .before .take-columns .ensures) ∙ ap sizesTold (c .before .before .before .before .before .before .before .before .before .before .before .before .before .sizes .given .1)) in
+    let fields = fielded columns (c .before .before .before .before .before .before .before .before .before .before .before .new .ensures) (sym (c .before .before .before .before .before .before .before .before .before .before .keep-fields .ensures) ∙ ap keptOf (c .before .before .before .before .before .before .before .before .kept .given .1)) in
+    rw (keys-pass fields (sym (c .before .before .before .before .before .before .keys-checked .ensures) ∙ ap judgedOf (c .before .before .before .before .enum-told .given .1))) (c .before .before .write-record .ensures)
 
 pub check-event-spec : {M : Type 1} → statement M
 check-event-spec =
@@ -129,16 +117,13 @@ check-event-spec =
     returns-2
     new-requires
     keep-fields-requires
-    enum-told
+    enum-known-kept
     enum-known-r-2
     returns-3
-    find-field-requires
-    find-field-requires-2
     keys-checked-requires
-    enum-told-2
+    enum-told
     enum-known-r-3
     returns-4
-    facts-of-requires
     write-record-requires
     same-length
     returns-5)

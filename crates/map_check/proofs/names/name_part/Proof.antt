@@ -8,7 +8,7 @@ use Rattle.map_check.proofs.names.name_part.Reads as reads
 use Rattle.map_check.proofs.names.name_part.Lts as lts
 use Rattle.map_check.proofs.names.column_name.Reads as column-name-reads
 use Rattle.map_check.proofs.names.list_of.Reads as list-of-reads
-use Rattle.table_map.proofs.part_of.Reads as part-of-reads
+use Rattle.wire.proofs.part_of.Reads as part-of-reads
 
 column-name-requires : tie.Need-column-name-requires
 column-name-requires c κs = search needs

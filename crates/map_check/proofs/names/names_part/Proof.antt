@@ -8,7 +8,7 @@ use Rattle.map_check.proofs.names.names_part.Reads as reads
 use Rattle.map_check.proofs.names.names_part.Lts as lts
 use Rattle.map_check.proofs.field.find_field.Reads as find-field-reads
 use Rattle.map_check.proofs.names.part_found.Reads as part-found-reads
-use Rattle.table_map.proofs.part_of.Reads as part-of-reads
+use Rattle.wire.proofs.part_of.Reads as part-of-reads
 use Rattle.table_map.proofs.read_event.Reads as read-event-reads
 use Rattle.table_map.proofs.field.Fields.new.Reads as new-reads
 

@@ -1,27 +1,27 @@
 -- `record::profile::entry_in` meets its contract. Assumes nothing.
-use Prim.Native.Nat.{_+_, _*_}
-use mathlib.Core.Path.{sym}
+use mathlib.Core.Path.{sym, _∙_}
 use native.Mathlib.Omega.{arith}
 use borrow.Author.Needs.{needs}
-use Rattle.record.specs.Records.{entryIn}
+use lib.ListN.{length}
+use Rattle.record.specs.Records.{entryAt, entryIn}
+use Rattle.record.proofs.Places.{place-within, place-past}
 use Rattle.record.proofs.Looks.{entry-past, entry-bytes}
 use Rattle.record.proofs.profile.entry_in.Statement.{statement}
 use Rattle.record.proofs.profile.entry_in.Tie as tie
 use Rattle.record.proofs.profile.entry_in.Reads as reads
 use Rattle.record.proofs.profile.entry_in.Lts as lts
 use Rattle.record.proofs.profile.byte_at.Reads as byte-at-reads
+use Rattle.record.proofs.profile.entry_at.Reads as entry-at-reads
 use Rattle.wire.proofs.read_le.Reads as read-le-reads
+
+entry-at-requires : tie.Need-entry-at-requires
+entry-at-requires c κs = search needs
 
 returns : tie.Need-returns
 returns c =
-    let a = c .before .before .args in
-    sym (entry-past (a .profile .now) (a .column) (omega arith))
-
-mul-at : tie.Need-mul-at
-mul-at c = search needs
-
-add-at : tie.Need-add-at
-add-at c = search needs
+    let a = c .before .before .before .args in
+    let e = c .before .entry-at .ensures in
+    sym (entry-past (a .profile .now) (a .column) (place-past (a .column) (length (a .profile .now)) (omega arith) (omega arith)))
 
 add-read-le : tie.Need-add-read-le
 add-read-le c = search needs
@@ -57,9 +57,12 @@ returns-2 : tie.Need-returns-2
 unfolding entryIn
 returns-2 c =
     let l = c .before .before .before .before in
-    let a = l .before .before .before .args in
+    let a = l .before .before .before .before .args in
+    let p = l .before .before .entry-at .ensures in
+    let e = p ∙ place-within (a .column) (length (a .profile .now)) (omega arith) (omega arith) in
     rw (
-      entry-bytes (a .profile .now) (6 + 6 * a .column),
+      entry-bytes (a .profile .now) (entryAt (a .column)),
+      ← e,
       c .byte-at4 .ensures,
       c .before .byte-at3 .ensures,
       c .before .before .byte-at2 .ensures,
@@ -71,9 +74,8 @@ pub entry-in-spec : {M : Type 1} → statement M
 entry-in-spec =
     tie.close
     (tie.spec
+    entry-at-requires
     returns
-    mul-at
-    add-at
     add-read-le
     read-le-requires
     cast-charset

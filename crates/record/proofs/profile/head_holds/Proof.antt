@@ -1,15 +1,18 @@
 -- `record::profile::head_holds` meets its contract. Assumes nothing.
-use mathlib.Core.Path.{_∙_}
+use mathlib.Core.Path.{ap, _∙_}
+use native.Mathlib.Omega.{arith}
 use borrow.Author.Needs.{needs}
 use borrow.Author.Tests.{le-leb, eq-eqb, ne-eqb}
 use Rattle.wire.proofs.Rules.{tests}
-use Rattle.record.specs.Records.{headHolds}
+use Rattle.record.specs.Records.{entryAt, headHolds}
+use Rattle.record.proofs.Places.{place-few}
 use Rattle.record.proofs.profile.head_holds.Statement.{statement}
 use Rattle.record.proofs.profile.head_holds.Tie as tie
 use Rattle.record.proofs.profile.head_holds.Reads as reads
 use Rattle.record.proofs.profile.head_holds.Lts as lts
 use Rattle.record.proofs.profile.byte_at.Reads as byte-at-reads
-use Rattle.record.proofs.profile.wide.Reads as wide-reads
+use Rattle.record.proofs.profile.count_in.Reads as count-in-reads
+use Rattle.record.proofs.profile.entry_at.Reads as entry-at-reads
 use Rattle.wire.proofs.read_le.Reads as read-le-reads
 
 returns : tie.Need-returns
@@ -56,17 +59,11 @@ returns-4 c =
       ne-eqb _ _ (c .if4 .taken),
     )
 
-byte-at-requires-2 : tie.Need-byte-at-requires-2
-byte-at-requires-2 c κs = search needs
+count-in-requires : tie.Need-count-in-requires
+count-in-requires c κs = search needs
 
-wide-requires : tie.Need-wide-requires
-wide-requires c κs = search needs
-
-mul-result : tie.Need-mul-result
-mul-result c = search needs
-
-add-result : tie.Need-add-result
-add-result c = search needs
+entry-at-requires : tie.Need-entry-at-requires
+entry-at-requires c κs = search needs
 
 returns-5 : tie.Need-returns-5
 unfolding headHolds
@@ -74,6 +71,8 @@ returns-5 c =
     let z = c .before .before in
     let y = z .before .before in
     let x = y .before .before in
+    let n = c .before .count-in .ensures in
+    let k = x .before .before .before .shared-slice-known .given 4 in
     rw (
       le-leb 6 _ (x .before .before .if1 .left),
       ← x .before .read-le .ensures .0,
@@ -82,7 +81,7 @@ returns-5 c =
       eq-eqb _ _ (y .if3 .left),
       ← z .before .byte-at .ensures,
       eq-eqb _ _ (z .if4 .left),
-      c .wide .ensures ∙ c .before .byte-at2 .ensures,
+      c .entry-at .ensures ∙ place-few _ (omega arith) ∙ ap entryAt n,
     )
 
 pub head-holds-spec : {M : Type 1} → statement M
@@ -96,8 +95,6 @@ head-holds-spec =
     returns-3
     byte-at-requires
     returns-4
-    byte-at-requires-2
-    wide-requires
-    mul-result
-    add-result
+    count-in-requires
+    entry-at-requires
     returns-5)

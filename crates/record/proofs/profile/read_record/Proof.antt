@@ -8,10 +8,9 @@ use Rattle.record.proofs.profile.read_record.Statement.{statement}
 use Rattle.record.proofs.profile.read_record.Tie as tie
 use Rattle.record.proofs.profile.read_record.Reads as reads
 use Rattle.record.proofs.profile.read_record.Lts as lts
-use Rattle.record.proofs.profile.byte_at.Reads as byte-at-reads
+use Rattle.record.proofs.profile.count_in.Reads as count-in-reads
 use Rattle.record.proofs.profile.entries_hold.Reads as entries-hold-reads
 use Rattle.record.proofs.profile.head_holds.Reads as head-holds-reads
-use Rattle.record.proofs.profile.wide.Reads as wide-reads
 use Rattle.wire.proofs.refuse.Reads as refuse-reads
 
 head-holds-requires : tie.Need-head-holds-requires
@@ -24,11 +23,8 @@ returns : tie.Need-returns
 unfolding readRecord recordValid
 returns c = rw (sym (c .before .before .head-holds .ensures) ∙ not-true _ (c .before .if1 .taken), c .refuse .ensures)
 
-byte-at-requires : tie.Need-byte-at-requires
-byte-at-requires c κs = search needs
-
-wide-requires : tie.Need-wide-requires
-wide-requires c κs = search needs
+count-in-requires : tie.Need-count-in-requires
+count-in-requires c κs = search needs
 
 entries-hold-requires : tie.Need-entries-hold-requires
 entries-hold-requires c κs = search needs
@@ -40,10 +36,10 @@ returns-2 : tie.Need-returns-2
 unfolding readRecord recordValid
 returns-2 c =
     let w = c .before .before .before in
-    let s = w .before .before .before .before .before .args .profile .now in
-    let n = w .wide .ensures ∙ w .before .byte-at .ensures in
+    let s = w .before .before .before .before .args .profile .now in
+    let n = w .count-in .ensures in
     rw (
-      sym (w .before .before .before .head-holds .ensures) ∙ not-false _ (w .before .before .if1 .left),
+      sym (w .before .before .head-holds .ensures) ∙ not-false _ (w .before .if1 .left),
       ap (λ (k : ℕ). entriesHold k s 0) (sym n) ∙ sym (c .before .before .entries-hold .ensures) ∙ not-true _ (c .before .if2 .taken),
       c .refuse2 .ensures,
     )
@@ -52,10 +48,10 @@ returns-3 : tie.Need-returns-3
 unfolding readRecord recordValid
 returns-3 c =
     let w = c .before .before in
-    let s = w .before .before .before .before .before .args .profile .now in
-    let n = w .wide .ensures ∙ w .before .byte-at .ensures in
+    let s = w .before .before .before .before .args .profile .now in
+    let n = w .count-in .ensures in
     rw (
-      sym (w .before .before .before .head-holds .ensures) ∙ not-false _ (w .before .before .if1 .left),
+      sym (w .before .before .head-holds .ensures) ∙ not-false _ (w .before .if1 .left),
       ap (λ (k : ℕ). entriesHold k s 0) (sym n) ∙ sym (c .before .entries-hold .ensures) ∙ not-false _ (c .if2 .left),
       n,
     )
@@ -67,8 +63,7 @@ read-record-spec =
     head-holds-requires
     refuse-requires
     returns
-    byte-at-requires
-    wide-requires
+    count-in-requires
     entries-hold-requires
     refuse-requires-2
     returns-2

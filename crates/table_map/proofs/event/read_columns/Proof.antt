@@ -1,6 +1,7 @@
 -- `table_map::event::read_columns` meets its contract. `n`, `a`, `m` and `b` are where what the definition calls so is known. Assumes nothing.
 use mathlib.Core.Path.{sym, ap, _∙_}
-use Rattle.table_map.specs.Reads.{announcedOf, placeOf, cutOf}
+use Rattle.wire.specs.Parts.{reachOf}
+use Rattle.table_map.specs.Reads.{announcedOf, cutOf}
 use Rattle.table_map.specs.Events.{readColumns}
 use borrow.Author.Needs.{needs}
 use Rattle.table_map.proofs.event.read_columns.Statement.{statement}
@@ -10,7 +11,7 @@ use Rattle.table_map.proofs.event.read_columns.Lts as lts
 use Rattle.wire.proofs.bytes_for.Reads as bytes-for-reads
 use Rattle.table_map.proofs.part.long_part.Reads as long-part-reads
 use Rattle.table_map.proofs.part.read_length.Reads as read-length-reads
-use Rattle.table_map.proofs.part.within.Reads as within-reads
+use Rattle.wire.proofs.within.Reads as within-reads
 
 read-length-requires : tie.Need-read-length-requires
 read-length-requires c κs = search needs
@@ -40,7 +41,7 @@ returns-2 c =
     let n = c .before .before .before .before .before in
     rw (
       sym (n .before .before .read-length .ensures) ∙ ap announcedOf (n .part .given .1),
-      sym (c .before .before .before .within .ensures) ∙ ap placeOf (c .before .r2 .given .1),
+      sym (c .before .before .before .within .ensures) ∙ ap reachOf (c .before .r2 .given .1),
     )
 
 long-part-requires : tie.Need-long-part-requires
@@ -59,7 +60,7 @@ returns-3 c =
     let n = a .before .before .before .before in
     rw (
       sym (n .before .before .read-length .ensures) ∙ ap announcedOf (n .part .given .1),
-      sym (a .before .before .within .ensures) ∙ ap placeOf (a .next .given .1),
+      sym (a .before .before .within .ensures) ∙ ap reachOf (a .next .given .1),
       sym (c .before .before .before .long-part .ensures) ∙ ap cutOf (c .before .r3 .given .1),
     )
 
@@ -83,10 +84,10 @@ returns-4 c =
     let n = a .before .before .before .before in
     rw (
       sym (n .before .before .read-length .ensures) ∙ ap announcedOf (n .part .given .1),
-      sym (a .before .before .within .ensures) ∙ ap placeOf (a .next .given .1),
+      sym (a .before .before .within .ensures) ∙ ap reachOf (a .next .given .1),
       sym (m .before .before .long-part .ensures) ∙ ap cutOf (m .cut .given .1),
       ← c .before .before .before .before .bytes-for .ensures,
-      sym (c .before .before .before .within2 .ensures) ∙ ap placeOf (c .before .r4 .given .1),
+      sym (c .before .before .before .within2 .ensures) ∙ ap reachOf (c .before .r4 .given .1),
     )
 
 returns-5 : tie.Need-returns-5
@@ -98,10 +99,10 @@ returns-5 c =
     let n = a .before .before .before .before in
     rw (
       sym (n .before .before .read-length .ensures) ∙ ap announcedOf (n .part .given .1),
-      sym (a .before .before .within .ensures) ∙ ap placeOf (a .next .given .1),
+      sym (a .before .before .within .ensures) ∙ ap reachOf (a .next .given .1),
       sym (m .before .before .long-part .ensures) ∙ ap cutOf (m .cut .given .1),
       ← c .before .before .before .before .before .bytes-for .ensures,
-      sym (b .before .before .within2 .ensures) ∙ ap placeOf (b .next2 .given .1),
+      sym (b .before .before .within2 .ensures) ∙ ap reachOf (b .next2 .given .1),
     )
 
 pub read-columns-spec : {M : Type 1} → statement M

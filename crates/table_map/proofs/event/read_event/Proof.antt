@@ -1,8 +1,10 @@
 -- `table_map::event::read_event` meets its contract. `a`, `b`, `x` and `y` are where what the definition calls so is known. Assumes nothing.
 use mathlib.Core.Path.{sym, ap, _∙_}
-use Rattle.table_map.specs.Reads.{columnsOf, namesOf, placeOf}
+use Rattle.wire.specs.Parts.{reachOf}
+use Rattle.wire.proofs.Parts.{within-ok}
+use Rattle.table_map.specs.Reads.{columnsOf, namesOf}
 use Rattle.table_map.specs.Events.{readEvent}
-use Rattle.table_map.proofs.Chains.{within-ok, columns-end, id-narrow}
+use Rattle.table_map.proofs.Chains.{columns-end, id-narrow}
 use native.Mathlib.Omega.{arith}
 use Prim.Native.Nat.{min, _≤_}
 use mathlib.Core.Path.{_≡_}
@@ -14,7 +16,7 @@ use Rattle.table_map.proofs.event.read_event.Lts as lts
 use Rattle.table_map.proofs.event.id_bytes.Reads as id-bytes-reads
 use Rattle.table_map.proofs.event.read_columns.Reads as read-columns-reads
 use Rattle.table_map.proofs.event.read_names.Reads as read-names-reads
-use Rattle.table_map.proofs.part.within.Reads as within-reads
+use Rattle.wire.proofs.within.Reads as within-reads
 use Rattle.wire.proofs.read_le.Reads as read-le-reads
 
 id-bytes-requires : tie.Need-id-bytes-requires
@@ -33,7 +35,7 @@ returns : tie.Need-returns
 unfolding readEvent
 returns c = rw (
   ← c .before .before .before .before .id-bytes .ensures,
-  sym (c .before .before .before .within .ensures) ∙ ap placeOf (c .before .r .given .1),
+  sym (c .before .before .before .within .ensures) ∙ ap reachOf (c .before .r .given .1),
 )
 
 within-requires-2 : tie.Need-within-requires-2
@@ -51,8 +53,8 @@ returns-2 c =
     let a = c .before .before .before .before .before in
     rw (
       ← a .before .before .before .id-bytes .ensures,
-      sym (a .before .before .within .ensures) ∙ ap placeOf (a .next .given .1),
-      sym (c .before .before .before .within2 .ensures) ∙ ap placeOf (c .before .r2 .given .1),
+      sym (a .before .before .within .ensures) ∙ ap reachOf (a .next .given .1),
+      sym (c .before .before .before .within2 .ensures) ∙ ap reachOf (c .before .r2 .given .1),
     )
 
 read-names-requires : tie.Need-read-names-requires
@@ -71,8 +73,8 @@ returns-3 c =
     let a = b .before .before .before .before in
     rw (
       ← a .before .before .before .id-bytes .ensures,
-      sym (a .before .before .within .ensures) ∙ ap placeOf (a .next .given .1),
-      sym (b .before .before .within2 .ensures) ∙ ap placeOf (b .next2 .given .1),
+      sym (a .before .before .within .ensures) ∙ ap reachOf (a .next .given .1),
+      sym (b .before .before .within2 .ensures) ∙ ap reachOf (b .next2 .given .1),
       sym (c .before .before .before .read-names .ensures) ∙ ap namesOf (c .before .r3 .given .1),
     )
 
@@ -93,8 +95,8 @@ returns-4 c =
     let a = b .before .before .before .before in
     rw (
       ← a .before .before .before .id-bytes .ensures,
-      sym (a .before .before .within .ensures) ∙ ap placeOf (a .next .given .1),
-      sym (b .before .before .within2 .ensures) ∙ ap placeOf (b .next2 .given .1),
+      sym (a .before .before .within .ensures) ∙ ap reachOf (a .next .given .1),
+      sym (b .before .before .within2 .ensures) ∙ ap reachOf (b .next2 .given .1),
       sym (x .before .before .read-names .ensures) ∙ ap namesOf (x .names .given .1),
       sym (c .before .before .before .read-columns .ensures) ∙ ap columnsOf (c .before .r4 .given .1),
     )
@@ -122,14 +124,14 @@ returns-5 c =
     let i = a .before .before .before in
     let v = i .before .before .args in
     let w = i .id-bytes .result in
-    let e = sym (a .before .before .within .ensures) ∙ ap placeOf (a .next .given .1) in
+    let e = sym (a .before .before .within .ensures) ∙ ap reachOf (a .next .given .1) in
     let k : w ≤ 6 = rw (i .id-bytes .ensures) (id-narrow (v .post-header)) in
     let m : min w 8 ≡ w = omega arith in
     let n : a .next .given .0 .0 ≡ w = omega (arith, within-ok (v .event .now) 0 w 0 (a .next .given .0 .0) e) in
     rw (
       ← i .id-bytes .ensures,
       e,
-      sym (b .before .before .within2 .ensures) ∙ ap placeOf (b .next2 .given .1),
+      sym (b .before .before .within2 .ensures) ∙ ap reachOf (b .next2 .given .1),
       sym (x .before .before .read-names .ensures) ∙ ap namesOf (x .names .given .1),
       sym (y .before .before .read-columns .ensures) ∙ ap columnsOf (y .columns .given .1),
       l .before .read-le .ensures .0,

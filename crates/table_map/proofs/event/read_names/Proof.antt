@@ -1,6 +1,7 @@
 -- `table_map::event::read_names` meets its contract. `d`, `a`, `t` and `b` are where what the definition calls so is known. Assumes nothing.
 use mathlib.Core.Path.{sym, ap, _∙_}
-use Rattle.table_map.specs.Reads.{placeOf, cutOf}
+use Rattle.wire.specs.Parts.{reachOf}
+use Rattle.table_map.specs.Reads.{cutOf}
 use Rattle.table_map.specs.Events.{readNames}
 use borrow.Author.Needs.{needs}
 use Rattle.table_map.proofs.event.read_names.Statement.{statement}
@@ -8,7 +9,7 @@ use Rattle.table_map.proofs.event.read_names.Tie as tie
 use Rattle.table_map.proofs.event.read_names.Reads as reads
 use Rattle.table_map.proofs.event.read_names.Lts as lts
 use Rattle.table_map.proofs.part.short_part.Reads as short-part-reads
-use Rattle.table_map.proofs.part.within.Reads as within-reads
+use Rattle.wire.proofs.within.Reads as within-reads
 
 short-part-requires : tie.Need-short-part-requires
 short-part-requires c κs = search needs
@@ -38,7 +39,7 @@ returns-2 c =
     let d = c .before .before .before .before .before in
     rw (
       sym (d .before .before .short-part .ensures) ∙ ap cutOf (d .cut .given .1),
-      sym (c .before .before .before .within .ensures) ∙ ap placeOf (c .before .r2 .given .1),
+      sym (c .before .before .before .within .ensures) ∙ ap reachOf (c .before .r2 .given .1),
     )
 
 short-part-requires-2 : tie.Need-short-part-requires-2
@@ -57,7 +58,7 @@ returns-3 c =
     let d = a .before .before .before .before in
     rw (
       sym (d .before .before .short-part .ensures) ∙ ap cutOf (d .cut .given .1),
-      sym (a .before .before .within .ensures) ∙ ap placeOf (a .next .given .1),
+      sym (a .before .before .within .ensures) ∙ ap reachOf (a .next .given .1),
       sym (c .before .before .before .short-part2 .ensures) ∙ ap cutOf (c .before .r3 .given .1),
     )
 
@@ -78,9 +79,9 @@ returns-4 c =
     let d = a .before .before .before .before in
     rw (
       sym (d .before .before .short-part .ensures) ∙ ap cutOf (d .cut .given .1),
-      sym (a .before .before .within .ensures) ∙ ap placeOf (a .next .given .1),
+      sym (a .before .before .within .ensures) ∙ ap reachOf (a .next .given .1),
       sym (t .before .before .short-part2 .ensures) ∙ ap cutOf (t .cut2 .given .1),
-      sym (c .before .before .before .within2 .ensures) ∙ ap placeOf (c .before .r4 .given .1),
+      sym (c .before .before .before .within2 .ensures) ∙ ap reachOf (c .before .r4 .given .1),
     )
 
 returns-5 : tie.Need-returns-5
@@ -92,9 +93,9 @@ returns-5 c =
     let d = a .before .before .before .before in
     rw (
       sym (d .before .before .short-part .ensures) ∙ ap cutOf (d .cut .given .1),
-      sym (a .before .before .within .ensures) ∙ ap placeOf (a .next .given .1),
+      sym (a .before .before .within .ensures) ∙ ap reachOf (a .next .given .1),
       sym (t .before .before .short-part2 .ensures) ∙ ap cutOf (t .cut2 .given .1),
-      sym (b .before .before .within2 .ensures) ∙ ap placeOf (b .next2 .given .1),
+      sym (b .before .before .within2 .ensures) ∙ ap reachOf (b .next2 .given .1),
     )
 
 pub read-names-spec : {M : Type 1} → statement M

@@ -8,7 +8,7 @@ use Rattle.table_map.proofs.event.table_name.Tie as tie
 use Rattle.table_map.proofs.event.table_name.Reads as reads
 use Rattle.table_map.proofs.event.table_name.Lts as lts
 use Rattle.table_map.proofs.event.event_or_none.Reads as event-or-none-reads
-use Rattle.table_map.proofs.part.part_of.Reads as part-of-reads
+use Rattle.wire.proofs.part_of.Reads as part-of-reads
 
 event-or-none-requires : tie.Need-event-or-none-requires
 event-or-none-requires c κs = search needs

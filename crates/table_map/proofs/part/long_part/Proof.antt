@@ -1,6 +1,7 @@
 -- `table_map::part::long_part` meets its contract. `n` is where what the definition calls so is known. Assumes nothing.
 use mathlib.Core.Path.{sym, ap, _∙_}
-use Rattle.table_map.specs.Reads.{announcedOf, placeOf}
+use Rattle.wire.specs.Parts.{reachOf}
+use Rattle.table_map.specs.Reads.{announcedOf}
 use Rattle.table_map.specs.Parts.{longPart}
 use borrow.Author.Needs.{needs}
 use Rattle.table_map.proofs.part.long_part.Statement.{statement}
@@ -8,7 +9,7 @@ use Rattle.table_map.proofs.part.long_part.Tie as tie
 use Rattle.table_map.proofs.part.long_part.Reads as reads
 use Rattle.table_map.proofs.part.long_part.Lts as lts
 use Rattle.table_map.proofs.part.read_length.Reads as read-length-reads
-use Rattle.table_map.proofs.part.within.Reads as within-reads
+use Rattle.wire.proofs.within.Reads as within-reads
 
 read-length-requires : tie.Need-read-length-requires
 read-length-requires c κs = search needs
@@ -38,7 +39,7 @@ returns-2 c =
     let n = c .before .before .before .before .before in
     rw (
       sym (n .before .before .read-length .ensures) ∙ ap announcedOf (n .part .given .1),
-      sym (c .before .before .before .within .ensures) ∙ ap placeOf (c .before .r2 .given .1),
+      sym (c .before .before .before .within .ensures) ∙ ap reachOf (c .before .r2 .given .1),
     )
 
 returns-3 : tie.Need-returns-3
@@ -47,7 +48,7 @@ returns-3 c =
     let n = c .before .before .before .before .before in
     rw (
       sym (n .before .before .read-length .ensures) ∙ ap announcedOf (n .part .given .1),
-      sym (c .before .before .before .within .ensures) ∙ ap placeOf (c .before .next .given .1),
+      sym (c .before .before .before .within .ensures) ∙ ap reachOf (c .before .next .given .1),
     )
 
 pub long-part-spec : {M : Type 1} → statement M

@@ -1,15 +1,15 @@
 -- `table_map::part::short_part` meets its contract. `a` is where what the definition calls so is known. Assumes nothing.
 use mathlib.Core.Path.{sym, ap, _∙_}
-use Rattle.table_map.specs.Reads.{placeOf}
+use Rattle.wire.specs.Parts.{reachOf}
+use Rattle.wire.proofs.Parts.{within-ok}
 use Rattle.table_map.specs.Parts.{shortPart}
-use Rattle.table_map.proofs.Chains.{within-ok}
 use native.Mathlib.Omega.{arith}
 use borrow.Author.Needs.{needs}
 use Rattle.table_map.proofs.part.short_part.Statement.{statement}
 use Rattle.table_map.proofs.part.short_part.Tie as tie
 use Rattle.table_map.proofs.part.short_part.Reads as reads
 use Rattle.table_map.proofs.part.short_part.Lts as lts
-use Rattle.table_map.proofs.part.within.Reads as within-reads
+use Rattle.wire.proofs.within.Reads as within-reads
 
 within-requires : tie.Need-within-requires
 within-requires c κs = search needs
@@ -22,10 +22,10 @@ enum-known-r c = search needs
 
 returns : tie.Need-returns
 unfolding shortPart
-returns c = rw (sym (c .before .before .before .within .ensures) ∙ ap placeOf (c .before .r .given .1))
+returns c = rw (sym (c .before .before .before .within .ensures) ∙ ap reachOf (c .before .r .given .1))
 
 shared-slice-read-len : tie.Need-shared-slice-read-len
-shared-slice-read-len c = omega (arith, within-ok _ _ _ _ _ (sym (c .before .before .before .before .within .ensures) ∙ ap placeOf (c .before .before .next .given .1)))
+shared-slice-read-len c = omega (arith, within-ok _ _ _ _ _ (sym (c .before .before .before .before .within .ensures) ∙ ap reachOf (c .before .before .next .given .1)))
 
 cast-len : tie.Need-cast-len
 cast-len c = omega (arith, c .shared-slice-known2 .given (c .before .before .before .before .before .before .args .at))
@@ -44,8 +44,8 @@ unfolding shortPart
 returns-2 c =
     let a = c .before .before .before .before .before .before in
     rw (
-      sym (a .before .before .within .ensures) ∙ ap placeOf (a .next .given .1),
-      sym (c .before .before .before .within2 .ensures) ∙ ap placeOf (c .before .r2 .given .1),
+      sym (a .before .before .within .ensures) ∙ ap reachOf (a .next .given .1),
+      sym (c .before .before .before .within2 .ensures) ∙ ap reachOf (c .before .r2 .given .1),
     )
 
 returns-3 : tie.Need-returns-3
@@ -53,8 +53,8 @@ unfolding shortPart
 returns-3 c =
     let a = c .before .before .before .before .before .before in
     rw (
-      sym (a .before .before .within .ensures) ∙ ap placeOf (a .next .given .1),
-      sym (c .before .before .before .within2 .ensures) ∙ ap placeOf (c .before .next2 .given .1),
+      sym (a .before .before .within .ensures) ∙ ap reachOf (a .next .given .1),
+      sym (c .before .before .before .within2 .ensures) ∙ ap reachOf (c .before .next2 .given .1),
     )
 
 pub short-part-spec : {M : Type 1} → statement M

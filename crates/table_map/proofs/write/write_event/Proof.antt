@@ -2,7 +2,7 @@
 use native.Mathlib.Omega.{arith}
 use mathlib.Core.Path.{_≡_, refl, sym, ap, _∙_}
 use Rattle.wire.specs.Outcome.{ok}
-use Rattle.value.specs.Storing.{sizeSaid}
+use Rattle.wire.specs.Stored.{sizeSaid}
 use Rattle.table_map.specs.Writes.{Parts, parts, eventSize}
 use Rattle.table_map.proofs.Puts.{taken, sized, not-sized, no-room-for, event-put, event-length, column-length, head-length, after-put, then}
 use borrow.Author.Needs.{needs}

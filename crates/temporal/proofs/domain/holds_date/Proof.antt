@@ -1,5 +1,5 @@
 -- `temporal::domain::holds_date` meets its contract. Assumes nothing.
-use Rattle.temporal.specs.Kinds.{sort, dateIn}
+use Rattle.temporal.specs.Kinds.{tag, dateIn}
 use Rattle.temporal.specs.Domains.{dateDomain}
 use Rattle.temporal.proofs.Sorts.{not-on}
 use borrow.Author.Needs.{needs}
@@ -19,7 +19,7 @@ in-day-requires : tie.Need-in-day-requires
 in-day-requires c κs = search needs
 
 returns-2 : tie.Need-returns-2
-unfolding dateDomain sort dateIn
+unfolding dateDomain tag dateIn
 returns-2 c = rw (c .before .before .temporal .given .1) (c .in-day .ensures)
 
 pub holds-date-spec : {M : Type 1} → statement M

@@ -1,6 +1,6 @@
 -- `temporal::domain::holds_moment` meets its contract. Assumes nothing.
 use borrow.Author.Tests.{not-true, not-false}
-use Rattle.temporal.specs.Kinds.{sort, momentIn}
+use Rattle.temporal.specs.Kinds.{tag, momentIn}
 use Rattle.temporal.specs.Domains.{momentDomain}
 use Rattle.temporal.proofs.Sorts.{not-at}
 use borrow.Author.Needs.{needs}
@@ -22,7 +22,7 @@ in-day-requires : tie.Need-in-day-requires
 in-day-requires c κs = search needs
 
 returns-2 : tie.Need-returns-2
-unfolding momentDomain sort momentIn
+unfolding momentDomain tag momentIn
 returns-2 c = rw (c .before .before .before .temporal .given .1, ← c .before .in-day .ensures, not-true (c .before .in-day .result) (c .if1 .taken))
 
 cast-hour : tie.Need-cast-hour
@@ -32,7 +32,7 @@ in-clock-requires : tie.Need-in-clock-requires
 in-clock-requires c κs = search needs
 
 returns-3 : tie.Need-returns-3
-unfolding momentDomain sort momentIn
+unfolding momentDomain tag momentIn
 returns-3 c = rw (
   c .before .before .before .before .before .before .temporal .given .1,
   ← c .before .before .before .before .in-day .ensures,
@@ -45,7 +45,7 @@ in-units-requires : tie.Need-in-units-requires
 in-units-requires c κs = search needs
 
 returns-4 : tie.Need-returns-4
-unfolding momentDomain sort momentIn
+unfolding momentDomain tag momentIn
 returns-4 c = rw (
   c .before .before .before .before .before .before .before .temporal .given .1,
   ← c .before .before .before .before .before .in-day .ensures,

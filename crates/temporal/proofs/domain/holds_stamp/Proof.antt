@@ -1,7 +1,7 @@
 -- `temporal::domain::holds_stamp` meets its contract. Assumes nothing.
 use native.Mathlib.Omega.{arith}
 use borrow.Author.Tests.{le-leb, lt-leb}
-use Rattle.temporal.specs.Kinds.{sort, stampIn}
+use Rattle.temporal.specs.Kinds.{tag, stampIn}
 use Rattle.temporal.specs.Domains.{stampDomain}
 use Rattle.temporal.proofs.Sorts.{not-since}
 use borrow.Author.Needs.{needs}
@@ -18,7 +18,7 @@ returns : tie.Need-returns
 returns c = rw (not-since (c .before .args .temporal) (c .match .keys2) .0)
 
 returns-2 : tie.Need-returns-2
-unfolding stampDomain sort stampIn
+unfolding stampDomain tag stampIn
 returns-2 c = let g = c .before .before .before .temporal .given in
     let s = le-leb (g .0 .0 .seconds) 4294967295 (omega (arith, c .before .before .known-told .given)) in
     rw (g .1, s, lt-leb _ _ (c .if1 .taken))
@@ -27,7 +27,7 @@ in-units-requires : tie.Need-in-units-requires
 in-units-requires c κs = search needs
 
 returns-3 : tie.Need-returns-3
-unfolding stampDomain sort stampIn
+unfolding stampDomain tag stampIn
 returns-3 c = let g = c .before .before .before .before .temporal .given in
     let s = le-leb (g .0 .0 .seconds) 4294967295 (omega (arith, c .before .before .before .known-told .given)) in
     rw (g .1, s, le-leb _ _ (c .before .if1 .left)) (c .in-units .ensures)

@@ -2,7 +2,7 @@
 use mathlib.Core.Path.{sym, _∙_}
 use mathlib.Core.Bool.{and-true, and-false}
 use borrow.Author.Tests.{not-true, not-false}
-use Rattle.temporal.specs.Kinds.{sort, timeIn}
+use Rattle.temporal.specs.Kinds.{tag, timeIn}
 use Rattle.temporal.specs.Domains.{timeDomain, inUnits}
 use Rattle.temporal.proofs.Sorts.{not-lasts}
 use borrow.Author.Needs.{needs}
@@ -24,14 +24,14 @@ in-clock-requires : tie.Need-in-clock-requires
 in-clock-requires c κs = search needs
 
 returns-2 : tie.Need-returns-2
-unfolding timeDomain sort timeIn
+unfolding timeDomain tag timeIn
 returns-2 c = rw (c .before .before .before .temporal .given .1, ← c .before .in-clock .ensures, not-true (c .before .in-clock .result) (c .if1 .taken))
 
 negative-zero-requires : tie.Need-negative-zero-requires
 negative-zero-requires c κs = search needs
 
 returns-3 : tie.Need-returns-3
-unfolding timeDomain sort timeIn
+unfolding timeDomain tag timeIn
 returns-3 c = let g = c .before .before .before .before .before .temporal .given in
     rw (
       g .1,
@@ -45,7 +45,7 @@ in-units-requires : tie.Need-in-units-requires
 in-units-requires c κs = search needs
 
 returns-4 : tie.Need-returns-4
-unfolding timeDomain sort timeIn
+unfolding timeDomain tag timeIn
 returns-4 c = let g = c .before .before .before .before .before .before .temporal .given in
     rw (
       g .1,

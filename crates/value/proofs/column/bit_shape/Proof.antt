@@ -10,7 +10,7 @@ use Rattle.value.proofs.column.bit_shape.Statement.{statement}
 use Rattle.value.proofs.column.bit_shape.Tie as tie
 use Rattle.value.proofs.column.bit_shape.Reads as reads
 use Rattle.value.proofs.column.bit_shape.Lts as lts
-use Rattle.value.proofs.column.wide.Reads as wide-reads
+use Rattle.wire.proofs.wide.Reads as wide-reads
 
 returns : tie.Need-returns
 unfolding shapeIn
@@ -43,8 +43,8 @@ returns-3 c = let a = c .before .before .before .before .before .args in
     let g : 64 < 8 * a .m1 + a .m0 = omega arith in
     rw (le-leb _ _ h, le-leb _ _ l, lt-leb _ _ g) refl
 
-add-t7 : tie.Need-add-t7
-add-t7 c = search needs
+add-t9 : tie.Need-add-t9
+add-t9 c = search needs
 
 returns-4 : tie.Need-returns-4
 unfolding shapeIn
@@ -65,5 +65,5 @@ bit-shape-spec =
     add-bits
     returns-2
     returns-3
-    add-t7
+    add-t9
     returns-4)

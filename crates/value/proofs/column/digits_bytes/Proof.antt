@@ -9,7 +9,7 @@ use Rattle.value.proofs.column.digits_bytes.Tie as tie
 use Rattle.value.proofs.column.digits_bytes.Reads as reads
 use Rattle.value.proofs.column.digits_bytes.Lts as lts
 use Rattle.value.proofs.column.leftover_bytes.Reads as leftover-bytes-reads
-use Rattle.value.proofs.column.wide.Reads as wide-reads
+use Rattle.wire.proofs.wide.Reads as wide-reads
 
 wide-requires : tie.Need-wide-requires
 wide-requires c κs = search needs
@@ -17,21 +17,18 @@ wide-requires c κs = search needs
 mul-result : tie.Need-mul-result
 mul-result c = search needs
 
-wide-requires-2 : tie.Need-wide-requires-2
-wide-requires-2 c κs = search needs
-
 leftover-bytes-requires : tie.Need-leftover-bytes-requires
 leftover-bytes-requires c κs = search needs
 
 add-result : tie.Need-add-result
-add-result c = let d = c .before .wide2 .result in
+add-result c = let d = c .before .wide .result in
     let e : c .leftover-bytes .result ≡ (d % 9 + 1) / 2 = c .leftover-bytes .ensures ∙ leftover-rule (d % 9) (omega arith) in
     omega arith
 
 returns : tie.Need-returns
-returns c = rw (c .leftover-bytes .ensures, c .before .before .wide .ensures, c .before .wide2 .ensures) refl
+returns c = rw (c .leftover-bytes .ensures, c .before .wide .ensures) refl
 
 pub digits-bytes-spec : {M : Type 1} → statement M
 digits-bytes-spec =
     tie.close
-    (tie.spec wide-requires mul-result wide-requires-2 leftover-bytes-requires add-result returns)
+    (tie.spec wide-requires mul-result leftover-bytes-requires add-result returns)

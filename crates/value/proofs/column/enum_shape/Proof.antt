@@ -6,7 +6,7 @@ use Rattle.value.proofs.column.enum_shape.Statement.{statement}
 use Rattle.value.proofs.column.enum_shape.Tie as tie
 use Rattle.value.proofs.column.enum_shape.Reads as reads
 use Rattle.value.proofs.column.enum_shape.Lts as lts
-use Rattle.value.proofs.column.wide.Reads as wide-reads
+use Rattle.wire.proofs.wide.Reads as wide-reads
 
 returns : tie.Need-returns
 unfolding shapeIn

@@ -14,9 +14,9 @@ use Rattle.value.proofs.column.enum_shape.Reads as enum-shape-reads
 use Rattle.value.proofs.column.if_digits.Reads as if-digits-reads
 use Rattle.value.proofs.column.if_just.Reads as if-just-reads
 use Rattle.value.proofs.column.integer_shape.Reads as integer-shape-reads
+use Rattle.value.proofs.column.declared_in.Reads as declared-in-reads
 use Rattle.value.proofs.column.length_bytes.Reads as length-bytes-reads
 use Rattle.value.proofs.column.set_shape.Reads as set-shape-reads
-use Rattle.value.proofs.column.wide.Reads as wide-reads
 
 enum-known-family : tie.Need-enum-known-family
 enum-known-family c = search needs
@@ -90,17 +90,8 @@ if-digits-requires-3 c κs = search needs
 enum-told-11 : tie.Need-enum-told-11
 enum-told-11 c = search needs
 
-wide-requires : tie.Need-wide-requires
-wide-requires c κs = search needs
-
-wide-requires-2 : tie.Need-wide-requires-2
-wide-requires-2 c κs = search needs
-
-mul-length-bytes : tie.Need-mul-length-bytes
-mul-length-bytes c = search needs
-
-add-length-bytes : tie.Need-add-length-bytes
-add-length-bytes c = search needs
+declared-in-requires : tie.Need-declared-in-requires
+declared-in-requires c κs = search needs
 
 length-bytes-requires : tie.Need-length-bytes-requires
 length-bytes-requires c κs = search needs
@@ -196,7 +187,7 @@ returns-11 c = rw (c .before .enum-told10 .given .1) (c .if-digits3 .ensures)
 
 returns-12 : tie.Need-returns-12
 unfolding shapeIn
-returns-12 c = rw (c .before .before .before .enum-told11 .given .1, c .length-bytes .ensures, c .before .before .wide .ensures, c .before .wide2 .ensures) refl
+returns-12 c = rw (c .before .before .enum-told11 .given .1, c .length-bytes .ensures, c .before .declared-in .ensures) refl
 
 returns-13 : tie.Need-returns-13
 unfolding shapeIn
@@ -258,10 +249,7 @@ shape-in-spec =
     enum-told-10
     if-digits-requires-3
     enum-told-11
-    wide-requires
-    wide-requires-2
-    mul-length-bytes
-    add-length-bytes
+    declared-in-requires
     length-bytes-requires
     enum-told-12
     char-shape-requires

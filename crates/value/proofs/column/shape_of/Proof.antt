@@ -8,7 +8,7 @@ use Rattle.value.proofs.column.shape_of.Statement.{statement}
 use Rattle.value.proofs.column.shape_of.Tie as tie
 use Rattle.value.proofs.column.shape_of.Reads as reads
 use Rattle.value.proofs.column.shape_of.Lts as lts
-use Rattle.value.proofs.column.family_of.Reads as family-of-reads
+use Rattle.value.proofs.types.family_of.Reads as family-of-reads
 use Rattle.value.proofs.column.shape_in.Reads as shape-in-reads
 
 returns : tie.Need-returns

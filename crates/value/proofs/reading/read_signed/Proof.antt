@@ -20,9 +20,8 @@ use Rattle.value.proofs.reading.read_signed.Reads as reads
 use Rattle.value.proofs.reading.read_signed.Lts as lts
 use Rattle.value.proofs.reading.rest.Reads as rest-reads
 use Rattle.value.proofs.reading.short.Reads as short-reads
-use Rattle.value.proofs.signed.signed.Reads as signed-reads
-use Rattle.value.proofs.signed.top.Reads as top-reads
 use Rattle.wire.proofs.read_le.Reads as read-le-reads
+use Rattle.wire.proofs.signed_of.Reads as signed-of-reads
 
 rest-requires : tie.Need-rest-requires
 rest-requires c κs = search needs
@@ -41,18 +40,16 @@ add-next c = search needs
 read-le-requires : tie.Need-read-le-requires
 read-le-requires c κs = search needs
 
-top-requires : tie.Need-top-requires
-top-requires c κs = search needs
-
-signed-requires : tie.Need-signed-requires
-signed-requires c κs = let b = rw (narrow (c .before .before .before .before .before .args .k) (omega arith)) at (c .before .read-le .ensures .1) in omega (arith, c .top .ensures)
+signed-of-requires : tie.Need-signed-of-requires
+signed-of-requires c κs = search needs
 
 returns-2 : tie.Need-returns-2
 unfolding isTaken need decode fault placed
-returns-2 c = let a = c .before .before .before .before .before .before .args in
-    let e = c .before .before .read-le .ensures .0 ∙ ap (λ (j : ℕ). leValue (take j (drop (a .at) (a .s .now)))) (narrow (a .k) (omega arith)) in
-    let z = toZ-ofZ w64 (c .signed .result) (record { sfits = c .signed .ok }) ∙ c .signed .ensures ∙ ap (λ (m : ℕ). signedOf m (c .before .before .read-le .result)) (c .before .top .ensures) ∙ ap (signedOf (256 ^ a .k)) e in
-    got (Signed (a .k)) (a .place) (a .s .now) (a .at) (a .k) _ _ refl refl (omega (arith, c .before .before .before .before .rest .ensures)) refl (ap Int z) refl
+returns-2 c = let a = c .before .before .before .before .before .args in
+    let n = narrow (a .k) (omega arith) in
+    let e = c .before .read-le .ensures .0 ∙ ap (λ (j : ℕ). leValue (take j (drop (a .at) (a .s .now)))) n in
+    let z = toZ-ofZ w64 (c .signed-of .result) (record { sfits = c .signed-of .ok }) ∙ c .signed-of .ensures ∙ ap (λ (j : ℕ). signedOf (256 ^ j) (c .before .read-le .result)) n ∙ ap (signedOf (256 ^ a .k)) e in
+    got (Signed (a .k)) (a .place) (a .s .now) (a .at) (a .k) _ _ refl refl (omega (arith, c .before .before .before .rest .ensures)) refl (ap Int z) refl
 
 pub read-signed-spec : {M : Type 1} → statement M
 read-signed-spec =
@@ -63,6 +60,5 @@ read-signed-spec =
     returns
     add-next
     read-le-requires
-    top-requires
-    signed-requires
+    signed-of-requires
     returns-2)

@@ -7,13 +7,13 @@ use Rattle.value.specs.declared.shape.Shape.{Shape}
 use Rattle.value.specs.declared.shape.Shape.the-variants.{Unsigned, FloatBits, DoubleBits}
 use Rattle.value.specs.Shapes.{Sized}
 use Rattle.value.specs.Storing.{isIn}
-use Rattle.value.proofs.Writers.{not-in, in-plain, unsigned-domain, float-domain, double-domain, in-year, in-signed, in-timed, in-fixed, in-counted, in-none}
+use Rattle.value.proofs.Writers.{not-in, top-narrow, in-plain, unsigned-domain, float-domain, double-domain, in-year, in-signed, in-timed, in-fixed, in-counted, in-none}
 use borrow.Author.Needs.{needs}
 use Rattle.value.proofs.storing.is_in.Statement.{statement}
 use Rattle.value.proofs.storing.is_in.Tie as tie
 use Rattle.value.proofs.storing.is_in.Reads as reads
 use Rattle.value.proofs.storing.is_in.Lts as lts
-use Rattle.value.proofs.signed.top.Reads as top-reads
+use Rattle.wire.proofs.top_of.Reads as top-of-reads
 use Rattle.value.proofs.storing.is_bytes.Reads as is-bytes-reads
 use Rattle.value.proofs.storing.is_lent.Reads as is-lent-reads
 use Rattle.value.proofs.storing.is_number.Reads as is-number-reads
@@ -29,8 +29,8 @@ returns c = let a = c .before .before .before .args in not-in (a .shape) (a .len
 enum-known-shape : tie.Need-enum-known-shape
 enum-known-shape c = search needs
 
-top-requires : tie.Need-top-requires
-top-requires c κs = subst Sized (c .before .shape .given .1) (c .before .before .before .before .before .before .pre)
+top-of-requires : tie.Need-top-of-requires
+top-of-requires c κs = search needs
 
 is-number-requires : tie.Need-is-number-requires
 is-number-requires c κs = search needs
@@ -38,17 +38,14 @@ is-number-requires c κs = search needs
 enum-known-shape-2 : tie.Need-enum-known-shape-2
 enum-known-shape-2 c = search needs
 
-top-requires-2 : tie.Need-top-requires-2
-top-requires-2 c κs = subst Sized (c .before .shape2 .given .1) (c .before .before .before .before .before .before .pre) .1
-
 is-signed-requires : tie.Need-is-signed-requires
 is-signed-requires c κs = search needs
 
 enum-told : tie.Need-enum-told
 enum-told c = search needs
 
-top-requires-3 : tie.Need-top-requires-3
-top-requires-3 c κs = search needs
+top-of-requires-2 : tie.Need-top-of-requires-2
+top-of-requires-2 c κs = search needs
 
 is-number-requires-2 : tie.Need-is-number-requires-2
 is-number-requires-2 c κs = search needs
@@ -56,8 +53,8 @@ is-number-requires-2 c κs = search needs
 enum-told-2 : tie.Need-enum-told-2
 enum-told-2 c = search needs
 
-top-requires-4 : tie.Need-top-requires-4
-top-requires-4 c κs = search needs
+top-of-requires-3 : tie.Need-top-of-requires-3
+top-of-requires-3 c κs = search needs
 
 is-number-requires-3 : tie.Need-is-number-requires-3
 is-number-requires-3 c κs = search needs
@@ -83,8 +80,8 @@ is-bytes-requires c κs = search needs
 enum-known-shape-5 : tie.Need-enum-known-shape-5
 enum-known-shape-5 c = search needs
 
-top-requires-5 : tie.Need-top-requires-5
-top-requires-5 c κs = let h : c .before .shape5 .given .0 .0 ≤ 4 = subst Sized (c .before .shape5 .given .1) (c .before .before .before .before .before .before .pre) in omega arith
+top-of-requires-4 : tie.Need-top-of-requires-4
+top-of-requires-4 c κs = search needs
 
 is-bytes-requires-2 : tie.Need-is-bytes-requires-2
 is-bytes-requires-2 c κs = search needs
@@ -96,25 +93,25 @@ returns-2 : tie.Need-returns-2
 returns-2 c = let a = c .before .before .before .before .before .before .before .before .args in
     let s = a .lent .now in
     let v = a .value in
-    c .is-number .ensures ∙ in-plain (Unsigned (c .before .before .before .shape .given .0 .0)) 2 (c .before .before .before .shape .given .0 .0) _ s v (unsigned-domain _) (c .before .top .ensures) (sym (c .before .before .before .before .before .before .is-lent .ensures) ∙ not-false _ (c .before .before .before .before .before .if1 .left)) ∙ ap (λ (sh : Shape). isIn sh s v) (sym (c .before .before .before .shape .given .1))
+    c .is-number .ensures ∙ in-plain (Unsigned (c .before .before .before .shape .given .0 .0)) 2 (c .before .before .before .shape .given .0 .0) _ s v (unsigned-domain _) (top-narrow _ _ (subst Sized (c .before .before .before .shape .given .1) (c .before .before .before .before .before .before .before .before .pre)) (c .before .top-of .ensures)) (sym (c .before .before .before .before .before .before .is-lent .ensures) ∙ not-false _ (c .before .before .before .before .before .if1 .left)) ∙ ap (λ (sh : Shape). isIn sh s v) (sym (c .before .before .before .shape .given .1))
 
 returns-3 : tie.Need-returns-3
-returns-3 c = let a = c .before .before .before .before .before .before .before .before .args in
+returns-3 c = let a = c .before .before .before .before .before .before .before .args in
     let s = a .lent .now in
     let v = a .value in
-    c .is-signed .ensures ∙ in-signed (c .before .before .before .shape2 .given .0 .0) _ s v (c .before .top2 .ensures) (sym (c .before .before .before .before .before .before .is-lent .ensures) ∙ not-false _ (c .before .before .before .before .before .if1 .left)) ∙ ap (λ (sh : Shape). isIn sh s v) (sym (c .before .before .before .shape2 .given .1))
+    c .is-signed .ensures ∙ in-signed (c .before .before .shape2 .given .0 .0) s v (subst Sized (c .before .before .shape2 .given .1) (c .before .before .before .before .before .before .before .pre) .1) (sym (c .before .before .before .before .before .is-lent .ensures) ∙ not-false _ (c .before .before .before .before .if1 .left)) ∙ ap (λ (sh : Shape). isIn sh s v) (sym (c .before .before .shape2 .given .1))
 
 returns-4 : tie.Need-returns-4
 returns-4 c = let a = c .before .before .before .before .before .before .before .args in
     let s = a .lent .now in
     let v = a .value in
-    c .is-number2 .ensures ∙ in-plain FloatBits 3 4 _ s v float-domain (c .before .top3 .ensures) (sym (c .before .before .before .before .before .is-lent .ensures) ∙ not-false _ (c .before .before .before .before .if1 .left)) ∙ ap (λ (sh : Shape). isIn sh s v) (sym (c .before .before .enum-told .given .1))
+    c .is-number2 .ensures ∙ in-plain FloatBits 3 4 _ s v float-domain (c .before .top-of2 .ensures) (sym (c .before .before .before .before .before .is-lent .ensures) ∙ not-false _ (c .before .before .before .before .if1 .left)) ∙ ap (λ (sh : Shape). isIn sh s v) (sym (c .before .before .enum-told .given .1))
 
 returns-5 : tie.Need-returns-5
 returns-5 c = let a = c .before .before .before .before .before .before .before .args in
     let s = a .lent .now in
     let v = a .value in
-    c .is-number3 .ensures ∙ in-plain DoubleBits 4 8 _ s v double-domain (c .before .top4 .ensures) (sym (c .before .before .before .before .before .is-lent .ensures) ∙ not-false _ (c .before .before .before .before .if1 .left)) ∙ ap (λ (sh : Shape). isIn sh s v) (sym (c .before .before .enum-told2 .given .1))
+    c .is-number3 .ensures ∙ in-plain DoubleBits 4 8 _ s v double-domain (c .before .top-of3 .ensures) (sym (c .before .before .before .before .before .is-lent .ensures) ∙ not-false _ (c .before .before .before .before .if1 .left)) ∙ ap (λ (sh : Shape). isIn sh s v) (sym (c .before .before .enum-told2 .given .1))
 
 returns-6 : tie.Need-returns-6
 returns-6 c = let a = c .before .before .before .before .before .before .args in
@@ -138,7 +135,8 @@ returns-9 : tie.Need-returns-9
 returns-9 c = let a = c .before .before .before .before .before .before .before .before .args in
     let s = a .lent .now in
     let v = a .value in
-    c .is-bytes2 .ensures ∙ in-counted (c .before .before .before .shape5 .given .0 .0) _ s v (c .before .top5 .ensures) (sym (c .before .before .before .before .before .before .is-lent .ensures) ∙ not-false _ (c .before .before .before .before .before .if1 .left)) ∙ ap (λ (sh : Shape). isIn sh s v) (sym (c .before .before .before .shape5 .given .1))
+    let h : c .before .before .before .shape5 .given .0 .0 ≤ 4 = subst Sized (c .before .before .before .shape5 .given .1) (c .before .before .before .before .before .before .before .before .pre) in
+    c .is-bytes2 .ensures ∙ in-counted (c .before .before .before .shape5 .given .0 .0) _ s v (top-narrow _ _ (omega (arith, h)) (c .before .top-of4 .ensures)) (sym (c .before .before .before .before .before .before .is-lent .ensures) ∙ not-false _ (c .before .before .before .before .before .if1 .left)) ∙ ap (λ (sh : Shape). isIn sh s v) (sym (c .before .before .before .shape5 .given .1))
 
 returns-10 : tie.Need-returns-10
 returns-10 c = let a = c .before .before .before .before .before .args in
@@ -153,16 +151,15 @@ is-in-spec =
     is-lent-requires
     returns
     enum-known-shape
-    top-requires
+    top-of-requires
     is-number-requires
     enum-known-shape-2
-    top-requires-2
     is-signed-requires
     enum-told
-    top-requires-3
+    top-of-requires-2
     is-number-requires-2
     enum-told-2
-    top-requires-4
+    top-of-requires-3
     is-number-requires-3
     enum-told-3
     is-number-requires-4
@@ -171,7 +168,7 @@ is-in-spec =
     enum-known-shape-4
     is-bytes-requires
     enum-known-shape-5
-    top-requires-5
+    top-of-requires-4
     is-bytes-requires-2
     enum-told-4
     returns-2

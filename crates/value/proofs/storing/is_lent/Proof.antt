@@ -6,22 +6,18 @@ use Rattle.value.proofs.storing.is_lent.Statement.{statement}
 use Rattle.value.proofs.storing.is_lent.Tie as tie
 use Rattle.value.proofs.storing.is_lent.Reads as reads
 use Rattle.value.proofs.storing.is_lent.Lts as lts
-use Rattle.value.proofs.datum.len_of.Reads as len-of-reads
-use Rattle.value.proofs.datum.start_of.Reads as start-of-reads
+use Rattle.value.proofs.datum.bytes_at.Reads as bytes-at-reads
 use Rattle.wire.proofs.has_room.Reads as has-room-reads
 
-start-of-requires : tie.Need-start-of-requires
-start-of-requires c κs = search needs
-
-len-of-requires : tie.Need-len-of-requires
-len-of-requires c κs = search needs
+bytes-at-requires : tie.Need-bytes-at-requires
+bytes-at-requires c κs = search needs
 
 has-room-requires : tie.Need-has-room-requires
 has-room-requires c κs = search needs
 
 returns : tie.Need-returns
 unfolding isLent
-returns c = c .has-room .ensures ∙ rw (c .before .before .start-of .ensures, c .before .len-of .ensures)
+returns c = c .has-room .ensures ∙ rw (c .before .bytes-at .ensures)
 
 pub is-lent-spec : {M : Type 1} → statement M
-is-lent-spec = tie.close (tie.spec start-of-requires len-of-requires has-room-requires returns)
+is-lent-spec = tie.close (tie.spec bytes-at-requires has-room-requires returns)

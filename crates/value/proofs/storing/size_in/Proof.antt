@@ -1,14 +1,15 @@
 -- `value::storing::size_in` meets its contract. Assumes nothing.
-use Prim.Native.Nat.{ℕ, _+_, _≤_}
+use Prim.Native.Nat.{_+_, _≤_}
 use mathlib.Core.Path.{_≡_, refl, sym, ap, subst, _∙_}
 use mathlib.Core.Bool.{true}
 use native.Mathlib.Omega.{arith}
 use lib.ListN.{length}
+use Rattle.wire.specs.declared.part.Part.{Part}
 use Rattle.value.specs.declared.shape.Shape.{Shape}
 use Rattle.value.specs.declared.shape.Shape.the-variants.{Unsigned, Signed, FloatBits, DoubleBits, YearByte, Timed, Fixed}
 use Rattle.value.specs.Shapes.{Sized, need, bytesOf}
 use Rattle.value.specs.Reading.{datumOf}
-use Rattle.value.specs.Storing.{isIn, lenOf, startOf}
+use Rattle.value.specs.Storing.{isIn, bytesAt}
 use Rattle.value.proofs.Writers.{lent-fits, size-at, size-counted, is-in, none-in}
 use borrow.Author.Needs.{needs}
 use Rattle.value.proofs.storing.size_in.Statement.{statement}
@@ -16,7 +17,7 @@ use Rattle.value.proofs.storing.size_in.Tie as tie
 use Rattle.value.proofs.storing.size_in.Reads as reads
 use Rattle.value.proofs.storing.size_in.Lts as lts
 use Rattle.temporal.proofs.temporal_size.Reads as temporal-size-reads
-use Rattle.value.proofs.datum.len_of.Reads as len-of-reads
+use Rattle.value.proofs.datum.bytes_at.Reads as bytes-at-reads
 
 enum-known-shape : tie.Need-enum-known-shape
 enum-known-shape c = search needs
@@ -45,14 +46,15 @@ enum-known-shape-4 c = search needs
 enum-known-shape-5 : tie.Need-enum-known-shape-5
 enum-known-shape-5 c = search needs
 
-len-of-requires : tie.Need-len-of-requires
-len-of-requires c κs = search needs
+bytes-at-requires : tie.Need-bytes-at-requires
+bytes-at-requires c κs = search needs
 
 add-result : tie.Need-add-result
-add-result c = let a = c .before .before .before .before .before .args in
-    let l : startOf (a .value) + lenOf (a .value) ≤ length (a .lent .now) = lent-fits (a .lent .now) (a .value) (is-in _ (a .lent .now) (a .value) (c .before .before .before .before .before .pre .1) .0) in
-    let h : c .before .before .shape5 .given .0 .0 ≤ 4 = subst Sized (c .before .before .shape5 .given .1) (c .before .before .before .before .before .pre .0) in
-    omega (arith, c .len-of .ensures)
+add-result c = let b = c .before .before .before .before .before .before in
+    let a = b .args in
+    let l : bytesAt (a .value) .start + bytesAt (a .value) .len ≤ length (a .lent .now) = lent-fits (a .lent .now) (a .value) (is-in _ (a .lent .now) (a .value) (b .pre .1) .0) in
+    let h : c .before .before .before .shape5 .given .0 .0 ≤ 4 = subst Sized (c .before .before .before .shape5 .given .1) (b .pre .0) in
+    omega (arith, ap (λ (p : Part). p .len) (c .before .bytes-at .ensures))
 
 enum-told-4 : tie.Need-enum-told-4
 enum-told-4 c = search needs
@@ -86,11 +88,11 @@ unfolding need
 returns-7 c = let a = c .before .before .before .before .args in size-at (a .shape) (Fixed (c .before .shape4 .given .0 .0)) _ (a .lent .now) (a .value) (c .before .shape4 .given .1) (c .before .before .before .before .pre .1) (λ b. refl)
 
 returns-8 : tie.Need-returns-8
-returns-8 c = let a = c .before .before .before .before .before .args in
-    let s = a .lent .now in
-    let v = a .value in
-    let k = c .before .before .shape5 .given .0 .0 in
-    ap (λ (n : ℕ). k + n) (c .len-of .ensures) ∙ size-counted k s v (subst (λ (sh : Shape). isIn sh s v ≡ true) (c .before .before .shape5 .given .1) (c .before .before .before .before .before .pre .1)) ∙ ap (λ (sh : Shape). length (bytesOf sh (datumOf s v))) (sym (c .before .before .shape5 .given .1))
+returns-8 c = let b = c .before .before .before .before .before .before in
+    let s = b .args .lent .now in
+    let v = b .args .value in
+    let k = c .before .before .before .shape5 .given .0 .0 in
+    ap (λ (p : Part). k + p .len) (c .before .bytes-at .ensures) ∙ size-counted k s v (subst (λ (sh : Shape). isIn sh s v ≡ true) (c .before .before .before .shape5 .given .1) (b .pre .1)) ∙ ap (λ (sh : Shape). length (bytesOf sh (datumOf s v))) (sym (c .before .before .before .shape5 .given .1))
 
 returns-9 : tie.Need-returns-9
 returns-9 c = let a = c .before .before .before .args in
@@ -109,7 +111,7 @@ size-in-spec =
     temporal-size-requires
     enum-known-shape-4
     enum-known-shape-5
-    len-of-requires
+    bytes-at-requires
     add-result
     enum-told-4
     returns

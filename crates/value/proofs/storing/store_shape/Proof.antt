@@ -6,7 +6,7 @@ use Rattle.value.specs.Shapes.{Sized}
 use Rattle.value.specs.Storing.{isIn}
 use mir.Syntax.{w64}
 use mir.ValLaws.{toZ-ofZ}
-use Rattle.value.proofs.Writers.{is-in, none-in, put-unsigned, put-signed, put-float, put-double, put-year, put-fixed, put-counted, put-timed, signed-small, year-least}
+use Rattle.value.proofs.Writers.{is-in, none-in, put-unsigned, put-signed, put-float, put-double, put-year, put-fixed, put-counted, put-timed, year-least}
 use borrow.Author.Needs.{needs}
 use Rattle.value.proofs.storing.store_shape.Statement.{statement}
 use Rattle.value.proofs.storing.store_shape.Tie as tie
@@ -16,8 +16,7 @@ use Rattle.temporal.proofs.write_temporal.Reads as write-temporal-reads
 use Rattle.value.proofs.datum.int_in.Reads as int-in-reads
 use Rattle.value.proofs.datum.number_in.Reads as number-in-reads
 use Rattle.value.proofs.datum.when_in.Reads as when-in-reads
-use Rattle.value.proofs.signed.top.Reads as top-reads
-use Rattle.value.proofs.signed.twos.Reads as twos-reads
+use Rattle.wire.proofs.twos_of.Reads as twos-of-reads
 use Rattle.value.proofs.storing.write_part.Reads as write-part-reads
 use Rattle.wire.proofs.write_le.Reads as write-le-reads
 use Rattle.wire.proofs.refuse.Reads as refuse-reads
@@ -37,14 +36,8 @@ enum-known-shape-2 c = search needs
 int-in-requires : tie.Need-int-in-requires
 int-in-requires c κs = search needs
 
-top-requires : tie.Need-top-requires
-top-requires c κs = subst Sized (c .before .before .before .shape2 .given .1) (c .before .before .before .before .before .before .before .pre .0) .1
-
-twos-requires : tie.Need-twos-requires
-twos-requires c κs = let a = c .before .before .before .before .before .before .before .before .args in
-    let h = ap (λ (sh : Shape). isIn sh (a .lent .now) (a .value)) (sym (c .before .before .before .before .shape2 .given .1)) ∙ c .before .before .before .before .before .before .before .before .pre .1 in
-    let z = toZ-ofZ w64 (c .before .int-in .result) (record { sfits = c .before .int-in .ok }) ∙ c .before .int-in .ensures in
-    rw z (signed-small (c .before .before .before .before .shape2 .given .0 .0) (c .top .result) (a .lent .now) (a .value) (c .top .ensures) h)
+twos-of-requires : tie.Need-twos-of-requires
+twos-of-requires c κs = search needs
 
 write-le-requires-2 : tie.Need-write-le-requires-2
 write-le-requires-2 c κs = search needs
@@ -122,11 +115,11 @@ same-length-2 : tie.Need-same-length-2
 same-length-2 c = search needs
 
 returns-2 : tie.Need-returns-2
-returns-2 c = let a = c .before .before .before .before .before .before .before .before .before .before .before .before .args in
+returns-2 c = let a = c .before .before .before .before .before .before .before .before .before .before .before .args in
     let s = a .lent .now in
     let v = a .value in
     let f = c .before .before .write-le2 .ensures in
-    rw (c .before .before .before .before .before .before .before .before .shape2 .given .1, put-signed (c .before .before .before .before .before .before .before .before .shape2 .given .0 .0) (c .before .before .before .before .top .result) s v (subst Sized (c .before .before .before .before .before .before .before .before .shape2 .given .1) (c .before .before .before .before .before .before .before .before .before .before .before .before .pre .0) .1) (c .before .before .before .before .top .ensures), ← toZ-ofZ w64 (c .before .before .before .before .before .int-in .result) (record { sfits = c .before .before .before .before .before .int-in .ok }) ∙ c .before .before .before .before .before .int-in .ensures, ← c .before .before .before .twos .ensures) (f .0, f .1)
+    rw (c .before .before .before .before .before .before .before .shape2 .given .1, put-signed (c .before .before .before .before .before .before .before .shape2 .given .0 .0) s v (subst Sized (c .before .before .before .before .before .before .before .shape2 .given .1) (c .before .before .before .before .before .before .before .before .before .before .before .pre .0) .1), ← toZ-ofZ w64 (c .before .before .before .before .int-in .result) (record { sfits = c .before .before .before .before .int-in .ok }) ∙ c .before .before .before .before .int-in .ensures, ← c .before .before .before .twos-of .ensures) (f .0, f .1)
 
 same-length-3 : tie.Need-same-length-3
 same-length-3 c = search needs
@@ -202,8 +195,7 @@ store-shape-spec =
     write-le-requires
     enum-known-shape-2
     int-in-requires
-    top-requires
-    twos-requires
+    twos-of-requires
     write-le-requires-2
     enum-told
     number-in-requires-2

@@ -21,13 +21,13 @@ use Rattle.value_parts.proofs.made.part_16.Reads as part-16-reads
 use Rattle.value_parts.proofs.made.part_32.Reads as part-32-reads
 use Rattle.value_parts.proofs.made.stamp_of.Reads as stamp-of-reads
 use Rattle.value_parts.proofs.made.time_of.Reads as time-of-reads
-use Rattle.value_parts.proofs.twos.signed.Reads as signed-reads
+use Rattle.wire.proofs.signed_of.Reads as signed-of-reads
 
 part-requires : tie.Need-part-requires
 part-requires c κs = search needs
 
-signed-requires : tie.Need-signed-requires
-signed-requires c κs = search needs
+signed-of-requires : tie.Need-signed-of-requires
+signed-of-requires c κs = search needs
 
 part-requires-2 : tie.Need-part-requires-2
 part-requires-2 c κs = search needs
@@ -65,7 +65,7 @@ part-requires-5 c κs = search needs
 
 returns : tie.Need-returns
 unfolding made
-returns c = rw (c .before .before .match .keys1) (ap Int (toZ-ofZ w64 (c .signed .result) (record { sfits = c .signed .ok }) ∙ c .signed .ensures ∙ ap (signedOf (2 ^ 64)) (c .before .part .ensures)))
+returns c = rw (c .before .before .match .keys1) (ap Int (toZ-ofZ w64 (c .signed-of .result) (record { sfits = c .signed-of .ok }) ∙ c .signed-of .ensures ∙ ap (signedOf (2 ^ 64)) (c .before .part .ensures)))
 
 returns-2 : tie.Need-returns-2
 unfolding made
@@ -112,7 +112,7 @@ make-value-spec =
     tie.close
     (tie.spec
     part-requires
-    signed-requires
+    signed-of-requires
     part-requires-2
     part-32-requires
     part-requires-3

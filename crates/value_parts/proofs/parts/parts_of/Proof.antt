@@ -15,7 +15,7 @@ use Rattle.value_parts.proofs.parts.parts_of.Reads as reads
 use Rattle.value_parts.proofs.parts.parts_of.Lts as lts
 use Rattle.value_parts.proofs.parts.one_part.Reads as one-part-reads
 use Rattle.value_parts.proofs.parts.temporal_parts.Reads as temporal-parts-reads
-use Rattle.value_parts.proofs.twos.twos.Reads as twos-reads
+use Rattle.wire.proofs.twos_of.Reads as twos-of-reads
 
 enum-told : tie.Need-enum-told
 enum-told c = search needs
@@ -23,8 +23,8 @@ enum-told c = search needs
 enum-known-value : tie.Need-enum-known-value
 enum-known-value c = search needs
 
-twos-requires : tie.Need-twos-requires
-twos-requires c κs = search needs
+twos-of-requires : tie.Need-twos-of-requires
+twos-of-requires c κs = search needs
 
 one-part-requires : tie.Need-one-part-requires
 one-part-requires c κs = search needs
@@ -74,7 +74,7 @@ returns c = (rw (c .enum-told .given .1), rw (c .enum-told .given .1) held-null)
 
 returns-2 : tie.Need-returns-2
 unfolding partsOf
-returns-2 c = (rw (c .before .before .before .value .given .1) (c .one-part .ensures ∙ ap (λ (n : ℕ). padded 7 (n ∷ [])) (c .before .twos .ensures ∙ ap (twosOf (2 ^ 64)) (toZ-ofZ w64 (c .before .before .before .value .given .0 .0) (record { sfits = c .before .before .known-told .given .0 .1 })))), rw (c .before .before .before .value .given .1) (held-int (c .before .before .before .value .given .0 .0) (record { sfits = c .before .before .known-told .given .0 .1 })))
+returns-2 c = (rw (c .before .before .before .value .given .1) (c .one-part .ensures ∙ ap (λ (n : ℕ). padded 7 (n ∷ [])) (c .before .twos-of .ensures ∙ ap (twosOf (2 ^ 64)) (toZ-ofZ w64 (c .before .before .before .value .given .0 .0) (record { sfits = c .before .before .known-told .given .0 .1 })))), rw (c .before .before .before .value .given .1) (held-int (c .before .before .before .value .given .0 .0) (record { sfits = c .before .before .known-told .given .0 .1 })))
 
 returns-3 : tie.Need-returns-3
 unfolding partsOf
@@ -98,7 +98,7 @@ returns-7 c = rw (c .before .before .value6 .given .1) (c .temporal-parts .ensur
 
 returns-8 : tie.Need-returns-8
 unfolding padded partsOf
-returns-8 c = (rw (c .before .value7 .given .1), rw (c .before .value7 .given .1) (held-bytes (c .before .value7 .given .0 .0) (c .before .value7 .given .0 .1 .0) (omega (arith, c .known-told7 .given)) (omega (arith, c .known-told7 .given))))
+returns-8 c = (rw (c .before .value7 .given .1), rw (c .before .value7 .given .1) (held-bytes (c .before .value7 .given .0 .0) (omega (arith, c .known-told7 .given)) (omega (arith, c .known-told7 .given))))
 
 pub parts-of-spec : {M : Type 1} → statement M
 parts-of-spec =
@@ -106,7 +106,7 @@ parts-of-spec =
     (tie.spec
     enum-told
     enum-known-value
-    twos-requires
+    twos-of-requires
     one-part-requires
     enum-known-value-2
     one-part-requires-2

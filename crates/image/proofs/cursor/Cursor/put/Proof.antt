@@ -2,6 +2,7 @@
 use mathlib.Core.Path.{refl, sym, ap, _∙_}
 use native.Mathlib.Omega.{arith}
 use Rattle.wire.specs.Outcome.{refused}
+use Rattle.record.proofs.Valid.{valid-few}
 use Rattle.image.specs.Split.{headTold}
 use Rattle.image.specs.Puts.{putFrom}
 use Rattle.image.proofs.Heads.{head-tested, nulls-tested}
@@ -45,7 +46,7 @@ put-inner-requires : tie.Need-put-inner-requires
 put-inner-requires c κs = let a = c .before .before .before .before .before .before .before .before .before .before .before .before .args in
     let q = sym (c .before .before .before .before .before .before .read-head-nulls .ensures) ∙ ap headTold (c .before .before .before .before .head .given .1) in
     let t = head-tested (a .profile .now) (a .presence .now) (nulls-tested (a .profile .now) (a .presence .now) (a .nulls .now) q .0) in
-    record { count = t .columns; few = omega (arith, t .columns, c .before .before .before .before .before .before .before .before .before .before .before .shared-slice-known .given 4); column = omega arith; rank = c .before .count-bits .ensures }
+    record { count = t .columns; few = omega (arith, t .columns, valid-few (a .profile .now) (λ i. omega (arith, c .before .before .before .before .before .before .before .before .before .before .before .shared-slice-known .given i)) (t .valid)); column = omega arith; rank = c .before .count-bits .ensures }
 
 same-length : tie.Need-same-length
 same-length c = search needs

@@ -2,6 +2,7 @@
 use mathlib.Core.Path.{sym, ap, _∙_}
 use native.Mathlib.Omega.{arith}
 use Rattle.wire.proofs.Rules.{tests}
+use Rattle.record.proofs.Valid.{valid-few}
 use Rattle.image.specs.Split.{headTold, stepFrom}
 use Rattle.image.proofs.Heads.{head-tested}
 use Rattle.image.proofs.Steps.{step-goes}
@@ -13,7 +14,7 @@ use Rattle.image.proofs.cursor.Cursor.step.Lts as lts
 use Rattle.image.proofs.cursor.read_head.Reads as read-head-reads
 use Rattle.image.proofs.presence.count_bits.Reads as count-bits-reads
 use Rattle.image.proofs.step.step_inner.Reads as step-inner-reads
-use Rattle.image.proofs.step.without_rank.Reads as without-rank-reads
+use Rattle.image.proofs.step.without_bit.Reads as without-bit-reads
 use Rattle.wire.proofs.refuse.Reads as refuse-reads
 
 read-head-requires : tie.Need-read-head-requires
@@ -56,14 +57,14 @@ count-bits-requires c κs = search needs
 step-inner-requires : tie.Need-step-inner-requires
 step-inner-requires c κs = let a = c .before .before .before .before .before .before .before .before .before .before .before .before .args in
     let t = head-tested (a .profile .now) (a .presence .now) (sym (c .before .before .before .before .before .before .before .before .read-head .ensures) ∙ ap headTold (c .before .before .before .before .before .before .head .given .1)) in
-    record { count = t .columns; few = omega (arith, t .columns, c .before .before .before .before .before .before .before .before .before .before .before .shared-slice-known .given 4); column = omega arith; rank = c .count-bits .ensures }
+    record { count = t .columns; few = omega (arith, t .columns, valid-few (a .profile .now) (λ i. omega (arith, c .before .before .before .before .before .before .before .before .before .before .before .shared-slice-known .given i)) (t .valid)); column = omega arith; rank = c .count-bits .ensures }
 
-without-rank-requires : tie.Need-without-rank-requires
-without-rank-requires c κs = search needs
+without-bit-requires : tie.Need-without-bit-requires
+without-bit-requires c κs = search needs
 
 returns-5 : tie.Need-returns-5
 returns-5 c = let a = c .before .before .before .before .before .before .before .before .before .before .before .before .before .before .args in
-    c .without-rank .ensures ∙ c .before .step-inner .ensures .0
+    c .without-bit .ensures ∙ c .before .step-inner .ensures .0
     ∙ sym (step-goes (a .profile .now) (a .presence .now) (a .image .now) (a .self) (sym (c .before .before .before .before .before .before .before .before .before .before .read-head .ensures) ∙ ap headTold (c .before .before .before .before .before .before .before .before .head .given .1)) (omega arith) (omega arith) (omega arith))
 
 pub step-spec : {M : Type 1} → statement M
@@ -82,5 +83,5 @@ step-spec =
     returns-4
     count-bits-requires
     step-inner-requires
-    without-rank-requires
+    without-bit-requires
     returns-5)

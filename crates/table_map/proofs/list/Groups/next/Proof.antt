@@ -1,8 +1,8 @@
 -- `table_map::list::Groups::next` meets its contract. Assumes nothing.
 use mathlib.Core.Path.{sym, ap, _∙_}
 use Rattle.wire.specs.Packed.{packedOf}
+use Rattle.wire.specs.Parts.{reachOf}
 use Rattle.table_map.specs.Lists.{groupItem}
-use Rattle.table_map.specs.Reads.{placeOf}
 use Rattle.table_map.proofs.Steps.{step-end, step-else}
 use Rattle.table_map.proofs.Items.{group-early}
 use borrow.Author.Needs.{needs}
@@ -41,7 +41,7 @@ returns-2 c =
     rw (
       step-else groupItem group-early _ _ (a .before .before .before .if1 .left),
       sym (a .before .before .read-packed .ensures) ∙ ap packedOf (a .count .given .1),
-      sym (c .before .before .before .skip-strings .ensures) ∙ ap placeOf (c .before .next .given .1),
+      sym (c .before .before .before .skip-strings .ensures) ∙ ap reachOf (c .before .next .given .1),
     )
 
 returns-3 : tie.Need-returns-3
@@ -51,7 +51,7 @@ returns-3 c =
     rw (
       step-else groupItem group-early _ _ (a .before .before .before .if1 .left),
       sym (a .before .before .read-packed .ensures) ∙ ap packedOf (a .count .given .1),
-      sym (c .before .before .before .skip-strings .ensures) ∙ ap placeOf (c .before .r .given .1),
+      sym (c .before .before .before .skip-strings .ensures) ∙ ap reachOf (c .before .r .given .1),
     )
 
 returns-4 : tie.Need-returns-4

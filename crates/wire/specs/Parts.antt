@@ -1,0 +1,30 @@
+-- Parts of the lent bytes. Assumes nothing.
+use Prim.Native.Nat.{ℕ, _+_}
+use mathlib.Core.List.{List, []}
+use mathlib.Core.Bool.{cond}
+use lib.ListN.{length, take, drop}
+use lib.Dec.{leb}
+use Rattle.wire.specs.Outcome.{Outcome, ok, refused, refuse}
+use Rattle.wire.specs.declared.part.Part.{Part}
+use Rattle.wire.specs.declared.part.Reach.{Reach}
+use Rattle.wire.specs.declared.part.Reach.the-variants.{At, Refused}
+
+abbrev pub part : ℕ → ℕ → Part
+part start len = record { start = start; len = len }
+
+-- the bytes of a part
+abbrev pub partOf : List ℕ → Part → List ℕ
+partOf s p = take (p .len) (drop (p .start) s)
+
+-- the same, and none where it runs past the bytes
+abbrev pub lentPart : List ℕ → Part → List ℕ
+lentPart s p = cond (leb (p .start + p .len) (length s)) (partOf s p) []
+
+-- n bytes from `at` on: the place after them, or refusal 1 at `place` where they end early
+unfoldable pub within : List ℕ → ℕ → ℕ → ℕ → Outcome ℕ
+within s at n place = cond (leb (at + n) (length s)) (ok (at + n)) (refuse 1 place)
+
+-- what the answer of `within` says
+abbrev pub reachOf : Reach → Outcome ℕ
+reachOf (At next) = ok next
+reachOf (Refused r) = refused r
