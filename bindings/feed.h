@@ -1,5 +1,9 @@
 /*
- * feed.h: the calls of libfeed_abi.a, which reads MySQL's table map event and row images, and writes row images.
+ * feed.h: the calls of libfeed_abi.a, which reads MySQL's table map event, rows events and row images, and writes row images.
+ *
+ * An event is lent WITHOUT its header of 19 bytes and WITHOUT its checksum (4 bytes at its end, if the format description event says that
+ * the log has checksums). No call can tell a checksum from rows: left on, it is read as rows. Under one TINYINT column, a rows event with
+ * the row 5 and behind it the checksum d2 41 9c 07 is accepted, with three rows: 5, 65 and 7.
  *
  * The library is for x86-64 Linux. docs/ABI.md tells the calls in full; this file has what is needed beside the code.
  *
@@ -55,12 +59,16 @@ enum {
     FEED_UNKNOWN_FIELD = 6,    /* an optional field of unknown type; place: its type byte */
     FEED_BAD_FIELD = 7,        /* contents of an optional field break a rule; place: its type byte, or the repeated key */
     FEED_NO_ROOM = 8,          /* a lent buffer is too small; place: 0 */
-    FEED_IMAGE_SHORT = 9,      /* the image ends early; place: the column, or 0 in the null bits */
+    FEED_IMAGE_SHORT = 9,      /* the image ends early, or bytes are left over where no column is present; place: the column, 0 in the null bits and for bytes left over;
+                                  of feed_image 0 also for an offset past the event */
     FEED_OUT_OF_RANGE = 10,    /* a part of a date or time is out of range; place: the column */
     FEED_BAD_RECORD = 11,      /* the record is not valid; place: 0 */
     FEED_BAD_BITS = 12,        /* presence or null bits have the wrong length; place: 0 */
     FEED_NOT_TAKEN = 13,       /* a value that the column cannot hold, or a number that the call does not take; place: the column, or 0 */
-    FEED_NO_COLUMN = 14        /* there is no such column; place: the column asked */
+    FEED_NO_COLUMN = 14,       /* there is no such column; place: the column asked */
+    FEED_BAD_EXTRA = 15,       /* the length of a rows event's extra data is below 2; place: where that length stands, 8 */
+    FEED_OTHER_EVENT = 16      /* a rows event of another code, another table id, or another number of columns; place: 0 for code and table id, else where the
+                                  event's column count stands */
 };
 
 /* Kinds of values, with their parts in order. feed_step answers them, feed_put takes all but FEED_END. */
@@ -91,6 +99,13 @@ enum {
 enum {
     FEED_PLACE = 0, /* every refusal */
 
+    FEED_MAP_ID = 0, /* feed_map */
+    FEED_MAP_FLAGS = 1,
+    FEED_MAP_DATABASE_START = 2,
+    FEED_MAP_DATABASE_LENGTH = 3,
+    FEED_MAP_TABLE_START = 4,
+    FEED_MAP_TABLE_LENGTH = 5,
+
     FEED_RECORD_LENGTH = 0, /* feed_check */
 
     FEED_COLUMN_TYPE = 0, /* feed_column */
@@ -109,8 +124,42 @@ enum {
     FEED_STEP_PARTS = 4, /* seven numbers from here on; those that the kind has not are 0 */
 
     FEED_NAME_START = 0, /* feed_names, feed_name */
-    FEED_NAME_LENGTH = 1
+    FEED_NAME_LENGTH = 1,
+
+    FEED_ROWS_FLAGS = 0, /* feed_rows */
+    FEED_ROWS_HAS_EXTRA = 1,
+    FEED_ROWS_EXTRA_START = 2,
+    FEED_ROWS_EXTRA_LENGTH = 3,
+    FEED_ROWS_FIRST_START = 4,
+    FEED_ROWS_FIRST_LENGTH = 5,
+    FEED_ROWS_HAS_SECOND = 6,
+    FEED_ROWS_SECOND_START = 7,
+    FEED_ROWS_SECOND_LENGTH = 8,
+    FEED_ROWS_IMAGES = 9,
+
+    FEED_IMAGE_FOUND = 0, /* feed_image */
+    FEED_IMAGE_START = 1,
+    FEED_IMAGE_LENGTH = 2,
+    FEED_IMAGE_SECOND = 3,
+    FEED_IMAGE_NEXT_OFFSET = 4,
+    FEED_IMAGE_NEXT_SECOND = 5
 };
+
+/* The codes of rows events, as an event's header has them: write, update and delete, and the same in the first edition, which MariaDB logs. */
+enum {
+    FEED_WRITE_ROWS = 30,
+    FEED_UPDATE_ROWS = 31,
+    FEED_DELETE_ROWS = 32,
+    FEED_WRITE_ROWS_V1 = 23,
+    FEED_UPDATE_ROWS_V1 = 24,
+    FEED_DELETE_ROWS_V1 = 25
+};
+
+/*
+ * Whose map it is. The event is lent as to feed_check.
+ * Answer, 6 numbers: table id, flags, and in the event start and length of the name of the database and of the name of the table.
+ */
+uint64_t feed_map(const uint8_t *event, size_t event_length, uint8_t post_header, uint64_t *out, size_t out_length);
 
 /*
  * Checks the body of a table map event (what follows the 19-byte event header, without a checksum) and writes the record that the
@@ -172,6 +221,28 @@ uint64_t feed_names(const uint8_t *event, size_t event_length, uint8_t post_head
  */
 uint64_t feed_name(const uint8_t *names, size_t names_length, const uint8_t *fallback, size_t fallback_length,
                    size_t column, uint64_t *out, size_t out_length);
+
+/*
+ * Reads the parts of a rows event under the record of its map. code is the event's type from its header, table the table id that feed_map
+ * tells of the map. event is the body WITHOUT the 19-byte header and WITHOUT the checksum: bytes left on are taken for rows (see above).
+ * Answer, 10 numbers: flags; 1 and start and length of the extra data, or three zeros; start and length of the presence bits, in updates
+ * of the images before the change; in updates 1 and start and length of the presence bits of those after it, else three zeros; and where
+ * the images begin.
+ */
+uint64_t feed_rows(uint64_t code, const uint8_t *profile, size_t profile_length, uint64_t table, const uint8_t *event, size_t event_length,
+                   uint64_t *out, size_t out_length);
+
+/*
+ * The image at a cursor (offset, second) of a rows event: where it stands, and under which presence bits. The first cursor is where the
+ * images begin, and 0. first_start to second_length are what feed_rows told; has_second and second are 0 or any other number.
+ * Answer, 6 numbers: 1, start and length of the image in the event, 1 if it stands under the second presence bits else 0, and the next
+ * cursor; or six zeros at the end. An update has whole pairs: an image under the first bits, then one under the second. An event is
+ * accepted only if the walk comes to its end: until then a refusal may follow.
+ * Read the values of an image with feed_first and feed_step, under the presence bits that it stands under.
+ */
+uint64_t feed_image(const uint8_t *profile, size_t profile_length, const uint8_t *event, size_t event_length,
+                    size_t first_start, size_t first_length, uint64_t has_second, size_t second_start, size_t second_length,
+                    size_t offset, uint64_t second, uint64_t *out, size_t out_length);
 
 #ifdef __cplusplus
 }

@@ -1,5 +1,6 @@
 /*
- * read_rows FILE: prints the tables of FILE, whose lines rows.txt explains: the columns with their types, then a line for each row.
+ * read_rows FILE: prints the tables of FILE, whose lines rows.txt explains: the columns with their types, then a line for each row, and for
+ * a rows event a line for each of its images, with the names of the columns that it has.
  * Every row is also written again from its values, and must have the bytes that it was read from, but for the spare null bits.
  */
 #include "../feed.h"
@@ -16,8 +17,12 @@ struct bytes {
     size_t length;
 };
 
-/* a checked map */
+/* a checked map, with its names, which point into the event */
 struct table {
+    struct bytes event;
+    uint64_t id;
+    const uint8_t *names;
+    size_t names_length;
     uint8_t record[FEED_RECORD_MOST];
     size_t record_length;
     size_t columns;
@@ -128,10 +133,16 @@ static void print_value(const struct value *value, const uint8_t *image)
     }
 }
 
-static void read_map(const struct bytes *event, uint8_t dialect, struct table *table)
+static void read_map(struct table *table, uint8_t dialect)
 {
     uint64_t out[FEED_OUT_NUMBERS];
+    const struct bytes *event = &table->event;
 
+    answered("feed_map", feed_map(event->at, event->length, POST_HEADER, out, FEED_OUT_NUMBERS), out);
+    table->id = out[FEED_MAP_ID];
+    answered("feed_names", feed_names(event->at, event->length, POST_HEADER, dialect, out, FEED_OUT_NUMBERS), out);
+    table->names = event->at + out[FEED_NAME_START];
+    table->names_length = (size_t)out[FEED_NAME_LENGTH];
     answered("feed_check",
              feed_check(event->at, event->length, POST_HEADER, dialect, table->record, FEED_RECORD_MOST, out, FEED_OUT_NUMBERS), out);
     table->record_length = (size_t)out[FEED_RECORD_LENGTH];
@@ -147,18 +158,37 @@ static void print_type(const struct table *table, size_t column)
     printf(" %" PRIu64 "%s", out[FEED_COLUMN_TYPE], out[FEED_COLUMN_FLAGS] & FEED_UNSIGNED ? " unsigned" : "");
 }
 
-static void print_columns(const struct bytes *event, uint8_t dialect, const struct table *table)
+static void print_part(const uint8_t *bytes, const uint64_t *part)
+{
+    printf("%.*s", (int)part[1], (const char *)bytes + part[0]);
+}
+
+static void print_name(const struct table *table, size_t column)
 {
     uint64_t out[FEED_OUT_NUMBERS];
-    const uint8_t *names;
-    size_t names_length, i;
 
-    answered("feed_names", feed_names(event->at, event->length, POST_HEADER, dialect, out, FEED_OUT_NUMBERS), out);
-    names = event->at + out[FEED_NAME_START];
-    names_length = (size_t)out[FEED_NAME_LENGTH];
+    answered("feed_name", feed_name(table->names, table->names_length, table->names, 0, column, out, FEED_OUT_NUMBERS), out);
+    print_part(table->names, out + FEED_NAME_START);
+}
+
+/* the names of database and table */
+static void print_table(const struct table *table)
+{
+    uint64_t out[FEED_OUT_NUMBERS];
+
+    answered("feed_map", feed_map(table->event.at, table->event.length, POST_HEADER, out, FEED_OUT_NUMBERS), out);
+    print_part(table->event.at, out + FEED_MAP_DATABASE_START);
+    printf(".");
+    print_part(table->event.at, out + FEED_MAP_TABLE_START);
+}
+
+static void print_columns(const struct table *table)
+{
+    size_t i;
+
     for (i = 0; i < table->columns; i++) {
-        answered("feed_name", feed_name(names, names_length, names, 0, i, out, FEED_OUT_NUMBERS), out);
-        printf("%s%.*s", i == 0 ? "" : " | ", (int)out[FEED_NAME_LENGTH], (const char *)names + out[FEED_NAME_START]);
+        printf("%s", i == 0 ? "" : " | ");
+        print_name(table, i);
         print_type(table, i);
     }
     printf("\n");
@@ -259,6 +289,58 @@ static void do_row(const struct table *table, struct row *row, int show)
     }
 }
 
+/* the image of an event, and the presence bits that it stands under */
+static void cut(struct bytes *bytes, const struct bytes *event, uint64_t start, uint64_t length)
+{
+    bytes->length = (size_t)length;
+    memcpy(bytes->at, event->at + start, bytes->length);
+}
+
+/* An image of an event: the values that it has, with their names. */
+static void print_image(const struct table *table, const struct row *row, int after)
+{
+    size_t i;
+
+    printf("  %s ", after ? "after " : "before");
+    for (i = 0; i < row->count; i++) {
+        printf("%s", i == 0 ? "" : ", ");
+        print_name(table, (size_t)row->values[i].column);
+        printf(" = ");
+        print_value(&row->values[i], row->image.at);
+    }
+    printf("\n");
+}
+
+/* A rows event: its body, without header and checksum. An insert has images after the change alone, a delete images before it alone. */
+static void do_event(const struct table *table, uint64_t code, const struct bytes *event, struct row *row)
+{
+    uint64_t rows[FEED_OUT_NUMBERS], out[FEED_OUT_NUMBERS] = {0};
+    int writes = code == FEED_WRITE_ROWS || code == FEED_WRITE_ROWS_V1;
+
+    answered("feed_rows",
+             feed_rows(code, table->record, table->record_length, table->id, event->at, event->length, rows, FEED_OUT_NUMBERS), rows);
+    printf("event %" PRIu64 " of ", code);
+    print_table(table);
+    printf("\n");
+    out[FEED_IMAGE_NEXT_OFFSET] = rows[FEED_ROWS_IMAGES];
+    for (;;) {
+        answered("feed_image",
+                 feed_image(table->record, table->record_length, event->at, event->length, (size_t)rows[FEED_ROWS_FIRST_START],
+                            (size_t)rows[FEED_ROWS_FIRST_LENGTH], rows[FEED_ROWS_HAS_SECOND], (size_t)rows[FEED_ROWS_SECOND_START],
+                            (size_t)rows[FEED_ROWS_SECOND_LENGTH], (size_t)out[FEED_IMAGE_NEXT_OFFSET], out[FEED_IMAGE_NEXT_SECOND],
+                            out, FEED_OUT_NUMBERS), out);
+        if (out[FEED_IMAGE_FOUND] == 0)
+            return;
+        cut(&row->image, event, out[FEED_IMAGE_START], out[FEED_IMAGE_LENGTH]);
+        if (out[FEED_IMAGE_SECOND])
+            cut(&row->presence, event, rows[FEED_ROWS_SECOND_START], rows[FEED_ROWS_SECOND_LENGTH]);
+        else
+            cut(&row->presence, event, rows[FEED_ROWS_FIRST_START], rows[FEED_ROWS_FIRST_LENGTH]);
+        read_row(table, row);
+        print_image(table, row, writes || out[FEED_IMAGE_SECOND] != 0);
+    }
+}
+
 static uint8_t dialect_of(const char *server)
 {
     if (server != NULL && strcmp(server, "mysql") == 0)
@@ -292,9 +374,9 @@ int main(int argc, char **argv)
         if (strcmp(word, "server") == 0) {
             dialect = dialect_of(strtok(NULL, " \n"));
         } else if (strcmp(word, "map") == 0) {
-            from_hex(strtok(NULL, " \n"), &event);
-            read_map(&event, dialect, &table);
-            print_columns(&event, dialect, &table);
+            from_hex(strtok(NULL, " \n"), &table.event);
+            read_map(&table, dialect);
+            print_columns(&table);
             first = checked = 1;
         } else if (strcmp(word, "row") == 0 && checked) {
             from_hex(strtok(NULL, " \n"), &row.presence);
@@ -302,8 +384,12 @@ int main(int argc, char **argv)
             do_row(&table, &row, first);
             first = 0;
             rows++;
+        } else if (strcmp(word, "event") == 0 && checked) {
+            word = strtok(NULL, " \n");
+            from_hex(strtok(NULL, " \n"), &event);
+            do_event(&table, strtoull(word, NULL, 10), &event, &row);
         } else {
-            stop("a line is none of server, map and row, or a row has no map before it");
+            stop("a line is none of server, map, row and event, or a row or event has no map before it");
         }
     }
     fclose(file);

@@ -1,7 +1,8 @@
-//! read_rows FILE: prints the tables of FILE, whose lines rows.txt explains: the columns with their types, then a line for each row.
+//! read_rows FILE: prints the tables of FILE, whose lines rows.txt explains: the columns with their types, then a line for each row, and for
+//! a rows event a line for each of its images, with the names of the columns that it has.
 //! Every row is also written again from its values, and must have the bytes that it was read from, but for the spare null bits.
 
-use feed::{check, name, names, Dialect, Record, Value};
+use feed::{check, map, name, names, Dialect, Image, Record, Value};
 use std::error::Error;
 use std::{env, fs, process};
 
@@ -64,15 +65,36 @@ fn shown(value: &Value) -> String {
     }
 }
 
+/// A checked map.
+struct Table {
+    event: Vec<u8>,
+    dialect: Dialect,
+    record: Record,
+}
+
+impl Table {
+    fn new(event: Vec<u8>, dialect: Dialect) -> Result<Table, Box<dyn Error>> {
+        let record = check(&event, POST_HEADER, dialect)?;
+        Ok(Table {
+            event,
+            dialect,
+            record,
+        })
+    }
+
+    fn name(&self, column: usize) -> Result<String, Box<dyn Error>> {
+        let list = names(&self.event, POST_HEADER, self.dialect);
+        Ok(String::from_utf8_lossy(name(list, &[], column)?).into_owned())
+    }
+}
+
 /// The columns, with their real types, and whether they are known to be unsigned.
-fn print_columns(event: &[u8], dialect: Dialect, record: &Record) -> Result<(), Box<dyn Error>> {
-    let list = names(event, POST_HEADER, dialect);
+fn print_columns(table: &Table) -> Result<(), Box<dyn Error>> {
     let mut words = Vec::new();
-    for i in 0..record.columns() {
-        let name = String::from_utf8_lossy(name(list, &[], i)?);
-        let column = record.column(i)?;
+    for i in 0..table.record.columns() {
+        let column = table.record.column(i)?;
         let sign = if column.unsigned { " unsigned" } else { "" };
-        words.push(format!("{name} {}{sign}", column.real_type));
+        words.push(format!("{} {}{sign}", table.name(i)?, column.real_type));
     }
     println!("{}", words.join(" | "));
     Ok(())
@@ -119,6 +141,35 @@ fn do_row(
     Ok(())
 }
 
+/// An image of an event: the values that it has, with their names.
+fn print_image(table: &Table, image: &Image, what: &str) -> Result<(), Box<dyn Error>> {
+    let mut words = Vec::new();
+    for item in image.values()? {
+        let (column, value) = item?;
+        words.push(format!("{} = {}", table.name(column)?, shown(&value)));
+    }
+    println!("  {what:6} {}", words.join(", "));
+    Ok(())
+}
+
+/// A rows event: its body, without header and checksum.
+fn do_event(table: &Table, code: u8, body: &[u8]) -> Result<(), Box<dyn Error>> {
+    let whose = map(&table.event, POST_HEADER)?;
+    let event = table.record.rows_event(code, whose.id, body)?;
+    let [database, name] = [whose.database, whose.table].map(String::from_utf8_lossy);
+    println!("event {code} of {database}.{name}");
+    for row in event.rows() {
+        let row = row?;
+        if let Some(image) = row.before {
+            print_image(table, &image, "before")?;
+        }
+        if let Some(image) = row.after {
+            print_image(table, &image, "after")?;
+        }
+    }
+    Ok(())
+}
+
 fn dialect_of(server: Option<&str>) -> Result<Dialect, Box<dyn Error>> {
     match server {
         Some("mysql") => Ok(Dialect::Mysql),
@@ -131,33 +182,34 @@ fn run() -> Result<(), Box<dyn Error>> {
     let path = env::args().nth(1).ok_or("usage: read_rows FILE")?;
     let text = fs::read_to_string(path)?;
     let mut dialect = Dialect::Document;
-    let mut record: Option<Record> = None;
+    let mut table: Option<Table> = None;
     let mut first = false;
     let mut rows = 0;
     for line in text.lines() {
         let mut words = line.split_whitespace();
-        match (words.next(), &record) {
+        match (words.next(), &table) {
             (None, _) => {}
             (Some(word), _) if word.starts_with('#') => {}
             (Some("server"), _) => dialect = dialect_of(words.next())?,
             (Some("map"), _) => {
-                let event = from_hex(words.next())?;
-                let checked = check(&event, POST_HEADER, dialect)?;
-                print_columns(&event, dialect, &checked)?;
-                record = Some(checked);
+                let checked = Table::new(from_hex(words.next())?, dialect)?;
+                print_columns(&checked)?;
+                table = Some(checked);
                 first = true;
             }
-            (Some("row"), Some(record)) => {
+            (Some("row"), Some(table)) => {
                 let presence = from_hex(words.next())?;
                 let image = from_hex(words.next())?;
-                do_row(record, &presence, &image, first)?;
+                do_row(&table.record, &presence, &image, first)?;
                 first = false;
                 rows += 1;
             }
+            (Some("event"), Some(table)) => {
+                let code = words.next().ok_or("a word is missing")?.parse()?;
+                do_event(table, code, &from_hex(words.next())?)?;
+            }
             _ => {
-                return Err(
-                    "a line is none of server, map and row, or a row has no map before it".into(),
-                )
+                return Err("a line is none of server, map, row and event, or a row or event has no map before it".into())
             }
         }
     }

@@ -44,6 +44,13 @@ class Head:
         value, behind = read_value(self.columns[place], image, offset, place)
         return place, value, place + 1, behind
 
+    def walk(self, image):
+        """the value of each present column, with the offset behind it"""
+        column, offset = self.first()
+        while (found := self.step(image, column, offset)) is not None:
+            _, value, column, offset = found
+            yield value, offset
+
     def judge_nulls(self, nulls):
         if len(nulls) != self.null_bytes:
             raise Refused(12, 0)

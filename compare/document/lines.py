@@ -10,6 +10,7 @@ from .lists import column_name, read_group, read_integer, read_pair, read_string
 from .packed import pack, read_packed
 from .record import read_record
 from .refusal import Refused, fits
+from .rows import Image, read_rows, walk as walk_rows
 from .values import NULL, read_lone, value_size, write_lone
 
 LONGEST, MOST_ROOM = 262144, 262144
@@ -284,11 +285,24 @@ def step_case(record, presence, image, column, offset):
 def image_case(record, presence, image):
     def words():
         head = Head(record, presence)
-        column, offset = head.first()
-        while (found := head.step(image, column, offset)) is not None:
-            _, value, column, offset = found
+        used = head.null_bytes
+        for value, used in head.walk(image):
             yield value_word(value)
-        yield "end %d" % offset
+        yield "end %d" % used
+    return walked(words())
+
+
+@case("rows", NUMBER, HEX, NUMBER, HEX)
+def rows_case(code, record, table_id, s):
+    def words():
+        rows = read_rows(code, record, table_id, s)
+        yield ok(rows.flags, "none" if rows.extra is None else rows.extra, ",".join(map(hexed, rows.sets)))
+        images = 0
+        for found in walk_rows(record, rows, s):
+            begins = isinstance(found, Image)
+            images += begins
+            yield "image %d" % found.offset if begins else value_word(found)
+        yield "end %d" % images
     return walked(words())
 
 

@@ -106,15 +106,19 @@ def record(rng):
 
 
 # ---- rows
+def some_presence(rng, n):
+    return b"\xff" * bytes_for(n) if chance(rng, 3) else some_bytes(rng, bytes_for(n))
+
+
 class Row:
     """a record, presence and null bits, and a value for each present column"""
 
-    def __init__(self, rng, columns=None):
+    def __init__(self, rng, columns=None, record=None, presence=None):
         self.rng = rng
         self.columns = some_columns(rng) if columns is None else columns
         n = len(self.columns)
-        self.record = some_record(rng, self.columns)
-        self.presence = b"\xff" * bytes_for(n) if chance(rng, 3) else some_bytes(rng, bytes_for(n))
+        self.record = some_record(rng, self.columns) if record is None else record
+        self.presence = some_presence(rng, n) if presence is None else presence
         self.present = [place for place in range(n) if low_first(self.presence, place)]
         size = bytes_for(len(self.present))
         # few NULLs, so that most rows have bytes

@@ -17,6 +17,14 @@ pub(crate) struct Taken<'a> {
 
 #[link(name = "feed_abi", kind = "static")]
 extern "C" {
+    fn feed_map(
+        event: *const u8,
+        event_length: usize,
+        post_header: u8,
+        out: *mut u64,
+        out_length: usize,
+    ) -> u64;
+
     fn feed_check(
         event: *const u8,
         event_length: usize,
@@ -109,10 +117,51 @@ extern "C" {
         out: *mut u64,
         out_length: usize,
     ) -> u64;
+
+    fn feed_rows(
+        code: u64,
+        profile: *const u8,
+        profile_length: usize,
+        table: u64,
+        event: *const u8,
+        event_length: usize,
+        out: *mut u64,
+        out_length: usize,
+    ) -> u64;
+
+    fn feed_image(
+        profile: *const u8,
+        profile_length: usize,
+        event: *const u8,
+        event_length: usize,
+        first_start: usize,
+        first_length: usize,
+        has_second: u64,
+        second_start: usize,
+        second_length: usize,
+        offset: usize,
+        second: u64,
+        out: *mut u64,
+        out_length: usize,
+    ) -> u64;
 }
 
 // One comment for all the calls below. SAFETY: each pointer comes with the length of the slice it was taken from, so the library reads and
 // writes only what was lent; a `&mut` overlaps nothing else; the library keeps no pointer; and its functions ask nothing else of a caller.
+
+pub(crate) fn map(event: &[u8], post_header: u8) -> Result<Answer, Refusal> {
+    let mut out = [0; NUMBERS];
+    let status = unsafe {
+        feed_map(
+            event.as_ptr(),
+            event.len(),
+            post_header,
+            out.as_mut_ptr(),
+            out.len(),
+        )
+    };
+    answered(status, out)
+}
 
 pub(crate) fn check(
     event: &[u8],
@@ -271,6 +320,51 @@ pub(crate) fn name(names: &[u8], fallback: &[u8], column: usize) -> Result<Answe
             fallback.as_ptr(),
             fallback.len(),
             column,
+            out.as_mut_ptr(),
+            out.len(),
+        )
+    };
+    answered(status, out)
+}
+
+pub(crate) fn rows(code: u64, profile: &[u8], table: u64, event: &[u8]) -> Result<Answer, Refusal> {
+    let mut out = [0; NUMBERS];
+    let status = unsafe {
+        feed_rows(
+            code,
+            profile.as_ptr(),
+            profile.len(),
+            table,
+            event.as_ptr(),
+            event.len(),
+            out.as_mut_ptr(),
+            out.len(),
+        )
+    };
+    answered(status, out)
+}
+
+/// The image at a cursor. `told` is what [`rows`] answered for the event.
+pub(crate) fn image(
+    profile: &[u8],
+    event: &[u8],
+    told: &Answer,
+    (offset, second): (usize, u64),
+) -> Result<Answer, Refusal> {
+    let mut out = [0; NUMBERS];
+    let status = unsafe {
+        feed_image(
+            profile.as_ptr(),
+            profile.len(),
+            event.as_ptr(),
+            event.len(),
+            told[4] as usize,
+            told[5] as usize,
+            told[6],
+            told[7] as usize,
+            told[8] as usize,
+            offset,
+            second,
             out.as_mut_ptr(),
             out.len(),
         )

@@ -1,7 +1,11 @@
-//! MySQL's table map event and row images, through the proved library libfeed_abi.a.
+//! MySQL's table map event, rows events and row images, through the proved library libfeed_abi.a.
 //!
-//! A map is checked once, which gives its [`Record`]. With the record, row images are read value by value ([`Record::row`]) and written
-//! ([`Record::write_row`]). Every call answers or refuses; none panics, whatever bytes it is given.
+//! An event is given WITHOUT its header of 19 bytes and WITHOUT its checksum. No call can tell a checksum from rows: left on, it is read as
+//! rows, and [`RowsEvent`] shows what comes of it.
+//!
+//! A map is checked once, which gives its [`Record`]; [`map`] tells whose it is. With the record and the map's table id, rows events are read
+//! row by row ([`Record::rows_event`]). Row images are read value by value ([`Record::row`]) and written ([`Record::write_row`]). Every call
+//! answers or refuses; none panics, whatever bytes it is given.
 //!
 //! The library is proved; this crate is not. It is for x86-64 Linux, as the library is. docs/ABI.md tells what each refusal means.
 #![warn(missing_docs)]
@@ -9,9 +13,11 @@
 
 #[allow(unsafe_code)]
 mod abi;
+mod event;
 mod row;
 mod value;
 
+pub use event::{code, ChangedRow, Image, Rows, RowsEvent};
 pub use row::Row;
 pub use value::Value;
 
@@ -48,6 +54,10 @@ pub mod refusal {
     pub const NOT_TAKEN: u64 = 13;
     /// There is no such column. Place: the column asked.
     pub const NO_COLUMN: u64 = 14;
+    /// The length of a rows event's extra data is below 2. Place: where that length stands, 8.
+    pub const BAD_EXTRA: u64 = 15;
+    /// A rows event of another code, another table id, or another number of columns. Place: 0 for code and table id, else where the event's column count stands.
+    pub const OTHER_EVENT: u64 = 16;
 }
 
 /// Why a call did not answer: a number of [`refusal`], and a place, which is an offset in the given bytes, a column counted from 0, or 0.
@@ -116,6 +126,30 @@ pub struct Column {
     pub m1: u8,
     /// The number of the collation, 0 if none was given.
     pub charset: u16,
+}
+
+/// Whose map a table map event is.
+#[derive(Clone, Copy, Debug, PartialEq, Eq)]
+pub struct Map<'a> {
+    /// The table id, which rows events of the table have too.
+    pub id: u64,
+    /// The event's flags.
+    pub flags: u16,
+    /// The name of the database, as a part of the event.
+    pub database: &'a [u8],
+    /// The name of the table, as a part of the event.
+    pub table: &'a [u8],
+}
+
+/// Tells whose map it is. `event` and `post_header` are as for [`check`].
+pub fn map(event: &[u8], post_header: u8) -> Result<Map<'_>, Refusal> {
+    let out = abi::map(event, post_header)?;
+    Ok(Map {
+        id: out[0],
+        flags: out[1] as u16,
+        database: part(event, out[2], out[3]).unwrap_or(&[]),
+        table: part(event, out[4], out[5]).unwrap_or(&[]),
+    })
 }
 
 /// Checks the body of a table map event: what follows the 19-byte event header, without a checksum. `post_header` is the event's post-header

@@ -1,6 +1,9 @@
 //! The calls of the crate, on the worked readings of the specification, on maps that a server logged, and on bytes that are refused.
 
-use feed::{check, column_name, name, names, refusal, Column, Dialect, Record, Refusal, Value};
+use feed::{
+    check, code, column_name, map, name, names, refusal, Column, Dialect, Image, Map, Record,
+    Refusal, Value,
+};
 
 // three columns: INT, VARCHAR(20), TINYINT UNSIGNED
 const EVENT: &[u8] = &[
@@ -10,6 +13,12 @@ const RECORD: &[u8] = &[
     0x18, 0, 1, 0, 3, 0, 3, 0x0c, 0, 0, 0, 0, 0x0f, 0x0a, 0x14, 0, 0, 0, 1, 0x0d, 0, 0, 0, 0,
 ];
 const IMAGE: &[u8] = &[0xf8, 0xfe, 0xff, 0xff, 0xff, 2, b'a', b'b', 0xc8];
+
+// a rows event of the table, of the newer edition, with that image alone
+const ROWS: &[u8] = &[
+    0x2a, 0, 0, 0, 0, 0, 1, 0, 2, 0, 3, 7, 0xf8, 0xfe, 0xff, 0xff, 0xff, 2, b'a', b'b', 0xc8,
+];
+const TABLE: u64 = 42;
 
 // MySQL 9.7.4: INT, YEAR, INT UNSIGNED, TINYINT, with their names
 const YEAR_EVENT: &[u8] = &[
@@ -218,4 +227,144 @@ fn names_come_from_the_map_or_else_from_the_list_beside_it() {
         refused(refusal::NO_COLUMN, 1)
     );
     assert_eq!(name(b"\x05ab", b"", 0), refused(refusal::SHORT, 0));
+}
+
+// a record of one column, which is visible
+fn one_column(real_type: u8, m0: u8) -> Record {
+    Record::from_bytes(vec![12, 0, 1, 0, 1, 0, real_type, 8, m0, 0, 0, 0]).unwrap()
+}
+
+fn values_of<'a>(image: Option<Image<'a>>) -> Vec<(usize, Value<'a>)> {
+    let row = image.unwrap().values().unwrap();
+    row.map(Result::unwrap).collect()
+}
+
+#[test]
+fn a_map_tells_whose_it_is() {
+    let whose = Map {
+        id: TABLE,
+        flags: 1,
+        database: b"t",
+        table: b"r",
+    };
+    assert_eq!(map(EVENT, 8), Ok(whose));
+    assert_eq!(map(&EVENT[..7], 8), refused(refusal::SHORT, 6));
+    let logged = map(YEAR_EVENT, 8).unwrap();
+    assert_eq!(logged.id, 219);
+    assert_eq!(logged.database, b"capfull");
+    assert_eq!(logged.table, b"year_silent_a");
+}
+
+#[test]
+fn a_rows_event_gives_its_rows() {
+    let record = record();
+    let event = record.rows_event(code::WRITE_ROWS, TABLE, ROWS).unwrap();
+    assert_eq!((event.flags(), event.extra()), (1, Some(&[][..])));
+    let mut rows = event.rows();
+    let row = rows.next().unwrap().unwrap();
+    assert!(row.before.is_none());
+    assert_eq!(row.after.unwrap().bytes, IMAGE);
+    let values = [
+        (0, Value::Int(-2)),
+        (1, Value::Bytes(b"ab")),
+        (2, Value::Uint(200)),
+    ];
+    assert_eq!(values_of(row.after), values);
+    assert!(rows.next().is_none());
+    assert!(rows.next().is_none());
+    // the first edition has no extra data
+    let older = [&ROWS[..8], &ROWS[10..]].concat();
+    let event = record
+        .rows_event(code::DELETE_ROWS_V1, TABLE, &older)
+        .unwrap();
+    assert_eq!(event.extra(), None);
+    let row = event.rows().next().unwrap().unwrap();
+    assert_eq!(values_of(row.before), values);
+    assert!(row.after.is_none());
+}
+
+#[test]
+fn an_update_gives_pairs() {
+    // TIME(2): 00:00:00.00 becomes -00:00:01.50
+    let record = one_column(19, 2);
+    let body = [
+        0x2a, 0, 0, 0, 0, 0, 1, 0, 2, 0, 1, 1, 1, 0, 0x80, 0, 0, 0, 0, 0x7f, 0xff, 0xfe, 0xce,
+    ];
+    let event = record.rows_event(code::UPDATE_ROWS, TABLE, &body).unwrap();
+    let rows: Vec<_> = event.rows().map(Result::unwrap).collect();
+    assert_eq!(rows.len(), 1);
+    let time = |negative, seconds, micros| Value::Time {
+        negative,
+        hours: 0,
+        minutes: 0,
+        seconds,
+        micros,
+    };
+    assert_eq!(values_of(rows[0].before), [(0, time(false, 0, 0))]);
+    assert_eq!(values_of(rows[0].after), [(0, time(true, 1, 500_000))]);
+    // an image before a change, and none after it
+    let event = record
+        .rows_event(code::UPDATE_ROWS, TABLE, &body[..18])
+        .unwrap();
+    let mut rows = event.rows();
+    assert_eq!(
+        rows.next().unwrap().err(),
+        refused::<()>(refusal::IMAGE_SHORT, 0).err()
+    );
+    assert!(rows.next().is_none());
+}
+
+#[test]
+fn a_rows_event_of_another_table_is_refused() {
+    let record = record();
+    let other = |code, table, event: &[u8]| record.rows_event(code, table, event).err();
+    let why = |number, place| refused::<()>(number, place).err();
+    assert_eq!(
+        other(code::WRITE_ROWS, 43, ROWS),
+        why(refusal::OTHER_EVENT, 0)
+    );
+    assert_eq!(other(39, TABLE, ROWS), why(refusal::OTHER_EVENT, 0));
+    let mut columns = ROWS.to_vec();
+    columns[10] = 4;
+    assert_eq!(
+        other(code::WRITE_ROWS, TABLE, &columns),
+        why(refusal::OTHER_EVENT, 10)
+    );
+    let mut extra = ROWS.to_vec();
+    extra[8] = 1;
+    assert_eq!(
+        other(code::WRITE_ROWS, TABLE, &extra),
+        why(refusal::BAD_EXTRA, 8)
+    );
+}
+
+#[test]
+fn an_image_cut_in_its_event_is_refused_once() {
+    let record = record();
+    let cut = &ROWS[..ROWS.len() - 1];
+    let event = record.rows_event(code::WRITE_ROWS, TABLE, cut).unwrap();
+    let mut rows = event.rows();
+    assert_eq!(
+        rows.next().unwrap().err(),
+        refused::<()>(refusal::IMAGE_SHORT, 2).err()
+    );
+    assert!(rows.next().is_none());
+}
+
+#[test]
+fn a_checksum_left_on_is_read_as_rows() {
+    let record = one_column(1, 0);
+    let body = [
+        0x2a, 0, 0, 0, 0, 0, 1, 0, 2, 0, 1, 1, 0, 5, 0xd2, 0x41, 0x9c, 7,
+    ];
+    let ints = |event| {
+        let event = record.rows_event(code::WRITE_ROWS, TABLE, event).unwrap();
+        let rows = event.rows().map(|row| values_of(row.unwrap().after)[0].1);
+        rows.collect::<Vec<_>>()
+    };
+    assert_eq!(ints(&body[..14]), [Value::Int(5)]);
+    assert_eq!(
+        ints(&body[..]),
+        [Value::Int(5), Value::Int(65), Value::Int(7)]
+    );
 }

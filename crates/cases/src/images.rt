@@ -29,7 +29,7 @@ fn found(column: usize, value: Value, next: Cursor) -> Turn {
     let at = next.column as u64;
     let offset = next.offset as u64;
     let turn = valued(few(OWN, column as u64, at, offset, 0), value);
-    onward(turn, [1, at, offset, 0])
+    onward(turn, [1, at, offset, 0, 0, 0])
 }
 
 fn step_in(profile: &[u8], presence: &[u8], image: &[u8], at: Cursor) -> Turn {
@@ -62,13 +62,13 @@ pub(crate) fn step(line: &[u8], args: &[u64]) -> Turn {
 // The first turn of a walk prints nothing.
 fn begin(profile: &[u8], presence: &[u8]) -> Turn {
     match image::first_cursor(profile, presence) {
-        First::At(cursor) => silent([1, cursor.column as u64, cursor.offset as u64, 0]),
+        First::At(cursor) => silent([1, cursor.column as u64, cursor.offset as u64, 0, 0, 0]),
         First::Refused(refusal) => refused(refusal),
     }
 }
 
 // `image RECORD PRESENCE IMAGE`: whether the walk has begun, and its cursor
-pub(crate) fn image_of(line: &[u8], args: &[u64], state: [u64; 4]) -> Turn {
+pub(crate) fn image_of(line: &[u8], args: &[u64], state: [u64; 6]) -> Turn {
     if state[0] == 0 {
         return begin(text(line, args, 1), text(line, args, 2));
     }

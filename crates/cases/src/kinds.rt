@@ -6,6 +6,7 @@ use crate::checks::check_as;
 use crate::checks::name;
 use crate::checks::names;
 use crate::checks::record_of;
+use crate::events::rows_of;
 use crate::fields::field;
 use crate::fields::fields;
 use crate::fields::fields_as;
@@ -31,7 +32,7 @@ use crate::turn::BAD;
 use crate::turn::Turn;
 use crate::turn::plain;
 
-pub(crate) const KINDS: [u8; 487] = *b"packed|hn|ok N N\n\
+pub(crate) const KINDS: [u8; 500] = *b"packed|hn|ok N N\n\
     value|bbbuh|ok * N\n\
     size|bbbuv|ok N\n\
     size-at|bbbuvn|ok N\n\
@@ -49,6 +50,7 @@ pub(crate) const KINDS: [u8; 487] = *b"packed|hn|ok N N\n\
     first|hh|ok N N\n\
     step|hhhnn|ok N * N N\n\
     image|hhh|* \n\
+    rows|nhnh|* \n\
     pack|nr|ok W\n\
     store|bbbuvr|ok W\n\
     write-event|nwhhhhhhr|ok W\n\
@@ -94,21 +96,23 @@ const STEP: usize = 16;
 
 const IMAGE: usize = 17;
 
-const PACK: usize = 18;
+const ROWS: usize = 18;
 
-const STORE: usize = 19;
+const PACK: usize = 19;
 
-const WRITE_EVENT: usize = 20;
+const STORE: usize = 20;
 
-const CHECK: usize = 21;
+const WRITE_EVENT: usize = 21;
 
-const CHECK_AS: usize = 22;
+const CHECK: usize = 22;
 
-const START: usize = 23;
+const CHECK_AS: usize = 23;
 
-const PUT: usize = 24;
+const START: usize = 24;
 
-const ROW: usize = 25;
+const PUT: usize = 25;
+
+const ROW: usize = 26;
 
 // One turn of a case that reads a value.
 fn value_turn(kind: usize, line: &[u8], args: &[u64]) -> Turn {
@@ -130,7 +134,7 @@ fn map_turn(kind: usize, line: &[u8], args: &[u64]) -> Turn {
 }
 
 // Of one that reads optional fields and their lists.
-fn field_turn(kind: usize, line: &[u8], args: &[u64], state: [u64; 4]) -> Turn {
+fn field_turn(kind: usize, line: &[u8], args: &[u64], state: [u64; 6]) -> Turn {
     match kind {
         FIELDS => fields(line, args, state),
         FIELDS_AS => fields_as(line, args, state),
@@ -149,17 +153,18 @@ fn check_turn(kind: usize, line: &[u8], args: &[u64]) -> Turn {
     }
 }
 
-// Of one that reads an image.
-fn image_turn(kind: usize, line: &[u8], args: &[u64], state: [u64; 4]) -> Turn {
+// Of one that reads images.
+fn image_turn(kind: usize, line: &[u8], args: &[u64], state: [u64; 6]) -> Turn {
     match kind {
         FIRST => first(line, args),
         STEP => step(line, args),
-        _ => image_of(line, args, state),
+        IMAGE => image_of(line, args, state),
+        _ => rows_of(line, args, state),
     }
 }
 
 // Of one that reads.
-fn read_turn(kind: usize, line: &[u8], args: &[u64], state: [u64; 4]) -> Turn {
+fn read_turn(kind: usize, line: &[u8], args: &[u64], state: [u64; 6]) -> Turn {
     match kind {
         PACKED..=SIZE_AT => value_turn(kind, line, args),
         EVENT..=EVENT_SIZE => map_turn(kind, line, args),
@@ -181,7 +186,7 @@ fn write_turn(kind: usize, line: &[u8], args: &[u64], room: &mut [u8]) -> Turn {
 }
 
 // Of one that writes an image.
-fn row_turn(kind: usize, line: &[u8], args: &[u64], room: &mut [u8], state: [u64; 4]) -> Turn {
+fn row_turn(kind: usize, line: &[u8], args: &[u64], room: &mut [u8], state: [u64; 6]) -> Turn {
     match kind {
         START => start(line, args, room),
         PUT => put(line, args, room),
@@ -195,10 +200,10 @@ pub(crate) fn take_turn(
     line: &[u8],
     args: &[u64],
     room: &mut [u8],
-    state: [u64; 4],
+    state: [u64; 6],
 ) -> Turn {
     match kind {
-        PACKED..=IMAGE => read_turn(kind, line, args, state),
+        PACKED..=ROWS => read_turn(kind, line, args, state),
         PACK..=CHECK_AS => write_turn(kind, line, args, room),
         START..=ROW => row_turn(kind, line, args, room, state),
         _ => plain(BAD),

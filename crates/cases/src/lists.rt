@@ -40,7 +40,7 @@ const GROUPS: u64 = 4;
 fn item(form: usize, first: u64, second: u64, next: usize) -> Turn {
     let at = next as u64;
     let turn = holding(two(0, at), form, [first, second, 0, 0, 0, 0, 0]);
-    onward(turn, [1, at, 0, 0])
+    onward(turn, [1, at, 0, 0, 0, 0])
 }
 
 fn next_integer(s: &[u8], at: usize) -> Turn {
@@ -102,14 +102,17 @@ fn next_item(kind: u64, s: &[u8], at: usize) -> Turn {
 fn default(s: &[u8]) -> Turn {
     match table_map::default_charset(s) {
         DefaultCharset::Read { charset, pairs } => {
-            onward(few(DEFAULT, charset, 0, 0, 0), [1, pairs.at as u64, 0, 0])
+            onward(
+                few(DEFAULT, charset, 0, 0, 0),
+                [1, pairs.at as u64, 0, 0, 0, 0],
+            )
         }
         DefaultCharset::Refused(refusal) => refused(refusal),
     }
 }
 
 // `list KIND HEX`: whether the walk has begun, and where it stands
-pub(crate) fn list(line: &[u8], args: &[u64], state: [u64; 4]) -> Turn {
+pub(crate) fn list(line: &[u8], args: &[u64], state: [u64; 6]) -> Turn {
     let kind = number(args, 1);
     if kind == CHARSETS {
         if state[0] == 0 {

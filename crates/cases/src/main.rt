@@ -2,6 +2,7 @@
 mod answer;
 mod checks;
 mod digits;
+mod events;
 mod fields;
 mod images;
 mod input;

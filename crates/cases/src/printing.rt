@@ -7,7 +7,6 @@ use crate::maps::event_part;
 use crate::output::put_byte;
 use crate::output::put_hex;
 use crate::output::put_number;
-use crate::slices::cut;
 use crate::slices::find;
 use crate::slices::part;
 use crate::slices::plus;
@@ -16,19 +15,25 @@ use crate::turn::OWN;
 use crate::turn::Turn;
 use crate::values::FORMS;
 use crate::words::nth;
+use crate::words::place;
 use crate::words::post_header;
 use crate::words::shown;
 use crate::words::text;
 
 // The forms that all kinds share, by the numbers in `turn`.
-const ANSWERS: [u8; 47] = *b"\n\
+const ANSWERS: [u8; 83] = *b"\n\
     bad\n\
     spoiled\n\
     refused N N\n\
     end\n\
     end N\n\
     \n\
-    default:N \n";
+    default:N \n\
+    ok N none \n\
+    ok N H \n\
+    H \n\
+    H,H \n\
+    image N \n";
 
 // The half of all numbers that two's complement takes for negative ones starts here.
 const FIRST_NEGATIVE: u64 = 9223372036854775808;
@@ -61,7 +66,7 @@ fn sign(n: u64) -> u8 {
 // The bytes of the line that a letter shows.
 fn bytes_of<'a>(letter: u8, first: u64, second: u64, line: &'a [u8], args: &[u64]) -> &'a [u8] {
     match letter {
-        b'H' => cut(shown(line, args), first as usize, second as usize),
+        b'H' => wire::part_of(shown(line, args), place(first, second)),
         b'E' => event_part(text(line, args, 2), post_header(args, 1), first),
         _ => name_asked(line, args),
     }

@@ -16,10 +16,8 @@ use crate::words::index;
 use crate::words::text;
 use crate::words::value;
 use image::Cursor;
-use image::First;
+use image::HeadRead;
 use image::Put;
-use record::RecordRead;
-ghost use Prim.Native.Nat.{_≤_};
 
 // The words of a row before its first value: record, presence bits, null bits and room.
 const BEFORE_VALUES: usize = 4;
@@ -77,52 +75,30 @@ pub(crate) fn put(line: &[u8], args: &[u64], room: &mut [u8]) -> Turn {
     stored(room, cursor.offset, answer)
 }
 
-// 1 for a column that is present, else 0.
-fn weight(presence: &[u8], column: usize) -> usize
-    ensures { λ r. ⌜ r ≤ 1 ⌝ }
-{
-    if wire::bit_lsb0(presence, column) {
-        return 1;
-    }
-    0
-}
-
-// How many columns of a record are present.
-fn count_present(profile: &[u8], presence: &[u8]) -> usize {
-    let RecordRead::Valid { columns } = record::read_record(profile) else {
-        return 0;
-    };
-    let mut present: usize = 0;
-    let mut j: usize = 0;
-    while j < columns {
-        present += weight(presence, j);
-        j += 1;
-    }
-    present
-}
-
 // A turn that prints nothing: the next one stores the value of the word at the cursor.
 fn at_value(word: usize, cursor: Cursor) -> Turn {
-    silent([word as u64, cursor.column as u64, cursor.offset as u64, 0])
+    silent([
+        word as u64,
+        cursor.column as u64,
+        cursor.offset as u64,
+        0,
+        0,
+        0,
+    ])
 }
 
 // The first turn of a row: whether there is a value for each present column. A record that is not valid
 // and presence bits of wrong length are refused before that: there is nothing to count by then.
 fn judge(profile: &[u8], presence: &[u8], words: usize) -> Turn {
-    match image::first_cursor(profile, presence) {
-        First::At(_) => {
-            if words == plus(BEFORE_VALUES, count_present(profile, presence)) {
-                return silent([STARTS, 0, 0, 0]);
+    match image::read_head(profile, presence) {
+        HeadRead::Read(head) => {
+            if words == plus(BEFORE_VALUES, head.present) {
+                return silent([STARTS, 0, 0, 0, 0, 0]);
             }
             plain(BAD)
         }
-        First::Refused(refusal) => refused(refusal),
+        HeadRead::Refused(refusal) => refused(refusal),
     }
-}
-
-// A cast by a call asks for no proof that the byte of a slice fits.
-fn wide(x: u8) -> u64 {
-    x as u64
 }
 
 // A checksum: it stands in for a copy of the bytes, to see later whether they changed. The remainders
@@ -131,7 +107,7 @@ fn digest(s: &[u8]) -> u64 {
     let mut sum: u64 = 0;
     let mut i: usize = 0;
     while i < s.len() {
-        sum = sum % 4294967291 * 257 + wide(s[i]) % 256;
+        sum = sum % 4294967291 * 257 + wire::wide(s[i]) % 256;
         i += 1;
     }
     sum
@@ -157,7 +133,7 @@ fn put_next(line: &[u8], args: &[u64], room: &mut [u8], word: usize, at: Cursor)
 }
 
 // The turns behind the second: one for each value, and one that tells the bytes.
-fn put_word(line: &[u8], args: &[u64], room: &mut [u8], state: [u64; 4]) -> Turn {
+fn put_word(line: &[u8], args: &[u64], room: &mut [u8], state: [u64; 6]) -> Turn {
     let word = state[0] as usize;
     let at = Cursor {
         column: state[1] as usize,
@@ -170,7 +146,7 @@ fn put_word(line: &[u8], args: &[u64], room: &mut [u8], state: [u64; 4]) -> Turn
 }
 
 // `row RECORD PRESENCE NULLS ROOM VALUE...`: the word whose value comes next, and its cursor
-pub(crate) fn row(line: &[u8], args: &[u64], room: &mut [u8], state: [u64; 4]) -> Turn {
+pub(crate) fn row(line: &[u8], args: &[u64], room: &mut [u8], state: [u64; 6]) -> Turn {
     match state[0] {
         0 => judge(text(line, args, 1), text(line, args, 2), count(args)),
         STARTS => {

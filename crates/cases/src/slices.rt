@@ -29,11 +29,6 @@ pub(crate) fn part(s: &[u8], from: usize, to: usize) -> &[u8] {
     &s[start..end]
 }
 
-// The `len` bytes from `start` on, as far as they are there.
-pub(crate) fn cut(s: &[u8], start: usize, len: usize) -> &[u8] {
-    part(s, start, plus(start, len))
-}
-
 // The byte at a place, 0 where there is none.
 pub(crate) fn byte_at(s: &[u8], at: usize) -> u8 {
     if s.len() <= at {

@@ -22,6 +22,16 @@ pub(crate) const NOTHING: usize = 6;
 
 pub(crate) const DEFAULT: usize = 7;
 
+pub(crate) const FLAGS: usize = 8;
+
+pub(crate) const FLAGS_EXTRA: usize = 9;
+
+pub(crate) const ONE_SET: usize = 10;
+
+pub(crate) const TWO_SETS: usize = 11;
+
+pub(crate) const IMAGE_AT: usize = 12;
+
 // The numbers of the form, of which none has more than that of an event: an id, flags, and a start and a
 // length for each of six parts. Where the form holds a value or an item, `inner` is the row of its form
 // in the table of `values`, and `parts` are its numbers.
@@ -30,7 +40,7 @@ pub(crate) struct Turn {
     pub(crate) numbers: [u64; 14],
     pub(crate) inner: usize,
     pub(crate) parts: [u64; 7],
-    pub(crate) next: [u64; 4],
+    pub(crate) next: [u64; 6],
     pub(crate) is_last: bool,
 }
 
@@ -41,13 +51,13 @@ pub(crate) fn last(form: usize, numbers: [u64; 14]) -> Turn {
         numbers,
         inner: 0,
         parts: [0, 0, 0, 0, 0, 0, 0],
-        next: [0, 0, 0, 0],
+        next: [0, 0, 0, 0, 0, 0],
         is_last: true,
     }
 }
 
 // The same turn with another behind it.
-pub(crate) fn onward(mut turn: Turn, next: [u64; 4]) -> Turn {
+pub(crate) fn onward(mut turn: Turn, next: [u64; 6]) -> Turn {
     turn.next = next;
     turn.is_last = false;
     turn
@@ -92,7 +102,7 @@ pub(crate) fn plain(form: usize) -> Turn {
 }
 
 // A turn that prints nothing.
-pub(crate) fn silent(next: [u64; 4]) -> Turn {
+pub(crate) fn silent(next: [u64; 6]) -> Turn {
     onward(plain(NOTHING), next)
 }
 

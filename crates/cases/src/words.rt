@@ -2,7 +2,6 @@
 // string is its start and its length in the line, in which it was decoded; a value is its kind and its
 // seven parts. Slot 0 is the line's own. All readers are total: a word that is not there is 0, or has
 // no bytes.
-use crate::slices::cut;
 use value::Column;
 use value::Dialect;
 use value::Value;
@@ -101,7 +100,8 @@ pub(crate) fn place_of(args: &[u64], word: usize, letter: u8) -> Part {
     }
 }
 
-fn place(start: u64, len: u64) -> Part {
+// Bytes of a slice, from two numbers.
+pub(crate) fn place(start: u64, len: u64) -> Part {
     Part {
         start: start as usize,
         len: len as usize,
@@ -118,7 +118,7 @@ fn value_place(kind: u64, start: u64, len: u64) -> Part {
 // A word that is a byte string.
 pub(crate) fn text<'a>(line: &'a [u8], args: &[u64], word: usize) -> &'a [u8] {
     let numbers = slot(args, word);
-    cut(line, nth(numbers, 0) as usize, nth(numbers, 1) as usize)
+    wire::part_of(line, place(nth(numbers, 0), nth(numbers, 1)))
 }
 
 // A word that is a value; the line is what lends it its bytes.

@@ -10,10 +10,15 @@ use Rattle.wire.specs.Outcome.{Outcome, ok, refused, refuse}
 use Rattle.wire.specs.Stored.{stored, answerOf, leftOf}
 use Rattle.wire.proofs.Outcomes.{ok-not-refused, same-ok, same-refused}
 use Rattle.wire.proofs.Stores.{stored-stored}
+use Rattle.wire.specs.declared.part.Part.{Part}
 use Rattle.record.specs.Records.{entryIn, readRecord}
+use Rattle.rows_event.specs.declared.parts.Second.{Second}
+use Rattle.rows_event.specs.declared.event.Rows.{Rows}
+use Rattle.rows_event.specs.declared.images.Images.{Images}
+use Rattle.rows_event.specs.Images.{Told as Told₁, nextImage}
 use Rattle.feed_abi.specs.Answers.{numberOf, toldOf, statusOf, numbersLeft, bytesLeft}
 use Rattle.image.specs.Split.{Told}
-use Rattle.feed_abi.specs.Calls.{said, saidWith, entryNumbers, toldNumbers, Held, feedColumn}
+use Rattle.feed_abi.specs.Calls.{said, saidWith, entryNumbers, toldNumbers, Held, setsAsked, feedColumn}
 
 -- the status s and the numbers x that a call leaves
 abbrev pub Tells : ℕ → List ℕ → Outcome (List ℕ) → ℕ → List ℕ → Type 0
@@ -117,3 +122,8 @@ pub head-then : (out x y head ps : List ℕ) → length head ≡ 4 → 4 ≤ len
 head-then out x y head ps e h p q =
     let n : 0 + length head ≡ 4 = omega arith in
     q ∙ ap (λ (d : List ℕ). stored d 4 ps) p ∙ subst (λ (k : ℕ). stored (stored out 0 head) k ps ≡ stored out 0 (head ++ ps)) n (stored-stored out 0 head ps (omega arith))
+
+-- ---- a step over images: what the code's step answered is the rule's answer under the sets that were asked for
+pub image-asked : (r s : List ℕ) (before : Part) (second after : Second) (w : Rows) (c : Images) (o : Outcome Told₁) → w ≡ setsAsked before second → second ≡ after
+    → o ≡ nextImage r w s c → nextImage r (setsAsked before after) s c ≡ o
+image-asked r s before second after w c o e d h = sym (h ∙ ap (λ (x : Rows). nextImage r x s c) (e ∙ ap (setsAsked before) d))

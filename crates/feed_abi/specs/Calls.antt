@@ -1,15 +1,17 @@
 -- What each call answers: the rule of the library's call, its answer in numbers. Assumes nothing.
 use Prim.Native.Nat.{ℕ}
 use mathlib.Core.Path.{_≡_}
-use mathlib.Core.Bool.{true, cond}
+use mathlib.Core.Bool.{Bool, true, cond, not}
 use mathlib.Core.List.{List, [], _∷_, _++_}
 use lib.Dec.{ltb, eqb}
 use Rattle.wire.specs.Outcome.{Outcome, ok, refused, refuse, after}
 use Rattle.wire.specs.declared.part.Part.{Part}
+use Rattle.wire.specs.Parts.{part}
 use Rattle.value.specs.declared.classes.Dialect.{Dialect}
 use Rattle.value.specs.declared.classes.Dialect.the-variants.{Document, Mysql, Mariadb}
 use Rattle.value.specs.declared.datum.Value.the-variants.{Null}
 use Rattle.value_parts.specs.Parts.{kindOf, partsOf, padded, valueOf, isHeld}
+use Rattle.table_map.specs.declared.event.Event.{Event}
 use Rattle.table_map.specs.Events.{readEvent}
 use Rattle.record.specs.declared.entry.Entry.{Entry}
 use Rattle.record.specs.Records.{entryIn, readRecord}
@@ -19,6 +21,15 @@ use Rattle.map_check.specs.Check.{check}
 use Rattle.image.specs.declared.cursor.Cursor.{Cursor}
 use Rattle.image.specs.Split.{Told, null, value, end, cursor, firstCursor, stepFrom}
 use Rattle.image.specs.Puts.{startImage, putFrom}
+use Rattle.rows_event.specs.declared.parts.Extra.{Extra}
+use Rattle.rows_event.specs.declared.parts.Extra.the-variants.{Absent, Data}
+use Rattle.rows_event.specs.declared.parts.Second.{Second}
+use Rattle.rows_event.specs.declared.parts.Second.the-variants.{Absent as Absent₁, Bits}
+use Rattle.rows_event.specs.declared.event.Rows.{Rows}
+use Rattle.rows_event.specs.declared.images.Images.{Images}
+use Rattle.rows_event.specs.Events.{readRows}
+use Rattle.rows_event.specs.Images.{Told as Told₁, image, end as end₁, nextImage}
+use Rattle.feed_abi.specs.declared.events.Given.{Given}
 use Rattle.feed_abi.specs.declared.maps.Asked.{Asked}
 use Rattle.feed_abi.specs.declared.maps.Asked.the-variants.{For, Refused}
 
@@ -37,6 +48,10 @@ lengthNumbers n = n ∷ []
 abbrev pub partNumbers : Part → List ℕ
 partNumbers p = p .start ∷ (p .len ∷ [])
 
+-- table id, flags, and where the names of the database and of the table stand
+abbrev pub mapNumbers : Event → List ℕ
+mapNumbers e = e .id ∷ (e .flags ∷ (partNumbers (e .database) ++ partNumbers (e .table)))
+
 abbrev pub entryNumbers : Entry → List ℕ
 entryNumbers e = e .kind ∷ (e .flags ∷ (e .m0 ∷ (e .m1 ∷ (e .charset ∷ []))))
 
@@ -54,7 +69,40 @@ toldNumbers (null column next) = stepNumbers (kindOf Null) column next (partsOf 
 toldNumbers (value column v next) = stepNumbers (kindOf v) column next (partsOf v)
 toldNumbers (end used) = stepNumbers 0 0 (cursor 0 used) []
 
+-- a part that may be absent: 1 with its start and length, or zeros
+abbrev pub given : ℕ → ℕ → ℕ → Given
+given there start len = record { there = there; start = start; len = len }
+
+abbrev pub extraGiven : Extra → Given
+extraGiven Absent = given 0 0 0
+extraGiven (Data p) = given 1 (p .start) (p .len)
+
+abbrev pub secondGiven : Second → Given
+secondGiven Absent₁ = given 0 0 0
+secondGiven (Bits p) = given 1 (p .start) (p .len)
+
+abbrev pub givenNumbers : Given → List ℕ
+givenNumbers g = g .there ∷ (g .start ∷ (g .len ∷ []))
+
+-- flags, extra data, presence bits, the second set, and where the images begin
+abbrev pub rowsNumbers : Rows → List ℕ
+rowsNumbers w = w .flags ∷ (givenNumbers (extraGiven (w .extra)) ++ (partNumbers (w .before) ++ (givenNumbers (secondGiven (w .after)) ++ (w .images ∷ []))))
+
+-- a number for a choice of two
+abbrev pub oneIf : Bool → ℕ
+oneIf b = cond b 1 0
+
+-- 1, the image, whether it stands under the second set, and the next cursor; zeros are the end
+abbrev pub imageNumbers : Told₁ → List ℕ
+imageNumbers (image p second next) = 1 ∷ (p .start ∷ (p .len ∷ (oneIf second ∷ (next .at ∷ (oneIf (next .second) ∷ [])))))
+imageNumbers end₁ = 0 ∷ (0 ∷ (0 ∷ (0 ∷ (0 ∷ (0 ∷ [])))))
+
 -- ---- maps
+-- whose map it is
+unfoldable pub feedMap : List ℕ → ℕ → Outcome (List ℕ)
+unfolding readEvent
+feedMap event postHeader = said mapNumbers (readEvent event postHeader)
+
 -- 0 document, 1 mysql, 2 mariadb
 unfoldable pub dialectOf : ℕ → Outcome Dialect
 dialectOf d = cond (eqb d 0) (ok Document) (cond (eqb d 1) (ok Mysql) (cond (eqb d 2) (ok Mariadb) (refuse 13 0)))
@@ -112,3 +160,26 @@ unfoldable pub feedPut : List ℕ → List ℕ → List ℕ → ℕ → ℕ → 
 unfolding valueOf putFrom
 feedPut r p nulls column offset kind ps lent im =
     after (valueOf kind ps) (λ v. saidWith cursorNumbers (putFrom r p nulls (cursor column offset) lent v im))
+
+-- ---- rows events
+-- the parts of an event of a code, under the record r and the table id of its map
+unfoldable pub feedRows : ℕ → List ℕ → ℕ → List ℕ → Outcome (List ℕ)
+unfolding readRows
+feedRows code r id s = said rowsNumbers (readRows code r id s)
+
+-- the sets that numbers ask for: 0 is no second set, any other number one. A step over images looks at nothing else of an event that was read
+abbrev pub secondAsked : ℕ → ℕ → ℕ → Second
+secondAsked there start len = cond (eqb there 0) Absent₁ (Bits (part start len))
+
+abbrev pub setsAsked : Part → Second → Rows
+setsAsked before second = record { flags = 0; extra = Absent; before = before; after = second; images = 0 }
+
+-- the cursor that numbers ask for: 0 is the first set, any other number the second
+abbrev pub imagesAt : ℕ → ℕ → Images
+imagesAt offset second = record { at = offset; second = not (eqb second 0) }
+
+-- a step from any cursor, under any sets
+unfoldable pub feedImage : List ℕ → List ℕ → ℕ → ℕ → ℕ → ℕ → ℕ → ℕ → ℕ → Outcome (List ℕ)
+unfolding nextImage
+feedImage r s firstStart firstLength hasSecond secondStart secondLength offset second =
+    said imageNumbers (nextImage r (setsAsked (part firstStart firstLength) (secondAsked hasSecond secondStart secondLength)) s (imagesAt offset second))

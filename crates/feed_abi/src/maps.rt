@@ -1,4 +1,4 @@
-// Maps: the check, the columns of its record, and the names of columns.
+// Maps: whose they are, the check, the columns of its record, and the names of columns.
 use crate::answer::NO_NUMBERS;
 use crate::answer::tell;
 use crate::answer::tell_refusal;
@@ -6,6 +6,8 @@ use map_check::NameRead;
 use map_check::Place;
 use record::Entry;
 use record::RecordRead;
+use table_map::Event;
+use table_map::EventRead;
 use value::Dialect;
 use wire::Part;
 use wire::Refusal;
@@ -17,7 +19,7 @@ ghost use Prim.Native.Nat.{_≤_};
 ghost use lib.ListN.{length};
 ghost use Rattle.wire.specs.Stored.{stored, answerOf};
 ghost use Rattle.feed_abi.specs.Answers.{statusOf, numbersLeft, bytesLeft};
-ghost use Rattle.feed_abi.specs.Calls.{partNumbers, entryNumbers, dialectOf, askedOf, feedCheck, feedColumn, feedNames, feedName};
+ghost use Rattle.feed_abi.specs.Calls.{partNumbers, mapNumbers, entryNumbers, dialectOf, askedOf, feedMap, feedCheck, feedColumn, feedNames, feedName};
 
 // The dialect that a number asks for.
 enum Asked {
@@ -49,6 +51,24 @@ fn tell_part(out: &mut [u64], part: Part) -> u64
     tell(out, &numbers)
 }
 
+fn tell_map(out: &mut [u64], map: Event) -> u64
+    requires { ⌜ 6 ≤ length (now out) ⌝ }
+    ensures { λ r. ⌜ r ≡ 0 ⌝ }
+    ensures { λ _. ⌜ now (out .exit) ≡ stored (now (out .entry)) 0 (mapNumbers map) ⌝ }
+{
+    let database = map.database;
+    let table = map.table;
+    let numbers = [
+        map.id,
+        map.flags as u64,
+        database.start as u64,
+        database.len as u64,
+        table.start as u64,
+        table.len as u64,
+    ];
+    tell(out, &numbers)
+}
+
 fn tell_entry(out: &mut [u64], entry: Entry) -> u64
     requires { ⌜ 5 ≤ length (now out) ⌝ }
     ensures { λ r. ⌜ r ≡ 0 ⌝ }
@@ -62,6 +82,21 @@ fn tell_entry(out: &mut [u64], entry: Entry) -> u64
         entry.charset as u64,
     ];
     tell(out, &numbers)
+}
+
+// Whose map it is: table id, flags, and where the names of the database and of the table stand in the event, start and length. Rows events are read under the id.
+#[no_mangle]
+pub extern "C" fn feed_map(event: &[u8], post_header: u8, out: &mut [u64]) -> u64
+    ensures { λ r. ⌜ r ≡ statusOf 6 (now (out .entry)) (feedMap (now (event .entry)) «post_header») ⌝ }
+    ensures { λ _. ⌜ now (out .exit) ≡ numbersLeft 6 (now (out .entry)) (feedMap (now (event .entry)) «post_header») ⌝ }
+{
+    if out.len() < 6 {
+        return NO_NUMBERS;
+    }
+    match table_map::read_event(event, post_header) {
+        EventRead::Read(map) => tell_map(out, map),
+        EventRead::Refused(r) => tell_refusal(out, r),
+    }
 }
 
 // Checks a map and writes its record at the start of profile: the record's length.

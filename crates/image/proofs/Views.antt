@@ -8,9 +8,12 @@ use Rattle.image.specs.declared.cursor.HeadRead.{HeadRead}
 use Rattle.image.specs.declared.cursor.HeadRead.the-variants.{Read, Refused as Refused₄}
 use Rattle.image.specs.declared.step.Step.{Step}
 use Rattle.image.specs.declared.step.Step.the-variants.{Null, Value as Value₂, End, Refused as Refused₂}
+use Rattle.image.specs.declared.end.WalkEnd.{WalkEnd}
+use Rattle.image.specs.declared.end.WalkEnd.the-variants.{Ends, Refused as Refused₅}
 use Rattle.image.specs.declared.put.Put.{Put}
 use Rattle.image.specs.declared.put.Put.the-variants.{Next, Refused as Refused₃}
 use Rattle.image.specs.Split.{Told, null, value, end, told, firstTold, headTold}
+use Rattle.image.specs.Walk.{endTold}
 use Rattle.image.specs.Puts.{putTold}
 
 -- the way back from what a step says
@@ -45,6 +48,14 @@ head-way (Refused₄ r) = refl
 -- of heads
 pub same-head : (a b : HeadRead) → headTold a ≡ headTold b → a ≡ b
 same-head = same-by-back headTold (back-read Read Refused₄) head-way
+
+end-way : (a : WalkEnd) → back-read Ends Refused₅ (endTold a) ≡ a
+end-way (Ends used) = refl
+end-way (Refused₅ r) = refl
+
+-- of walks' ends
+pub same-end : (a b : WalkEnd) → endTold a ≡ endTold b → a ≡ b
+same-end = same-by-back endTold (back-read Ends Refused₅) end-way
 
 put-way : (a : Put) → back-read Next Refused₃ (putTold a) ≡ a
 put-way (Next c) = refl

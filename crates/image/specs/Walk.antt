@@ -7,6 +7,8 @@ use Rattle.wire.specs.Outcome.{Outcome, ok, refused}
 use Rattle.value.specs.Data.{Datum, null}
 use Rattle.value.specs.Reading.{readDatum, datumOf}
 use Rattle.image.specs.declared.cursor.Cursor.{Cursor}
+use Rattle.image.specs.declared.end.WalkEnd.{WalkEnd}
+use Rattle.image.specs.declared.end.WalkEnd.the-variants.{Ends, Refused}
 use Rattle.image.specs.Split.{Slot, Told, null as null₁, value, end, slotsLeft, firstCursor}
 
 -- an answer for each column that was met, NULL or a value; and the bytes used, or why the walk stopped
@@ -58,3 +60,8 @@ onward f im (ok (null₁ j c)) = withAnswer (j, null) (f c)
 onward f im (ok (value j v c)) = withAnswer (j, datumOf im v) (f c)
 onward f im (ok (end used)) = stopped (ok used)
 onward f im (refused r) = stopped (refused r)
+
+-- ---- what the answer of the call for its end says
+abbrev pub endTold : WalkEnd → Outcome ℕ
+endTold (Ends used) = ok used
+endTold (Refused r) = refused r

@@ -12,6 +12,8 @@ use Rattle.wire.specs.Stored.{stored, store, answerOf, leftOf}
 use Rattle.wire.proofs.Outcomes.{after-is-ok, test-is-ok, by-test, ok-not-refused, same-ok}
 use Rattle.value.specs.declared.datum.Value.the-variants.{Null}
 use Rattle.value_parts.specs.Parts.{kindOf, partsOf, padded, valueOf}
+use Rattle.wire.specs.Parts.{part}
+use Rattle.table_map.specs.Events.{readEvent}
 use Rattle.record.specs.Records.{readRecord}
 use Rattle.map_check.specs.Ranks.{place}
 use Rattle.map_check.specs.Names.{columnName}
@@ -19,8 +21,10 @@ use Rattle.map_check.specs.Check.{check}
 use Rattle.image.specs.declared.cursor.Cursor.{Cursor}
 use Rattle.image.specs.Split.{Told, null, value, end, cursor, firstCursor, stepFrom}
 use Rattle.image.specs.Puts.{startImage, putFrom}
+use Rattle.rows_event.specs.Events.{readRows}
+use Rattle.rows_event.specs.Images.{Told as Told₁, image, end as end₁, nextImage}
 use Rattle.feed_abi.specs.Answers.{numberOf, toldOf, statusOf, numbersLeft, bytesLeft}
-use Rattle.feed_abi.specs.Calls.{said, saidWith, lengthNumbers, partNumbers, cursorNumbers, stepNumbers, toldNumbers, dialectOf, feedCheck, feedColumn, feedNames, feedName, feedFirst, feedStep, feedStart, feedPut}
+use Rattle.feed_abi.specs.Calls.{said, saidWith, lengthNumbers, partNumbers, mapNumbers, cursorNumbers, stepNumbers, toldNumbers, rowsNumbers, imageNumbers, dialectOf, secondAsked, setsAsked, imagesAt, feedMap, feedCheck, feedColumn, feedNames, feedName, feedFirst, feedStep, feedStart, feedPut, feedRows, feedImage}
 use Rattle.promises.specs.Refusals.{Line, OneOf, just, later, refusalNumbers, isAmong, inTable, Only}
 use Rattle.promises.specs.Buffers.{Touched}
 use Rattle.promises.specs.Abi.{Answered, Counts, AbiCalls}
@@ -141,13 +145,18 @@ told-counts (null column next) = step-counts (kindOf Null) column next (partsOf 
 told-counts (value column v next) = step-counts (kindOf v) column next (partsOf v)
 told-counts (end used) = step-counts 0 0 (cursor 0 used) []
 
+image-counts : (t : Told₁) → length (imageNumbers t) ≡ 6
+image-counts (image p second next) = refl
+image-counts end₁ = refl
+
 told-alone : (k : ℕ) (out : List ℕ) (answer : Outcome (List ℕ)) → Counts k answer → Answered k out answer → Touched out 0 k (numbersLeft k out answer)
 unfolding numbersLeft
 told-alone k out answer h (ns, e, l) = rw (le-leb k (length out) l, e) (all-told k out ns (h ns e) l)
 
 pub abi : AbiCalls
-unfolding feedCheck feedNames feedName feedFirst feedStep feedStart feedPut statusOf numbersLeft bytesLeft inTable isAmong
+unfolding feedMap feedCheck feedNames feedName feedFirst feedStep feedStart feedPut feedRows feedImage statusOf numbersLeft bytesLeft inTable isAmong
 abi = record {
+  feed-map = λ event postHeader. only refl (in-numbers mapNumbers (readEvent event postHeader) (refusals .read-event event postHeader));
   feed-check = λ event postHeader dialect buf n e.
       only refl
       (answered _
@@ -164,10 +173,15 @@ abi = record {
       (answered _
       (chain (valueOf kind parts) _ (value-made kind parts just)
       (λ v u. wider _ (left-too cursorNumbers (putFrom r p nulls (cursor column offset) lent v im) (refusals .put-value r p nulls (cursor column offset) lent v im)))));
+  feed-rows = λ code r id s. only refl (in-numbers rowsNumbers (readRows code r id s) (refusals .read-rows code r id s));
+  feed-image = λ r s firstStart firstLength hasSecond secondStart secondLength offset second.
+      let w = setsAsked (part firstStart firstLength) (secondAsked hasSecond secondStart secondLength) in
+      only refl (in-numbers imageNumbers (nextImage r w s (imagesAt offset second)) (refusals .next-image r w s (imagesAt offset second)));
   status-zero = λ k out answer ls h. (zero-answered k out answer ls h, answered-zero k out answer);
   status-table = λ k out answer ls h z. status-in-table (leb k (length out)) answer ls h z;
   numbers-kept = λ k out answer l h. numbers-left (leb k (length out)) out answer (λ u. let n = leb-true k (length out) u in omega arith) h;
   bytes-kept = λ k out buf rule h. bytes-left (leb k (length out)) buf rule h;
+  map-six = λ event postHeader. said-counts 6 mapNumbers (readEvent event postHeader) (λ e. refl);
   check-one = λ event postHeader dialect buf. then-counts 1 (dialectOf dialect) _ (λ d. left-counts 1 lengthNumbers (check d event postHeader buf) (λ n. refl));
   column-five = column-counts;
   names-two = λ event postHeader dialect. said-counts 2 _ (dialectOf dialect) (λ d. refl);
@@ -177,5 +191,9 @@ abi = record {
   start-two = λ r p nulls im. left-counts 2 cursorNumbers (startImage r p nulls im) (λ c. refl);
   put-two = λ r p nulls column offset kind parts lent im.
       then-counts 2 (valueOf kind parts) _ (λ v. left-counts 2 cursorNumbers (putFrom r p nulls (cursor column offset) lent v im) (λ c. refl));
+  rows-ten = λ code r id s. said-counts 10 rowsNumbers (readRows code r id s) (λ w. refl);
+  image-six = λ r s firstStart firstLength hasSecond secondStart secondLength offset second.
+      said-counts 6 imageNumbers
+      (nextImage r (setsAsked (part firstStart firstLength) (secondAsked hasSecond secondStart secondLength)) s (imagesAt offset second)) image-counts;
   numbers-touched = told-alone;
 }

@@ -16,7 +16,8 @@ use Rattle.promises.specs.Refusals.{Line, _at_, _below_, _upTo_, OneOf, 
 use Rattle.promises.proofs.Only.{Listed, bytes-there, fixed, packed, room}
 use Rattle.promises.proofs.Values.{temporal-read, temporal-written, column-taken, value-read, value-written, value-sized, value-made}
 use Rattle.promises.proofs.Maps.{long-part, event-read, event-written, event-sized, pair-item, group-item, stepped, field-stepped, field-cut, field-judged, checked, string-found}
-use Rattle.promises.proofs.Rows.{record-read, head-read, first-read, image-stepped, image-started, image-put}
+use Rattle.promises.proofs.RowsEvents.{rows-read, image-met}
+use Rattle.promises.proofs.Rows.{record-read, head-read, first-read, image-stepped, walk-ended, image-started, image-put}
 
 -- a refusal that is listed has a listed number, and those are in the table
 line-number : (l : Line) (ls : List Line) → inTable (l ∷ ls) ≡ true → isAmong (numberOf l) refusalNumbers ≡ true
@@ -100,8 +101,12 @@ refusals = record {
   first-cursor = λ r p. only refl (first-read just (second just) r p);
   step-image = λ r p im c.
       only refl (image-stepped r p im c just (second just) (third just) (fourth just) (fifth just) (λ j h. sixth (under h)) (λ j h. seventh (under h)));
+  walk-end = λ r p im. only refl (walk-ended r p im just (second just) (third just) (λ j h. fourth (under h)) (λ j h. fifth (under h)));
   start-image = λ r p nulls buf. only refl (image-started r p nulls buf just (second just) (third just));
   put-value = λ r p nulls c lent v buf. only refl (image-put r p nulls c lent v buf just (second just) (third just) (λ j h. fourth (under h)) (fifth just));
+  read-rows = λ code r id s.
+      only refl (rows-read s (λ p h. third (most h)) (λ p h. fourth (most h)) (fifth just) just (second just) (λ p h. sixth (most h)) code r id);
+  next-image = λ r w s c. only refl (image-met r w s c just (second just) (third just) (λ j h. fourth (under h)) (λ j h. fifth (under h)));
   numbered = λ answer ls w o e. in-table ls w (o .table) (o .listed w e);
   buffer-kept = refused-keeps;
 }

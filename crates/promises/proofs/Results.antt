@@ -6,7 +6,8 @@ use Rattle.value_parts.proofs.Views.{same-made}
 use Rattle.table_map.proofs.Views.{same-event-read, same-integer, same-pair, same-string, same-group, same-charset, same-field, same-cut, same-judged}
 use Rattle.record.proofs.Views.{same-record}
 use Rattle.map_check.proofs.Views.{same-name}
-use Rattle.image.proofs.Views.{same-step, same-first, same-head, same-put}
+use Rattle.image.proofs.Views.{same-step, same-first, same-head, same-end, same-put}
+use Rattle.rows_event.proofs.Views.{same-rows, same-image}
 use Rattle.promises.specs.Results.{Results}
 
 pub results : Results
@@ -32,5 +33,8 @@ results = record {
   head = same-head;
   first = same-first;
   step = same-step;
+  end = same-end;
   put = same-put;
+  rows = same-rows;
+  image = same-image;
 }

@@ -49,15 +49,17 @@ pub there-taken : {ls : List Line} (sh : Shape) (place : ℕ) → isTaken sh ≡
 there-taken sh place h = rw (taken-at sh place h) (done sh)
 
 -- ---- then bytes and ranges, or the domain and room
+pub datum-read : {ls : List Line} (sh : Shape) (place : ℕ) (s : List ℕ) → Listed ls (taken sh place) → OneOf ls (why 9 place) → OneOf ls (why 10 place) → Listed ls (readDatum sh place s)
+unfolding readDatum cut judged
+datum-read sh place s h nine ten =
+    chain (taken sh place) _ h (λ sh e.
+    chain (cut sh place s) _ (test (leb (need sh s) (length s)) (λ u. done _) (λ u. stop nine)) (λ b e.
+    chain (judged sh place b) _ (test (eqb (fault sh b) 0) (λ u. done _) (λ u. stop ten)) (λ d e. done _)))
+
 pub value-read : {ls : List Line} (sh : Shape) (place : ℕ) (s : List ℕ) (o : ℕ) → Listed ls (taken sh place) → OneOf ls (why 9 place) → OneOf ls (why 10 place)
     → Listed ls (readValue sh place s o)
-unfolding readValue readDatum cut judged
-value-read sh place s o h nine ten =
-    chain (readDatum sh place (drop o s)) _
-    (chain (taken sh place) _ h (λ sh e.
-    chain (cut sh place (drop o s)) _ (test (leb (need sh (drop o s)) (length (drop o s))) (λ u. done _) (λ u. stop nine)) (λ b e.
-    chain (judged sh place b) _ (test (eqb (fault sh b) 0) (λ u. done _) (λ u. stop ten)) (λ d e. done _))))
-    (λ x e. done _)
+unfolding readValue
+value-read sh place s o h nine ten = chain (readDatum sh place (drop o s)) _ (datum-read sh place (drop o s) h nine ten) (λ x e. done _)
 
 pub value-stored : {ls : List Line} (sh : Shape) (place : ℕ) (lent : List ℕ) (v : Value) → Listed ls (taken sh place) → OneOf ls (why 13 place)
     → Listed ls (storedBytes sh place lent v)

@@ -11,7 +11,7 @@ use Rattle.table_map.specs.Events.{readEvent, partIn}
 use Rattle.record.specs.Records.{countOf}
 use Rattle.map_check.specs.Names.{listOf}
 use Rattle.feed_abi.specs.Answers.{statusOf, numbersLeft, bytesLeft}
-use Rattle.feed_abi.specs.Calls.{feedCheck, feedColumn, feedNames, feedName, feedFirst, feedStep, feedStart, feedPut}
+use Rattle.feed_abi.specs.Calls.{feedMap, feedCheck, feedColumn, feedNames, feedName, feedFirst, feedStep, feedStart, feedPut, feedRows, feedImage}
 use Rattle.promises.specs.Refusals.{Line, _at_, _below_, _upTo_, refusalNumbers, isAmong, Only}
 use Rattle.promises.specs.Buffers.{Touched}
 
@@ -25,6 +25,8 @@ Counts k answer = (ns : List ℕ) → answer ≡ ok ns → length ns ≡ k
 
 pub record AbiCalls : Type 0 where
   -- ---- maps
+  -- `feed_map`: as `read_event`
+  pub feed-map : (event : List ℕ) (postHeader : ℕ) → Only (feedMap event postHeader) (1 upTo length event ∷ 2 upTo length event ∷ [])
   -- `feed_check`: 13 for a number that is no dialect; else as `check`, n being how many type bytes the event has
   pub feed-check : (event : List ℕ) (postHeader dialect : ℕ) (buf : List ℕ) (n : ℕ) → n ≡ length (partIn (λ e. e .types) event (readEvent event postHeader))
       → Only (answerOf (feedCheck event postHeader dialect buf))
@@ -47,6 +49,14 @@ pub record AbiCalls : Type 0 where
   -- `feed_put`: 13 at 0 for a kind and parts that make no value; else as `Cursor::put`
   pub feed-put : (r p nulls : List ℕ) (column offset kind : ℕ) (parts lent im : List ℕ)
       → Only (answerOf (feedPut r p nulls column offset kind parts lent im)) (13 at 0 ∷ 11 at 0 ∷ 12 at 0 ∷ 14 at column ∷ 13 below countOf r ∷ 8 at 0 ∷ [])
+  -- ---- rows events; s is the event
+  -- `feed_rows`: as `read_rows`
+  pub feed-rows : (code : ℕ) (r : List ℕ) (id : ℕ) (s : List ℕ)
+      → Only (feedRows code r id s) (11 at 0 ∷ 16 at 0 ∷ 1 upTo length s ∷ 2 upTo length s ∷ 15 at 8 ∷ 16 upTo length s ∷ [])
+  -- `feed_image`: as `Images::next`
+  pub feed-image : (r s : List ℕ) (firstStart firstLength hasSecond secondStart secondLength offset second : ℕ)
+      → Only (feedImage r s firstStart firstLength hasSecond secondStart secondLength offset second)
+      (11 at 0 ∷ 12 at 0 ∷ 9 at 0 ∷ 9 below countOf r ∷ 10 below countOf r ∷ [])
   -- ---- all calls: out is the buffer of numbers, and k how many the call's answer has
   -- the status is 0 exactly if the answer is no refusal and there is room for its numbers
   pub status-zero : (k : ℕ) (out : List ℕ) (answer : Outcome (List ℕ)) (ls : List Line) → Only answer ls
@@ -59,6 +69,7 @@ pub record AbiCalls : Type 0 where
   -- and the bytes lent to a writer are as they were
   pub bytes-kept : (k : ℕ) (out buf : List ℕ) (rule : Outcome (List ℕ × List ℕ)) → (statusOf k out (answerOf rule) ≡ 0 → ⊥) → bytesLeft k out buf rule ≡ buf
   -- ---- how many numbers each answer has
+  pub map-six : (event : List ℕ) (postHeader : ℕ) → Counts 6 (feedMap event postHeader)
   pub check-one : (event : List ℕ) (postHeader dialect : ℕ) (buf : List ℕ) → Counts 1 (answerOf (feedCheck event postHeader dialect buf))
   pub column-five : (r : List ℕ) (column : ℕ) → Counts 5 (feedColumn r column)
   pub names-two : (event : List ℕ) (postHeader dialect : ℕ) → Counts 2 (feedNames event postHeader dialect)
@@ -67,5 +78,8 @@ pub record AbiCalls : Type 0 where
   pub step-eleven : (r p im : List ℕ) (column offset : ℕ) → Counts 11 (feedStep r p im column offset)
   pub start-two : (r p nulls im : List ℕ) → Counts 2 (answerOf (feedStart r p nulls im))
   pub put-two : (r p nulls : List ℕ) (column offset kind : ℕ) (parts lent im : List ℕ) → Counts 2 (answerOf (feedPut r p nulls column offset kind parts lent im))
+  pub rows-ten : (code : ℕ) (r : List ℕ) (id : ℕ) (s : List ℕ) → Counts 10 (feedRows code r id s)
+  pub image-six : (r s : List ℕ) (firstStart firstLength hasSecond secondStart secondLength offset second : ℕ)
+      → Counts 6 (feedImage r s firstStart firstLength hasSecond secondStart secondLength offset second)
   -- so many are touched, and no others
   pub numbers-touched : (k : ℕ) (out : List ℕ) (answer : Outcome (List ℕ)) → Counts k answer → Answered k out answer → Touched out 0 k (numbersLeft k out answer)

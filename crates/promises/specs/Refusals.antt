@@ -37,7 +37,12 @@ use Rattle.map_check.specs.Check.{check}
 use Rattle.map_check.specs.Names.{listOf, columnName}
 use Rattle.image.specs.declared.cursor.Cursor.{Cursor}
 use Rattle.image.specs.Split.{headOf, firstCursor, stepFrom}
+use Rattle.image.specs.Walk.{walk}
 use Rattle.image.specs.Puts.{startImage, putFrom}
+use Rattle.rows_event.specs.declared.event.Rows.{Rows}
+use Rattle.rows_event.specs.declared.images.Images.{Images}
+use Rattle.rows_event.specs.Events.{readRows}
+use Rattle.rows_event.specs.Images.{nextImage}
 
 infix 70 _at_
 infix 70 _below_
@@ -61,9 +66,9 @@ numberOf (n at p) = n
 numberOf (n below p) = n
 numberOf (n upTo p) = n
 
--- the numbers of document 01's table
+-- the numbers of document 01's table, and those that document 02 adds
 abbrev pub refusalNumbers : List ℕ
-refusalNumbers = 1 ∷ 2 ∷ 3 ∷ 4 ∷ 5 ∷ 6 ∷ 7 ∷ 8 ∷ 9 ∷ 10 ∷ 11 ∷ 12 ∷ 13 ∷ 14 ∷ []
+refusalNumbers = 1 ∷ 2 ∷ 3 ∷ 4 ∷ 5 ∷ 6 ∷ 7 ∷ 8 ∷ 9 ∷ 10 ∷ 11 ∷ 12 ∷ 13 ∷ 14 ∷ 15 ∷ 16 ∷ []
 
 unfoldable pub isAmong : ℕ → List ℕ → Bool
 isAmong n [] = false
@@ -149,11 +154,19 @@ pub record EveryCall : Type 1 where
   -- `Cursor::step`: 14 at the cursor's column; 9 at 0 in the null bits, at the cursor's column for an offset past the image, and else, as 10, at one of the record's columns
   pub step-image : (r p im : List ℕ) (c : Cursor)
       → Only (stepFrom r p im c) (11 at 0 ∷ 12 at 0 ∷ 14 at c .column ∷ 9 at 0 ∷ 9 at c .column ∷ 9 below countOf r ∷ 10 below countOf r ∷ [])
+  -- `walk_end`: 9 at 0 in the null bits, and else, as 10, at one of the record's columns
+  pub walk-end : (r p im : List ℕ) → Only (walk r p im .how) (11 at 0 ∷ 12 at 0 ∷ 9 at 0 ∷ 9 below countOf r ∷ 10 below countOf r ∷ [])
   -- `start`
   pub start-image : (r p nulls buf : List ℕ) → Only (startImage r p nulls buf) (11 at 0 ∷ 12 at 0 ∷ 8 at 0 ∷ [])
   -- `Cursor::put`: 14 at the cursor's column, 13 at one of the record's columns
   pub put-value : (r p nulls : List ℕ) (c : Cursor) (lent : List ℕ) (v : Value) (buf : List ℕ)
       → Only (putFrom r p nulls c lent v buf) (11 at 0 ∷ 12 at 0 ∷ 14 at c .column ∷ 13 below countOf r ∷ 8 at 0 ∷ [])
+  -- ---- `rows_event`
+  -- `read_rows`: 1 and 2 at an offset of the event, or at its end; 15 at the length of the extra data; 16 at 0 for the code and the table id, and at the column count
+  pub read-rows : (code : ℕ) (r : List ℕ) (id : ℕ) (s : List ℕ)
+      → Only (readRows code r id s) (11 at 0 ∷ 16 at 0 ∷ 1 upTo length s ∷ 2 upTo length s ∷ 15 at 8 ∷ 16 upTo length s ∷ [])
+  -- `Images::next`: those of `walk_end`
+  pub next-image : (r : List ℕ) (w : Rows) (s : List ℕ) (c : Images) → Only (nextImage r w s c) (11 at 0 ∷ 12 at 0 ∷ 9 at 0 ∷ 9 below countOf r ∷ 10 below countOf r ∷ [])
   -- ---- all calls
   -- every refusal so listed has a number of the table
   pub numbered : {A : Type 0} (answer : Outcome A) (ls : List Line) (w : Refusal) → Only answer ls → answer ≡ refused w → isAmong (w .number) refusalNumbers ≡ true

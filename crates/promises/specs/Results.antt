@@ -14,7 +14,10 @@ use Rattle.table_map.specs.Fields.{fieldOf, fieldCutOf, judgedOf}
 use Rattle.record.specs.Records.{recordOf}
 use Rattle.map_check.specs.Names.{nameOf}
 use Rattle.image.specs.Split.{told, firstTold, headTold}
+use Rattle.image.specs.Walk.{endTold}
 use Rattle.image.specs.Puts.{putTold}
+use Rattle.rows_event.specs.Events.{rowsTold}
+use Rattle.rows_event.specs.Images.{toldImage}
 
 -- answers that look the same are the same
 abbrev pub Apart : {A B : Type 0} → (A → B) → Type 0
@@ -52,8 +55,12 @@ pub record Results : Type 0 where
   pub columns : Apart recordOf
   -- `column_name`
   pub name : Apart nameOf
-  -- `read_head`, `first_cursor`, `Cursor::step`, and `start` with `Cursor::put`
+  -- `read_head`, `first_cursor`, `Cursor::step`, `walk_end`, and `start` with `Cursor::put`
   pub head : Apart headTold
   pub first : Apart firstTold
   pub step : Apart told
+  pub end : Apart endTold
   pub put : Apart putTold
+  -- `read_rows`, `Images::next`
+  pub rows : Apart rowsTold
+  pub image : Apart toldImage

@@ -44,6 +44,12 @@ pub const NOT_TAKEN: u8 = 13;
 // There is no such column.
 pub const NO_COLUMN: u8 = 14;
 
+// The length of a rows event's extra data is below 2, though it counts its own two bytes.
+pub const BAD_EXTRA: u8 = 15;
+
+// A rows event of another code, another table or another number of columns.
+pub const OTHER_EVENT: u8 = 16;
+
 pub struct Refusal {
     pub number: u8,
     pub place: usize,

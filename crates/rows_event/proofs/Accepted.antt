@@ -1,0 +1,153 @@
+-- An event that was read: its sets of presence bits are of the record's length, and its images begin within it. Assumes nothing.
+use Prim.Native.Nat.{ℕ, _+_, _≤_}
+use mathlib.Core.Path.{_≡_, refl, sym, ap, subst, _∙_}
+use mathlib.Core.Bool.{Bool, true, false, cond, _&&_, not, true≢false}
+use mathlib.Core.Logic.{_⊎_, inl, inr}
+use mathlib.Core.List.{List}
+use native.Mathlib.Omega.{arith}
+use borrow.Author.Tests.{eqb-true}
+use lib.ListN.{length, drop}
+use lib.Dec.{ltb, eqb}
+use Rattle.wire.specs.declared.refusal.Refusal.{Refusal}
+use Rattle.wire.specs.declared.part.Part.{Part}
+use Rattle.wire.specs.Outcome.{Outcome, ok, refused, why, refuse}
+use Rattle.wire.specs.Bits.{bytesFor}
+use Rattle.wire.specs.Packed.{readFixed, readPacked}
+use Rattle.wire.specs.Parts.{part, lentPart, within}
+use Rattle.wire.proofs.Outcomes.{same-ok, same-refused, ok-not-refused, after-is-ok, after-refuses, test-is-ok, by-test}
+use Rattle.wire.specs.Number.{Bytes}
+use Rattle.wire.proofs.Inverse.{bytes-drop}
+use Rattle.wire.proofs.Parts.{within-ok, part-length, lent-is, fixed-ok}
+use Rattle.record.specs.Records.{countOf, recordValid, readRecord}
+use Rattle.record.proofs.Valid.{read-valid}
+use Rattle.image.specs.Walk.{walk}
+use Rattle.image.specs.Rows.{Refusals, in-nulls, at-column}
+use Rattle.image.proofs.Images.{no-other}
+use Rattle.rows_event.specs.declared.form.Form.{Form}
+use Rattle.rows_event.specs.declared.parts.Extra.{Extra}
+use Rattle.rows_event.specs.declared.parts.Second.{Second}
+use Rattle.rows_event.specs.declared.parts.Sets.{Sets}
+use Rattle.rows_event.specs.declared.parts.Parts.{Parts}
+use Rattle.rows_event.specs.declared.event.Rows.{Rows}
+use Rattle.rows_event.specs.declared.images.Images.{Images}
+use Rattle.rows_event.specs.Events.{formOf, extraData, extraAt, secondSet, secondAt, setsAt, readSets, readParts, rowsOf, fitting, readRows}
+use Rattle.rows_event.specs.Images.{isThere, inPairs, secondBits, setOf, isEmpty, Told, image, end, isSecond, behind, nextImage}
+use Rattle.rows_event.proofs.Says.{Fits, cursor-set}
+
+-- a part of n bytes that ends within those lent
+lent-length : (s : List ℕ) (at n : ℕ) → at + n ≤ length s → length (lentPart s (part at n)) ≡ n
+lent-length s at n h = ap length (lent-is s (part at n) h) ∙ part-length s (part at n) h
+
+-- ---- the sets: of so many bytes each, and within the event
+record Sized (s : List ℕ) (n : ℕ) (first : Part) (second : Second) (images : ℕ) : Type 0 where
+  before : length (lentPart s first) ≡ n
+  after : isThere second ≡ true → length (secondBits s second) ≡ n
+  place : images ≤ length s
+
+second-sized : (has : Bool) (n : ℕ) (s : List ℕ) (at : ℕ) (x : Second × ℕ) → at ≤ length s → secondAt has n s at ≡ ok x
+    → (isThere (x .0) ≡ true → length (secondBits s (x .0)) ≡ n) × (x .1 ≤ length s)
+unfolding secondAt secondSet
+second-sized true n s at x l e =
+    let w = after-is-ok (within s at n at) _ x e in
+    let h = within-ok s at n at (w .0) (w .1) in
+    let q = same-ok (w .2) in
+    subst (λ (y : Second × ℕ). (isThere (y .0) ≡ true → length (secondBits s (y .0)) ≡ n) × (y .1 ≤ length s)) q
+    (λ t. lent-length s at n (omega (arith, h .0, h .1)), h .1)
+second-sized false n s at x l e =
+    subst (λ (y : Second × ℕ). (isThere (y .0) ≡ true → length (secondBits s (y .0)) ≡ n) × (y .1 ≤ length s)) (same-ok e) (λ t. absurd (true≢false (sym t)), l)
+
+sets-sized : (second : Bool) (count : ℕ) (s : List ℕ) (at : ℕ) (x : Sets) → setsAt second count s at ≡ ok x
+    → (x .count ≡ count) × Sized s (bytesFor count) (x .before) (x .after) (x .images)
+unfolding setsAt
+sets-sized second count s at x e =
+    let n = bytesFor count in
+    let w = after-is-ok (within s at n at) _ x e in
+    let h = within-ok s at n at (w .0) (w .1) in
+    let b = after-is-ok (secondAt second n s (w .0)) _ x (w .2) in
+    let k = second-sized second n s (w .0) (b .0) (h .1) (b .1) in
+    subst (λ (y : Sets). (y .count ≡ count) × Sized s n (y .before) (y .after) (y .images)) (same-ok (b .2))
+    (refl, record { before = lent-length s at n (omega (arith, h .0, h .1)); after = k .0; place = k .1 })
+
+parts-sized : (f : Form) (s : List ℕ) (p : Parts) → readParts f s ≡ ok p → Sized s (bytesFor (p .sets .count)) (p .sets .before) (p .sets .after) (p .sets .images)
+unfolding readParts readSets
+parts-sized f s p e =
+    let i = after-is-ok (readFixed 6 s 0) _ p e in
+    let g = after-is-ok (readFixed 2 s 6) _ p (i .2) in
+    let x = after-is-ok (extraAt (f .extra) s 8) _ p (g .2) in
+    let t = after-is-ok (readSets (f .second) s (x .0 .1)) _ p (x .2) in
+    let n = after-is-ok (readPacked s (x .0 .1)) _ (t .0) (t .1) in
+    let k = sets-sized (f .second) (n .0 .0) s (n .0 .1) (t .0) (n .2) in
+    let z = subst (λ (j : ℕ). Sized s (bytesFor j) (t .0 .before) (t .0 .after) (t .0 .images)) (sym (k .0)) (k .1) in
+    subst (λ (y : Parts). Sized s (bytesFor (y .sets .count)) (y .sets .before) (y .sets .after) (y .sets .images)) (same-ok (t .2)) z
+
+-- ---- places within the event
+-- where the extra data ends: within the event
+pub extra-ends : (has : Bool) (s : List ℕ) (x : Extra × ℕ) → 8 ≤ length s → extraAt has s 8 ≡ ok x → x .1 ≤ length s
+unfolding extraAt extraData
+extra-ends true s x l e =
+    let n = after-is-ok (readFixed 2 s 8) _ x e in
+    by-test (ltb (n .0 .0) 2) _ _ (ok x) (n .2) (λ u f. absurd (ok-not-refused (sym f)))
+    (λ u f. let w = after-is-ok (within s 8 (n .0 .0) 8) _ x f in
+    subst (λ (y : Extra × ℕ). y .1 ≤ length s) (same-ok (w .2)) (within-ok s 8 (n .0 .0) 8 (w .0) (w .1) .1))
+extra-ends false s x l e = subst (λ (y : Extra × ℕ). y .1 ≤ length s) (same-ok e) l
+
+-- and where the count stands, behind it
+pub counted-in : (f : Form) (s : List ℕ) (p : Parts) → readParts f s ≡ ok p → p .counted ≤ length s
+unfolding readParts
+counted-in f s p e =
+    let i = after-is-ok (readFixed 6 s 0) _ p e in
+    let g = after-is-ok (readFixed 2 s 6) _ p (i .2) in
+    let b = fixed-ok 2 s 6 (g .0 .0) (g .0 .1) (g .1) in
+    let x = after-is-ok (extraAt (f .extra) s 8) _ p (g .2) in
+    let y = after-is-ok (readSets (f .second) s (x .0 .1)) _ p (x .2) in
+    subst (λ (z : Parts). z .counted ≤ length s) (same-ok (y .2)) (extra-ends (f .extra) s (x .0) (omega (arith, b .next-is, b .ends)) (x .1))
+
+-- ---- the event
+fits-sized : (r : List ℕ) (w : Rows) (s : List ℕ) → recordValid r ≡ true → Sized s (bytesFor (countOf r)) (w .before) (w .after) (w .images) → Fits r w s
+fits-sized r w s v z = record { valid = v; sets = sets }
+  where
+    sets : (b : Bool) → (inPairs w ≡ false → b ≡ false) → length (setOf w s b) ≡ bytesFor (countOf r)
+    sets false g = z .before
+    sets true g = go (inPairs w) refl
+      where
+        go : (t : Bool) → inPairs w ≡ t → length (setOf w s true) ≡ bytesFor (countOf r)
+        go true e = z .after e
+        go false e = absurd (true≢false (g e))
+
+-- of two tests that a chain passed, the second and what it gave
+two-tests : (a b : Bool) (x : Rows) (v v′ : Refusal) (w : Rows) → cond a (cond b (ok x) (refused v)) (refused v′) ≡ ok w → (b ≡ true) × (x ≡ w)
+two-tests true b x v v′ w e = test-is-ok b x v w e
+two-tests false b x v v′ w e = absurd (ok-not-refused (sym e))
+
+pub accepted : (code : ℕ) (r : List ℕ) (id : ℕ) (s : List ℕ) (w : Rows) → readRows code r id s ≡ ok w → Fits r w s × (w .images ≤ length s)
+unfolding readRows fitting
+accepted code r id s w e =
+    let n = after-is-ok (readRecord r) _ w e in
+    let v = read-valid r (n .0) (n .1) in
+    let f = after-is-ok (formOf code) _ w (n .2) in
+    let p = after-is-ok (readParts (f .0) s) _ w (f .2) in
+    let a = two-tests (eqb (p .0 .id) id) (eqb (p .0 .sets .count) (n .0)) (rowsOf (p .0)) (why 16 (p .0 .counted)) (why 16 0) w (p .2) in
+    let c : p .0 .sets .count ≡ countOf r = eqb-true (p .0 .sets .count) (n .0) (a .0) ∙ v .1 in
+    let z = subst (λ (j : ℕ). Sized s (bytesFor j) (p .0 .sets .before) (p .0 .sets .after) (p .0 .sets .images)) c (parts-sized (f .0) s (p .0) (p .1)) in
+    let y = subst (λ (x : Rows). Sized s (bytesFor (countOf r)) (x .before) (x .after) (x .images)) (a .1) z in
+    (fits-sized r w s (v .0) y, y .place)
+
+-- ---- a step under what was read refuses with 9 or 10 alone
+refusal-number : {r p im : List ℕ} {v : Refusal} → Refusals r p im v → (v .number ≡ 9) ⊎ (v .number ≡ 10)
+refusal-number (in-nulls l) = inl refl
+refusal-number (at-column n j e a) = e
+
+pub own-record : (r : List ℕ) (w : Rows) (s : List ℕ) (c : Images) (v : Refusal) → Fits r w s → Bytes s → nextImage r w s c ≡ refused v → (v .number ≡ 9) ⊎ (v .number ≡ 10)
+unfolding nextImage
+own-record r w s c v f y e =
+    by-test (ltb (length s) (c .at)) (refuse 9 0) _ (refused v) e (λ t q. left-short q)
+    (λ t q. by-test (eqb (c .at) (length s) && not (isSecond w c)) (ok end) _ (refused v) q (λ t q. absurd (ok-not-refused q)) (λ t q. read (after-refuses (walk r (setOf w s (isSecond w c)) (drop (c .at) s) .how) _ v q)))
+  where
+    left-short : _≡_ {A = Outcome Told} (refuse 9 0) (refused v) → (v .number ≡ 9) ⊎ (v .number ≡ 10)
+    left-short q = inl (sym (ap (λ (x : Refusal). x .number) (same-refused q)))
+
+    read : (walk r (setOf w s (isSecond w c)) (drop (c .at) s) .how ≡ refused v)
+        ⊎ ((u : ℕ) × (walk r (setOf w s (isSecond w c)) (drop (c .at) s) .how ≡ ok u)
+        × (cond (isEmpty r w s) (refuse 9 0) (ok (image (part (c .at) u) (isSecond w c) (behind w (c .at + u) (isSecond w c)))) ≡ refused v)) → (v .number ≡ 9) ⊎ (v .number ≡ 10)
+    read (inl q) = refusal-number (no-other r (setOf w s (isSecond w c)) (drop (c .at) s) v (f .valid) (f .sets (isSecond w c) (cursor-set w c)) (bytes-drop (c .at) s y) q)
+    read (inr x) = by-test (isEmpty r w s) (refuse 9 0) _ (refused v) (x .2) (λ t q. left-short q) (λ t q. absurd (ok-not-refused q))
