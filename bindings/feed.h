@@ -123,7 +123,11 @@ enum {
     FEED_STEP_NEXT_OFFSET = 3,
     FEED_STEP_PARTS = 4, /* seven numbers from here on; those that the kind has not are 0 */
 
-    FEED_NAME_START = 0, /* feed_names, feed_name */
+    FEED_HAS_NAMES = 0, /* feed_names */
+    FEED_NAMES_START = 1,
+    FEED_NAMES_LENGTH = 2,
+
+    FEED_NAME_START = 0, /* feed_name */
     FEED_NAME_LENGTH = 1,
 
     FEED_ROWS_FLAGS = 0, /* feed_rows */
@@ -209,8 +213,10 @@ uint64_t feed_put(const uint8_t *profile, size_t profile_length, const uint8_t *
                   uint8_t *image, size_t image_length, uint64_t *out, size_t out_length);
 
 /*
- * Where the column names of an event stand. Answer, 2 numbers: start and length, in the event, of the value of its first names field;
- * 0 and 0 if it has none, or is refused before it.
+ * Where the column names of an event stand. Answer, 3 numbers: 1, and start and length, in the event, of the value of its first names field,
+ * which may have no bytes; or three zeros if its optional fields come to their end without one. It is refused if the event is, or an
+ * optional field before the names, as in a map that is asked in another dialect than its server's: its names are not known then, and a list
+ * of your own does not stand in for them. What stands behind the names is not looked at.
  */
 uint64_t feed_names(const uint8_t *event, size_t event_length, uint8_t post_header, uint8_t dialect, uint64_t *out, size_t out_length);
 

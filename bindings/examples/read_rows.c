@@ -141,8 +141,10 @@ static void read_map(struct table *table, uint8_t dialect)
     answered("feed_map", feed_map(event->at, event->length, POST_HEADER, out, FEED_OUT_NUMBERS), out);
     table->id = out[FEED_MAP_ID];
     answered("feed_names", feed_names(event->at, event->length, POST_HEADER, dialect, out, FEED_OUT_NUMBERS), out);
-    table->names = event->at + out[FEED_NAME_START];
-    table->names_length = (size_t)out[FEED_NAME_LENGTH];
+    if (out[FEED_HAS_NAMES] == 0)
+        stop("a map has no names");
+    table->names = event->at + out[FEED_NAMES_START];
+    table->names_length = (size_t)out[FEED_NAMES_LENGTH];
     answered("feed_check",
              feed_check(event->at, event->length, POST_HEADER, dialect, table->record, FEED_RECORD_MOST, out, FEED_OUT_NUMBERS), out);
     table->record_length = (size_t)out[FEED_RECORD_LENGTH];

@@ -83,7 +83,7 @@ impl Table {
     }
 
     fn name(&self, column: usize) -> Result<String, Box<dyn Error>> {
-        let list = names(&self.event, POST_HEADER, self.dialect);
+        let list = names(&self.event, POST_HEADER, self.dialect)?.ok_or("a map has no names")?;
         Ok(String::from_utf8_lossy(name(list, &[], column)?).into_owned())
     }
 }

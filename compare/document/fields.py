@@ -64,13 +64,10 @@ def reader(counted):
     return read_field
 
 
-def names_part(dialect, post_header, s):
-    """where in the event the names stand: the first field 4 that the walk meets, or none"""
-    try:
-        event = read_event(post_header, s)
-        for field, _ in walk(reader(counts(dialect, event.types)), s, event.optional_at):
-            if field.type == NAMES:
-                return field.start, len(field.value)
-    except Refused:
-        pass
-    return 0, 0
+def names_field(dialect, post_header, s):
+    """the first field 4 that the walk over an event's fields meets, or None if it comes to its end; what stands behind the field is not looked at"""
+    event = read_event(post_header, s)
+    for field, _ in walk(reader(counts(dialect, event.types)), s, event.optional_at):
+        if field.type == NAMES:
+            return field
+    return None

@@ -4,7 +4,7 @@ import re
 from .check import check
 from .columns import DIALECTS, Column
 from .event import read_event, written_event
-from .fields import counts, names_part, reader
+from .fields import counts, names_field, reader
 from .image import Head
 from .lists import column_name, read_group, read_integer, read_pair, read_string, step, walk
 from .packed import pack, read_packed
@@ -222,7 +222,8 @@ def field_case(dialect, types, s, at):
 
 @case("names", DIALECT, NUMBER, HEX)
 def names_case(dialect, post_header, s):
-    return ok(*names_part(dialect, post_header, s))
+    field = names_field(dialect, post_header, s)
+    return ok(0, 0, 0) if field is None else ok(1, field.start, len(field.value))
 
 
 @case("list", KIND, HEX)

@@ -195,10 +195,24 @@ def names_edges(rng):
         yield line("names", dialect, post_header, s)
 
 
+def three_answers():
+    """optional bytes of a map with a YEAR, which has a signedness bit on a server and none by the letter: names with and without bytes, none, a refusal before
+    the names, and one behind them"""
+    named, empty, unknown = field_bytes(4, b"\x01\x61"), field_bytes(4, b""), field_bytes(14, b"")
+    for signs in (b"", field_bytes(1, b"\x80"), field_bytes(1, b"")):
+        for names in (b"", named, empty, named + empty, empty + named):
+            for fault in (unknown, b"\x0c", b"\x0c\x02\xff", b"\x0c\xfb", field_bytes(12, b""), field_bytes(2, b"")):
+                yield from (signs + names, signs + fault + names, signs + names + fault)
+
+
 def names_rules(rng):
     for dialect in DIALECTS:
+        for optional in three_answers():
+            yield line("names", dialect, 8, event_of(b"\x0d", b"", optional))
         for s in rule_checks(dialect):
             yield line("names", dialect, 8, s + b"\x04\x02\x01\x61")
+    for post_header, s in event_rules():
+        yield line("names", "document", post_header, s)
 
 
 @maker("names", names_edges, names_rules)

@@ -198,12 +198,16 @@ impl Record {
     }
 }
 
-/// The list of column names in an event, empty if it has none. The event is not checked further than to its names.
-pub fn names(event: &[u8], post_header: u8, dialect: Dialect) -> &[u8] {
-    match abi::names(event, post_header, dialect.number()) {
-        Ok(out) => part(event, out[0], out[1]).unwrap_or(&[]),
-        Err(_) => &[],
-    }
+/// The list of column names in an event: `Some`, which may be empty, if it has one; `None` if its optional fields come to their end without
+/// one. It is refused if the event is, or an optional field before the names, as in a map that is asked in another dialect than its server's:
+/// its names are not known then, and a list of your own does not stand in for them. What stands behind the names is not looked at.
+pub fn names(event: &[u8], post_header: u8, dialect: Dialect) -> Result<Option<&[u8]>, Refusal> {
+    let out = abi::names(event, post_header, dialect.number())?;
+    Ok(if out[0] == 0 {
+        None
+    } else {
+        part(event, out[1], out[2])
+    })
 }
 
 /// The name of a column in a list of names, or in `fallback` if that list is empty: a list of your own in the same layout, each name a
@@ -217,14 +221,15 @@ pub fn name<'a>(names: &'a [u8], fallback: &'a [u8], column: usize) -> Result<&'
     })
 }
 
-/// The name of a column in an event. It is refused with 14 if the event tells no names.
+/// The name of a column in an event. It is refused with 14 if the event has no names, or fewer, and as [`names`] if they are not known.
 pub fn column_name(
     event: &[u8],
     post_header: u8,
     dialect: Dialect,
     column: usize,
 ) -> Result<&[u8], Refusal> {
-    name(names(event, post_header, dialect), &[], column)
+    let list = names(event, post_header, dialect)?.unwrap_or(&[]);
+    name(list, &[], column)
 }
 
 /// A part of some bytes. The library answers no part that is not there, so this is `Some` for all its answers.

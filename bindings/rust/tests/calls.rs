@@ -216,7 +216,6 @@ fn names_come_from_the_map_or_else_from_the_list_beside_it() {
         column_name(YEAR_EVENT, 8, Dialect::Mysql, 4),
         refused(refusal::NO_COLUMN, 4)
     );
-    assert_eq!(names(EVENT, 8, Dialect::Mysql), b"");
     assert_eq!(
         column_name(EVENT, 8, Dialect::Mysql, 0),
         refused(refusal::NO_COLUMN, 0)
@@ -227,6 +226,50 @@ fn names_come_from_the_map_or_else_from_the_list_beside_it() {
         refused(refusal::NO_COLUMN, 1)
     );
     assert_eq!(name(b"\x05ab", b"", 0), refused(refusal::SHORT, 0));
+}
+
+// a map with one YEAR, and these optional fields
+fn year_map(optional: &[u8]) -> Vec<u8> {
+    [
+        &[1, 0, 0, 0, 0, 0, 1, 0, 1, b't', 0, 1, b'r', 0, 1, 13, 0, 0],
+        optional,
+    ]
+    .concat()
+}
+
+#[test]
+fn no_names_and_empty_names_and_names_behind_a_refusal_are_three_answers() {
+    let asked = |optional: &[u8], dialect| {
+        let event = year_map(optional);
+        names(&event, 8, dialect).map(|found| found.map(<[u8]>::to_vec))
+    };
+    assert_eq!(
+        asked(&[4, 2, 1, b'y'], Dialect::Mysql),
+        Ok(Some(vec![1, b'y']))
+    );
+    assert_eq!(asked(&[4, 0], Dialect::Mysql), Ok(Some(vec![])));
+    assert_eq!(asked(&[1, 1, 0x80], Dialect::Mysql), Ok(None));
+    assert_eq!(
+        asked(&[14, 0, 4, 0], Dialect::Mysql),
+        refused(refusal::UNKNOWN_FIELD, 18)
+    );
+    // by the letter a YEAR has no signedness bit
+    let named = [1, 1, 0x80, 4, 2, 1, b'y'];
+    assert_eq!(asked(&named, Dialect::Mysql), Ok(Some(vec![1, b'y'])));
+    assert_eq!(
+        asked(&named, Dialect::Document),
+        refused(refusal::BAD_FIELD, 18)
+    );
+    assert_eq!(
+        column_name(&year_map(&named), 8, Dialect::Document, 0),
+        refused(refusal::BAD_FIELD, 18)
+    );
+    // what stands behind the names is not looked at
+    assert_eq!(asked(&[4, 0, 14, 0], Dialect::Mysql), Ok(Some(vec![])));
+    assert_eq!(
+        names(&[1, 2], 8, Dialect::Mysql),
+        refused(refusal::SHORT, 0)
+    );
 }
 
 // a record of one column, which is visible

@@ -2,15 +2,16 @@
 use crate::room::written;
 use crate::turn::OWN;
 use crate::turn::Turn;
+use crate::turn::few;
 use crate::turn::one;
 use crate::turn::plain;
 use crate::turn::refused;
-use crate::turn::two;
 use crate::words::dialect;
 use crate::words::index;
 use crate::words::post_header;
 use crate::words::text;
 use map_check::NameRead;
+use map_check::NamesRead;
 use map_check::Place;
 use record::RecordRead;
 use value::Dialect;
@@ -62,6 +63,9 @@ pub(crate) fn name_asked<'a>(line: &'a [u8], args: &[u64]) -> &'a [u8] {
 
 // `names DIALECT POSTHEADER HEX`
 pub(crate) fn names(line: &[u8], args: &[u64]) -> Turn {
-    let part = map_check::names_part(text(line, args, 3), post_header(args, 2), dialect(args, 1));
-    two(part.start as u64, part.len as u64)
+    match map_check::names_field(text(line, args, 3), post_header(args, 2), dialect(args, 1)) {
+        NamesRead::Names(part) => few(OWN, 1, part.start as u64, part.len as u64, 0),
+        NamesRead::Absent => few(OWN, 0, 0, 0, 0),
+        NamesRead::Refused(refusal) => refused(refusal),
+    }
 }

@@ -122,24 +122,6 @@ fn with_images(rows: Rows) -> Turn {
     onward(sets_told(rows), before(first, 0))
 }
 
-fn second_or(after: Second, first: Part) -> Part {
-    match after {
-        Second::Absent => first,
-        Second::Bits(bits) => bits,
-    }
-}
-
-// The presence bits that an image stands under.
-fn set_of(rows: Rows, event: &[u8], second: bool) -> &[u8] {
-    let first = rows.before;
-    if second {
-        let after = rows.after;
-        let bits = second_or(after, first);
-        return wire::part_of(event, bits);
-    }
-    wire::part_of(event, first)
-}
-
 // `image OFFSET`, and the cursor that the walk over the image begins with
 fn begin(profile: &[u8], presence: &[u8], images: Images, met: usize) -> Turn {
     match image::first_cursor(profile, presence) {
@@ -178,10 +160,15 @@ fn image_turn(rows: Rows, profile: &[u8], event: &[u8], at: Standing) -> Turn {
             image: _,
             second,
             next: _,
-        } => begin(profile, set_of(rows, event, second), images, met),
+        } => begin(
+            profile,
+            rows_event::set_of(rows, event, second),
+            images,
+            met,
+        ),
         ImageStep::End => few(USED, met as u64, 0, 0, 0),
         ImageStep::Refused(refusal) => {
-            let presence = set_of(rows, event, images.second);
+            let presence = rows_event::set_of(rows, event, images.second);
             begin_broken(refusal, begin(profile, presence, images, met))
         }
     }
@@ -240,7 +227,7 @@ fn value_turn(rows: Rows, profile: &[u8], event: &[u8], at: Standing) -> Turn {
     let images = at.images;
     let cursor = at.cursor;
     let span = span_of(images.next(rows, profile, event), images);
-    let presence = set_of(rows, event, span.second);
+    let presence = rows_event::set_of(rows, event, span.second);
     let start = span.image.start;
     let image = part(event, start, plus(start, span.image.len));
     match cursor.step(profile, presence, image) {

@@ -32,7 +32,7 @@ use crate::turn::BAD;
 use crate::turn::Turn;
 use crate::turn::plain;
 
-pub(crate) const KINDS: [u8; 500] = *b"packed|hn|ok N N\n\
+pub(crate) const KINDS: [u8; 502] = *b"packed|hn|ok N N\n\
     value|bbbuh|ok * N\n\
     size|bbbuv|ok N\n\
     size-at|bbbuvn|ok N\n\
@@ -46,7 +46,7 @@ pub(crate) const KINDS: [u8; 500] = *b"packed|hn|ok N N\n\
     item|khn|ok * N\n\
     record|h|ok N\n\
     name|hhn|ok L\n\
-    names|dnh|ok N N\n\
+    names|dnh|ok N N N\n\
     first|hh|ok N N\n\
     step|hhhnn|ok N * N N\n\
     image|hhh|* \n\

@@ -2,23 +2,26 @@
 use Prim.Native.Nat.{ℕ, _+_, _≤_, _<_}
 use mathlib.Core.Path.{_≡_, refl, sym, ap, subst, _∙_}
 use mathlib.Core.List.{List, [], _∷_, _++_}
+use mathlib.Core.Option.{Option}
 use native.Mathlib.Omega.{arith}
 use borrow.Author.Tests.{le-leb, lt-leb, lt-ltb, le-ltb}
 use lib.ListN.{length}
 use Rattle.wire.specs.declared.refusal.Refusal.{Refusal}
-use Rattle.wire.specs.Outcome.{Outcome, ok, refused, refuse}
+use Rattle.wire.specs.Outcome.{Outcome, ok, refused, refuse, after}
 use Rattle.wire.specs.Stored.{stored, answerOf, leftOf}
 use Rattle.wire.proofs.Outcomes.{ok-not-refused, same-ok, same-refused}
 use Rattle.wire.proofs.Stores.{stored-stored}
 use Rattle.wire.specs.declared.part.Part.{Part}
+use Rattle.value.specs.declared.classes.Dialect.{Dialect}
 use Rattle.record.specs.Records.{entryIn, readRecord}
+use Rattle.map_check.specs.Names.{namesField}
 use Rattle.rows_event.specs.declared.parts.Second.{Second}
 use Rattle.rows_event.specs.declared.event.Rows.{Rows}
 use Rattle.rows_event.specs.declared.images.Images.{Images}
 use Rattle.rows_event.specs.Images.{Told as Told₁, nextImage}
 use Rattle.feed_abi.specs.Answers.{numberOf, toldOf, statusOf, numbersLeft, bytesLeft}
 use Rattle.image.specs.Split.{Told}
-use Rattle.feed_abi.specs.Calls.{said, saidWith, entryNumbers, toldNumbers, Held, setsAsked, feedColumn}
+use Rattle.feed_abi.specs.Calls.{said, saidWith, entryNumbers, namesGiven, givenNumbers, toldNumbers, Held, setsAsked, dialectOf, feedColumn, feedNames}
 
 -- the status s and the numbers x that a call leaves
 abbrev pub Tells : ℕ → List ℕ → Outcome (List ℕ) → ℕ → List ℕ → Type 0
@@ -97,6 +100,18 @@ column-none r j n e h = rw (e, le-ltb j n h)
 pub column-at : (r : List ℕ) (j n : ℕ) → readRecord r ≡ ok n → j < n → feedColumn r j ≡ ok (entryNumbers (entryIn r j))
 unfolding feedColumn
 column-at r j n e h = rw (e, lt-ltb j n h)
+
+-- ---- the names of a map, asked in the dialect of a number
+pub names-asked : (event : List ℕ) (postHeader n : ℕ) (d : Dialect) (o : Outcome (Option Part)) → dialectOf n ≡ ok d → namesField d event postHeader ≡ o
+    → feedNames event postHeader n ≡ said (λ f. givenNumbers (namesGiven f)) o
+unfolding feedNames
+names-asked event postHeader n d o e g =
+    ap (λ (x : Outcome Dialect). after x (λ d. said (λ f. givenNumbers (namesGiven f)) (namesField d event postHeader))) e
+    ∙ ap (said (λ f. givenNumbers (namesGiven f))) g
+
+pub no-dialect : (event : List ℕ) (postHeader n : ℕ) (r : Refusal) → dialectOf n ≡ refused r → feedNames event postHeader n ≡ refused r
+unfolding feedNames
+no-dialect event postHeader n r e = rw e
 
 -- ---- a step, which says too that a value told is one that the machine can hold
 abbrev Steps : List ℕ → Outcome Told → ℕ → List ℕ → Type 0

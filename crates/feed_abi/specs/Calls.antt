@@ -3,6 +3,7 @@ use Prim.Native.Nat.{ℕ}
 use mathlib.Core.Path.{_≡_}
 use mathlib.Core.Bool.{Bool, true, cond, not}
 use mathlib.Core.List.{List, [], _∷_, _++_}
+use mathlib.Core.Option.{Option, none, some}
 use lib.Dec.{ltb, eqb}
 use Rattle.wire.specs.Outcome.{Outcome, ok, refused, refuse, after}
 use Rattle.wire.specs.declared.part.Part.{Part}
@@ -16,7 +17,7 @@ use Rattle.table_map.specs.Events.{readEvent}
 use Rattle.record.specs.declared.entry.Entry.{Entry}
 use Rattle.record.specs.Records.{entryIn, readRecord}
 use Rattle.map_check.specs.Ranks.{place}
-use Rattle.map_check.specs.Names.{columnName, namesPart}
+use Rattle.map_check.specs.Names.{columnName, namesField}
 use Rattle.map_check.specs.Check.{check}
 use Rattle.image.specs.declared.cursor.Cursor.{Cursor}
 use Rattle.image.specs.Split.{Told, null, value, end, cursor, firstCursor, stepFrom}
@@ -81,6 +82,10 @@ abbrev pub secondGiven : Second → Given
 secondGiven Absent₁ = given 0 0 0
 secondGiven (Bits p) = given 1 (p .start) (p .len)
 
+abbrev pub namesGiven : Option Part → Given
+namesGiven none = given 0 0 0
+namesGiven (some p) = given 1 (p .start) (p .len)
+
 abbrev pub givenNumbers : Given → List ℕ
 givenNumbers g = g .there ∷ (g .start ∷ (g .len ∷ []))
 
@@ -122,10 +127,10 @@ unfoldable pub feedColumn : List ℕ → ℕ → Outcome (List ℕ)
 unfolding readRecord entryIn
 feedColumn r j = after (readRecord r) (λ n. cond (ltb j n) (ok (entryNumbers (entryIn r j))) (refuse 14 j))
 
--- start and length of the names in the event, 0 and 0 where there are none
+-- 1 with start and length of the names in the event, which may have no bytes, or zeros where it has none
 unfoldable pub feedNames : List ℕ → ℕ → ℕ → Outcome (List ℕ)
-unfolding dialectOf readEvent
-feedNames event postHeader d = said (λ d. partNumbers (namesPart d event (readEvent event postHeader))) (dialectOf d)
+unfolding dialectOf
+feedNames event postHeader d = after (dialectOf d) (λ d. said (λ f. givenNumbers (namesGiven f)) (namesField d event postHeader))
 
 -- start and length of a name in the list that is looked at
 unfoldable pub feedName : List ℕ → List ℕ → ℕ → Outcome (List ℕ)

@@ -3,6 +3,7 @@ use crate::answer::NO_NUMBERS;
 use crate::answer::tell;
 use crate::answer::tell_refusal;
 use map_check::NameRead;
+use map_check::NamesRead;
 use map_check::Place;
 use record::Entry;
 use record::RecordRead;
@@ -15,11 +16,12 @@ use wire::Written;
 use wire::refusal::NO_COLUMN;
 use wire::refusal::NOT_TAKEN;
 ghost use mathlib.Core.Path.{_≡_};
+ghost use mathlib.Core.Option.{none, some};
 ghost use Prim.Native.Nat.{_≤_};
 ghost use lib.ListN.{length};
 ghost use Rattle.wire.specs.Stored.{stored, answerOf};
 ghost use Rattle.feed_abi.specs.Answers.{statusOf, numbersLeft, bytesLeft};
-ghost use Rattle.feed_abi.specs.Calls.{partNumbers, mapNumbers, entryNumbers, dialectOf, askedOf, feedMap, feedCheck, feedColumn, feedNames, feedName};
+ghost use Rattle.feed_abi.specs.Calls.{partNumbers, mapNumbers, entryNumbers, namesGiven, givenNumbers, dialectOf, askedOf, feedMap, feedCheck, feedColumn, feedNames, feedName};
 
 // The dialect that a number asks for.
 enum Asked {
@@ -48,6 +50,24 @@ fn tell_part(out: &mut [u64], part: Part) -> u64
     ensures { λ _. ⌜ now (out .exit) ≡ stored (now (out .entry)) 0 (partNumbers part) ⌝ }
 {
     let numbers = [part.start as u64, part.len as u64];
+    tell(out, &numbers)
+}
+
+fn tell_names(out: &mut [u64], names: Part) -> u64
+    requires { ⌜ 3 ≤ length (now out) ⌝ }
+    ensures { λ r. ⌜ r ≡ 0 ⌝ }
+    ensures { λ _. ⌜ now (out .exit) ≡ stored (now (out .entry)) 0 (givenNumbers (namesGiven (some names))) ⌝ }
+{
+    let numbers = [1, names.start as u64, names.len as u64];
+    tell(out, &numbers)
+}
+
+fn tell_no_names(out: &mut [u64]) -> u64
+    requires { ⌜ 3 ≤ length (now out) ⌝ }
+    ensures { λ r. ⌜ r ≡ 0 ⌝ }
+    ensures { λ _. ⌜ now (out .exit) ≡ stored (now (out .entry)) 0 (givenNumbers (namesGiven none)) ⌝ }
+{
+    let numbers = [0, 0, 0];
     tell(out, &numbers)
 }
 
@@ -147,18 +167,23 @@ pub extern "C" fn feed_column(profile: &[u8], column: usize, out: &mut [u64]) ->
     tell_entry(out, record::entry_in(profile, column))
 }
 
-// Where the names of a map stand in the event: start and length, 0 and 0 where it has none or is refused before them.
+// Where the names of a map stand in the event: 1, start and length, which may be 0; zeros where it has none. A map that is refused before its names is refused here.
 #[no_mangle]
 pub extern "C" fn feed_names(event: &[u8], post_header: u8, dialect: u8, out: &mut [u64]) -> u64
-    ensures { λ r. ⌜ r ≡ statusOf 2 (now (out .entry)) (feedNames (now (event .entry)) «post_header» dialect) ⌝ }
-    ensures { λ _. ⌜ now (out .exit) ≡ numbersLeft 2 (now (out .entry)) (feedNames (now (event .entry)) «post_header» dialect) ⌝ }
+    ensures { λ r. ⌜ r ≡ statusOf 3 (now (out .entry)) (feedNames (now (event .entry)) «post_header» dialect) ⌝ }
+    ensures { λ _. ⌜ now (out .exit) ≡ numbersLeft 3 (now (out .entry)) (feedNames (now (event .entry)) «post_header» dialect) ⌝ }
 {
-    if out.len() < 2 {
+    if out.len() < 3 {
         return NO_NUMBERS;
     }
-    match dialect_of(dialect) {
-        Asked::For(asked) => tell_part(out, map_check::names_part(event, post_header, asked)),
-        Asked::Refused(r) => tell_refusal(out, r),
+    let asked = match dialect_of(dialect) {
+        Asked::For(asked) => asked,
+        Asked::Refused(r) => return tell_refusal(out, r),
+    };
+    match map_check::names_field(event, post_header, asked) {
+        NamesRead::Names(names) => tell_names(out, names),
+        NamesRead::Absent => tell_no_names(out),
+        NamesRead::Refused(r) => tell_refusal(out, r),
     }
 }
 

@@ -1,5 +1,5 @@
 -- Every row on paper can be given to the writer: values with their bytes, and null bits written one by one. Assumes nothing.
-use Prim.Native.Nat.{ℕ, suc, _+_, _-_, _*_, _/_, _≤_, _<_}
+use Prim.Native.Nat.{ℕ, zero, suc, _+_, _-_, _*_, _/_, _≤_, _<_}
 use mathlib.Core.Path.{_≡_, refl, sym, ap, subst, _∙_}
 use mathlib.Core.Bool.{Bool, true}
 use mathlib.Core.List.{List, [], _∷_}
@@ -7,10 +7,12 @@ use native.Mathlib.Omega.{arith}
 use borrow.Author.Tests.{le-leb}
 use lib.ListN.{length, getD, replicate, length-replicate}
 use lib.Seq.{take-length}
+use Rattle.wire.specs.Number.{Bytes}
 use Rattle.wire.specs.Bits.{bytesFor, lsb0}
 use Rattle.wire.specs.Stored.{stored}
-use Rattle.wire.proofs.Stores.{length-stored}
-use Rattle.wire.proofs.Digits.{withDigit, lsb0-written, lsb0-kept}
+use Rattle.wire.proofs.Inverse.{bytes-one}
+use Rattle.wire.proofs.Stores.{length-stored, stored-bytes}
+use Rattle.wire.proofs.Digits.{withDigit, with-below, lsb0-written, lsb0-kept}
 use Rattle.value.specs.Data.{Datum, null, int, uint, float, double, year, when, bytes, bytesIn}
 use Rattle.value.specs.Reading.{placed, datumOf}
 use Rattle.value.specs.Storing.{bytesAt, isLent}
@@ -21,7 +23,7 @@ use Rattle.image.specs.WriteRow.{LentValue, rowOf, areLent, Fit}
 use Rattle.image.proofs.WriteRows.{marks-same}
 
 -- ---- a value, with just its bytes beside it
-unfoldable give : Datum → LentValue
+unfoldable pub give : Datum → LentValue
 unfolding bytesIn placed
 give d = record { lent = bytesIn d; value = placed (length (bytesIn d)) d }
 
@@ -49,12 +51,12 @@ give-lent (year n) = refl
 give-lent (when t) = refl
 give-lent (bytes b) = le-leb (length b - length b + length b) (length b) (omega arith)
 
-unfoldable giveRow : Row → List LentValue
+unfoldable pub giveRow : Row → List LentValue
 unfolding give
 giveRow [] = []
 giveRow (d ∷ ds) = give d ∷ giveRow ds
 
-give-row : (ds : Row) → rowOf (giveRow ds) ≡ ds
+pub give-row : (ds : Row) → rowOf (giveRow ds) ≡ ds
 unfolding rowOf giveRow
 give-row [] = refl
 give-row (d ∷ ds) = rw (give-says d, give-row ds)
@@ -85,7 +87,7 @@ marked-is s k (d ∷ ds) h =
       (lsb0-written t k (isNull d) b, marks-same ds (suc k) t (bitWritten t k (isNull d)) (λ j g f. lsb0-kept t k j (isNull d) b (λ e. omega arith)) (i .1)),
     )
 
-unfoldable nullsOf : Row → List ℕ
+unfoldable pub nullsOf : Row → List ℕ
 unfolding marked
 nullsOf ds = marked (replicate (bytesFor (length ds)) 0) 0 ds
 
@@ -96,13 +98,31 @@ nulls-of ds =
     let w = marked-is (replicate (bytesFor (length ds)) 0) 0 ds (omega arith) in
     (w .0 ∙ z, w .1)
 
+-- they are bytes
+zero-bytes : (n : ℕ) → Bytes (replicate n 0)
+zero-bytes zero i = omega arith
+zero-bytes (suc n) zero = omega arith
+zero-bytes (suc n) (suc i) = zero-bytes n i
+
+marked-bytes : (s : List ℕ) (k : ℕ) (ds : Row) → Bytes s → Bytes (marked s k ds)
+unfolding marked
+marked-bytes s k [] h = h
+marked-bytes s k (d ∷ ds) h =
+    let t = marked s (suc k) ds in
+    let i = marked-bytes s (suc k) ds h in
+    let b = withDigit (getD t (k / 8) 0) (lsb0 k) (isNull d) in
+    stored-bytes t (k / 8) (b ∷ []) i (bytes-one b (with-below (getD t (k / 8) 0) (lsb0 k) 8 (isNull d) (i (k / 8)) (omega arith)))
+
+pub nulls-bytes : (ds : Row) → Bytes (nullsOf ds)
+unfolding nullsOf
+nulls-bytes ds = marked-bytes (replicate (bytesFor (length ds)) 0) 0 ds (zero-bytes (bytesFor (length ds)))
+
 -- ---- so no row in the domains is left out
-pub every-row-given : (r p : List ℕ) (ds : Row) → recordValid r ≡ true → length p ≡ bytesFor (countOf r) → inDomains (present r p) ds ≡ true
-    → (nulls : List ℕ) × (gs : List LentValue) × Fit r p nulls gs × (rowOf gs ≡ ds)
-every-row-given r p ds v b d =
+pub row-given : (r p : List ℕ) (ds : Row) → recordValid r ≡ true → length p ≡ bytesFor (countOf r) → inDomains (present r p) ds ≡ true
+    → Fit r p (nullsOf ds) (giveRow ds)
+row-given r p ds v b d =
     let n = nulls-of ds in
     let e = give-row ds in
-    let f : Fit r p (nullsOf ds) (giveRow ds) =
     record {
       valid = v;
       bits = b;
@@ -110,5 +130,4 @@ every-row-given r p ds v b d =
       lent = give-all ds;
       marks = subst (Marks (nullsOf ds) 0) (sym e) (n .1);
       size = subst (λ (x : Row). length (nullsOf ds) ≡ bytesFor (length x)) (sym e) (n .0);
-    } in
-    (nullsOf ds, giveRow ds, f, e)
+    }

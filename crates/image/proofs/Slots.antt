@@ -25,7 +25,7 @@ use Rattle.image.specs.Walk.{readSlot}
 use Rattle.image.specs.Rows.{isNull}
 
 -- ---- NULL is one datum, and no column's domain has it
-only-null : (d : Datum) → isNull d ≡ true → d ≡ null
+pub only-null : (d : Datum) → isNull d ≡ true → d ≡ null
 unfolding isNull
 only-null d e = sym (is-made d) ∙ ap (λ (k : ℕ). made k d) (eqb-true (tag d) 0 e)
 

@@ -5,7 +5,7 @@ use mathlib.Core.List.{List, [], _∷_, _++_}
 use lib.IntN.{pos, negsuc}
 use lib.ListN.{take, replicate}
 use Rattle.wire.specs.Outcome.{ok, refuse}
-use Rattle.wire.specs.Number.{leValue, leBytes}
+use Rattle.wire.specs.Number.{areBytes, leValue, leBytes}
 use Rattle.wire.specs.Signed.{signedOf, twosOf, inHalves}
 use Rattle.wire.specs.Stored.{stored, store}
 use Rattle.wire.specs.Bits.{digit, bitLsb0}
@@ -63,5 +63,5 @@ pub worked-back : (writeRow profile (7 ∷ []) (0 ∷ []) values (replicate 10 0
     × (writeRow profile (7 ∷ []) (0 ∷ []) values (replicate 8 0) ≡ refuse 8 0)
     -- NULL for the first column, whose null bit is not set
     × (writeRow profile (7 ∷ []) (0 ∷ []) (record { lent = []; value = Null } ∷ []) (replicate 10 0) ≡ refuse 13 0)
-unfolding leValue leBytes twosOf inHalves digit bitLsb0 stored store familyOf isNumeric isCharacter isEnumOrSet shapeIn shapeOf isTaken tag intIn numberIn bytesIn domain bytesOf taken datumOf bytesAt isLent isIn storedBytes flagsHold charsetHolds entryHolds entryOf entryIn entriesHold headHolds recordValid readRecord countBits shapeAt presentFrom slots slotsAt headOf isNull filled headNulls startImage slotBytes putOver putFrom putRow writeRow
+unfolding areBytes leValue leBytes twosOf inHalves digit bitLsb0 stored store familyOf isNumeric isCharacter isEnumOrSet shapeIn shapeOf isTaken tag intIn numberIn bytesIn domain bytesOf taken datumOf bytesAt isLent isIn storedBytes flagsHold charsetHolds entryHolds entryOf entryIn entriesHold headHolds recordValid readRecord countBits shapeAt presentFrom slots slotsAt headOf isNull filled headNulls startImage slotBytes putOver putFrom putRow writeRow
 worked-back = (refl, refl, refl)

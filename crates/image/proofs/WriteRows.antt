@@ -9,12 +9,13 @@ use native.Mathlib.Numerals.{add-one}
 use native.Mathlib.Decide.{decLe}
 use native.Mathlib.Omega.{arith}
 use borrow.Author.Tests.{eq-eqb}
-use lib.ListN.{length, drop, length-append}
+use lib.ListN.{length, take, drop, length-append}
+use lib.Seq.{take-at}
 use Rattle.wire.specs.Outcome.{Outcome, ok, refused, refuse, after, why}
 use Rattle.wire.specs.Bits.{bytesFor, bitLsb0}
 use Rattle.wire.specs.Stored.{stored, store}
 use Rattle.wire.proofs.Outcomes.{after-is-ok, after-refuses, same-ok, ok-not-refused, both-true}
-use Rattle.wire.proofs.Stores.{length-stored, stored-stored, store-fits, store-full}
+use Rattle.wire.proofs.Stores.{length-stored, stored-none, stored-stored, store-fits, store-full}
 use Rattle.value.specs.declared.datum.Value.{Value}
 use Rattle.value.specs.Domains.{domain}
 use Rattle.value.specs.Reading.{datumOf}
@@ -26,8 +27,9 @@ use Rattle.image.specs.Present.{Present, countBits, firstFrom, presentFr
 use Rattle.image.specs.Split.{Slot, slots, slotsAt, cursor, headWith}
 use Rattle.image.specs.Walk.{walk}
 use Rattle.image.specs.Rows.{Row, isNull, inDomains, rowBytes, answersOf, Marks}
-use Rattle.image.specs.Puts.{filled, headNulls, startImage, slotBytes, putOver}
-use Rattle.image.specs.WriteRow.{LentValue, rowOf, areLent, Fit, putRow, writeRow, imageSize, Wrote}
+use Rattle.image.specs.Puts.{filled, headNulls, startImage, slotBytes, putOver, putFrom}
+use Rattle.image.specs.WriteRow.{LentValue, rowOf, areLent, Fit, putRow, writeRow, putLeft, writeLeft, imageSize}
+use Rattle.image.specs.WriteRow.{Wrote, Stopped, at-start, at-value}
 use Rattle.image.proofs.Firsts.{first-is, present-end, present-first, count-set, count-none}
 use Rattle.image.proofs.Heads.{Over, nullBytes, head-is}
 use Rattle.image.proofs.Slots.{inCell, cell}
@@ -109,6 +111,19 @@ next-present r p j c cs h e =
       ap (countBits p) s ∙ count-set p f (i .found (omega arith)) ∙ ap suc (i .rank),
     ))
 
+-- what a step for one of a row does
+put-one : (g : LentValue) (c : Present) (cs : List Present) (r p nulls : List ℕ) (j o : ℕ) (buf : List ℕ) →
+    let d = datumOf (g .lent) (g .value) in
+    Lent r p nulls → j ≤ countOf r → presentFrom (countOf r - j) r p j ≡ c ∷ cs → inCell c d ≡ true
+    → bitLsb0 nulls (countBits p j) ≡ isNull d → isLent (g .lent) (g .value) ≡ true
+    → putFrom r p nulls (cursor j o) (g .lent) (g .value) buf
+    ≡ after (store buf o (cell c d)) (λ x. ok (cursor (c .column + 1) (x .0), x .1))
+unfolding slotsAt slots
+put-one g c cs r p nulls j o buf u h e d m l =
+    let i : Slot = record { present = c; null = bitLsb0 nulls (countBits p j) } in
+    rw (put-goes r p nulls (cursor j o) (g .lent) (g .value) buf (nulls-is r p nulls u) h, e)
+    (put-over i (slots cs (suc (countBits p j)) nulls) (cursor j o) g buf d m l)
+
 -- ---- the row
 -- what a writer of several values has used, and the buffer
 abbrev pub used : Outcome (Cursor × List ℕ) → Outcome (ℕ × List ℕ)
@@ -122,7 +137,7 @@ used-after (refused v) c f = refl
 put-row : (gs : List LentValue) (cs : List Present) (r p nulls : List ℕ) (j o : ℕ) (buf : List ℕ) → Lent r p nulls → j ≤ countOf r → presentFrom (countOf r - j) r p j ≡ cs
     → inDomains cs (rowOf gs) ≡ true → Marks nulls (countBits p j) (rowOf gs) → areLent gs ≡ true → o ≤ length buf
     → used (putRow r p nulls gs (cursor j o) buf) ≡ store buf o (rowBytes cs (rowOf gs))
-unfolding putRow rowOf areLent inDomains Marks rowBytes slotsAt slots
+unfolding putRow rowOf areLent inDomains Marks rowBytes
 put-row [] [] r p nulls j o buf u h e d m l b = sym (store-none buf o b)
 put-row [] (c ∷ cs) r p nulls j o buf u h e d m l b = absurd (true≢false (sym d))
 put-row (g ∷ gs) [] r p nulls j o buf u h e d m l b = absurd (true≢false (sym d))
@@ -131,8 +146,7 @@ put-row (g ∷ gs) (c ∷ cs) r p nulls j o buf u h e d m l b =
     let w = both-true (inCell c x) (inDomains cs (rowOf gs)) d in
     let t = both-true (isLent (g .lent) (g .value)) (areLent gs) l in
     let n = next-present r p j c cs h e in
-    let i : Slot = record { present = c; null = bitLsb0 nulls (countBits p j) } in
-    rw (put-goes r p nulls (cursor j o) (g .lent) (g .value) buf (nulls-is r p nulls u) h, e, put-over i (slots cs (suc (countBits p j)) nulls) (cursor j o) g buf (w .0) (m .0) (t .0))
+    rw (put-one g c cs r p nulls j o buf u h e (w .0) (m .0) (t .0))
     (used-after (store buf o (cell c x)) (λ y. (cursor (c .column + 1) (y .0), y .1)) (λ y. putRow r p nulls gs (y .0) (y .1))
     ∙ store-then buf (cell c x) (rowBytes cs (rowOf gs)) o (λ y. used (putRow r p nulls gs (cursor (c .column + 1) (y .0)) (y .1)))
     (λ f.
@@ -174,6 +188,11 @@ unfolding Marks
 marks-same [] k a b h m = tt
 marks-same (d ∷ ds) k a b h m = (h k (omega arith) (omega arith) ∙ m .0, marks-same ds (suc k) a b (λ i g l. h i (omega arith) (omega arith)) (m .1))
 
+-- the bytes used are the image
+taken-whole : (im left buf : List ℕ) (n : ℕ) → left ≡ stored buf 0 im → length im ≡ n → take n left ≡ im
+unfolding stored
+taken-whole im left buf n e l = ap (take n) e ∙ take-at im (drop (0 + length im) buf) n l
+
 stored-image : (nulls bs buf : List ℕ) → stored buf 0 (nulls ++ bs) ≡ nulls ++ (bs ++ drop (length (nulls ++ bs)) buf)
 unfolding stored
 stored-image nulls bs buf = rw (zero-add (length (nulls ++ bs))) (append-assoc nulls bs (drop (length (nulls ++ bs)) buf))
@@ -208,6 +227,11 @@ written r p nulls gs buf w h =
           ap (walk r p) (k ∙ stored-image f bs buf)
           ∙ every-row r p f (drop (length (f ++ bs)) buf) ds (w .valid) (w .bits) (w .row) m (l ∙ w .size)
           ∙ ap (λ (x : ℕ). record { answers = answersOf (present r p) ds; how = ok x }) (ap (λ (x : ℕ). x + length bs) l ∙ sym o);
+      anywhere = λ rest.
+          ap (λ (x : List ℕ). walk r p (x ++ rest)) (taken-whole (f ++ bs) (a .0 .1) buf (a .0 .0 .offset) k (omega (arith, o, s)))
+          ∙ ap (walk r p) (append-assoc f bs rest)
+          ∙ every-row r p f rest ds (w .valid) (w .bits) (w .row) m (l ∙ w .size)
+          ∙ ap (λ (x : ℕ). record { answers = answersOf (present r p) ds; how = ok x }) (ap (λ (x : ℕ). x + length bs) l ∙ sym o);
     }
 
 -- ---- and without room it is refused, 8 at 0
@@ -217,3 +241,82 @@ not-written r p nulls gs buf w h =
     let s = image-size r p nulls gs w in
     ⊎-elim (λ (e : writeRow r p nulls gs buf ≡ refuse 8 0). e) (λ x. absurd (ok-not-refused (x .2)))
     (after-refuses (writeRow r p nulls gs buf) (λ x. ok (x .0 .offset, x .1)) (why 8 0) (write-row r p nulls gs buf w ∙ store-full buf bytes 0 (omega arith)))
+
+-- ---- what it leaves then
+-- of the values, from an offset on that the buffer has: the first k of them had room, and the next had none
+put-left : (gs : List LentValue) (cs : List Present) (r p nulls : List ℕ) (j o : ℕ) (buf : List ℕ) → Lent r p nulls → j ≤ countOf r
+    → presentFrom (countOf r - j) r p j ≡ cs → inDomains cs (rowOf gs) ≡ true → Marks nulls (countBits p j) (rowOf gs) → areLent gs ≡ true
+    → o ≤ length buf → length buf < o + length (rowBytes cs (rowOf gs))
+    → (k : ℕ) × (o + length (rowBytes cs (take k (rowOf gs))) ≤ length buf)
+    × (length buf < o + length (rowBytes cs (take (suc k) (rowOf gs))))
+    × (putLeft r p nulls gs (cursor j o) buf ≡ stored buf o (rowBytes cs (take k (rowOf gs))))
+unfolding putLeft rowOf areLent inDomains Marks rowBytes
+put-left [] [] r p nulls j o buf u h e d m l b f = absurd (omega arith)
+put-left [] (c ∷ cs) r p nulls j o buf u h e d m l b f = absurd (true≢false (sym d))
+put-left (g ∷ gs) [] r p nulls j o buf u h e d m l b f = absurd (true≢false (sym d))
+put-left (g ∷ gs) (c ∷ cs) r p nulls j o buf u h e d m l b f =
+    let x = datumOf (g .lent) (g .value) in
+    let bs = cell c x in
+    let w = both-true (inCell c x) (inDomains cs (rowOf gs)) d in
+    let t = both-true (isLent (g .lent) (g .value)) (areLent gs) l in
+    let n = next-present r p j c cs h e in
+    let one = put-one g c cs r p nulls j o buf u h e (w .0) (m .0) (t .0) in
+    dite (decLe (o + length bs) (length buf))
+    (λ (q : o + length bs ≤ length buf).
+    let y = stored buf o bs in
+    let z = length-stored buf o bs q in
+    let a = length-append bs (rowBytes cs (rowOf gs)) in
+    let i = put-left gs cs r p nulls (c .column + 1) (o + length bs) y u (omega (arith, n .0)) (n .1) (w .1)
+    (subst (λ (k : ℕ). Marks nulls k (rowOf gs)) (sym (n .2)) (m .1)) (t .1) (omega arith) (omega (arith, z, a, f)) in
+    let k = i .0 in
+    let s = length-append bs (rowBytes cs (take k (rowOf gs))) in
+    let s′ = length-append bs (rowBytes cs (take (suc k) (rowOf gs))) in (
+      suc k,
+      omega (arith, z, s, i .1),
+      omega (arith, z, s′, i .2),
+      rw (one, store-fits buf bs o q) (i .3 ∙ stored-stored buf o bs (rowBytes cs (take k (rowOf gs))) q),
+    ))
+    (λ q.
+    let s = length-append bs (rowBytes cs (take 0 (rowOf gs))) in (
+      0,
+      omega arith,
+      omega (arith, s),
+      rw (one, store-full buf bs o (omega arith)) (sym (stored-none buf o)),
+    ))
+
+left-lent : (r p nulls : List ℕ) (gs : List LentValue) (buf : List ℕ) → Lent r p nulls → Fit r p nulls gs →
+    let n = countBits p (countOf r) in
+    length (filled n nulls) ≡ nullBytes r p → length nulls ≡ nullBytes r p → n ≡ length (rowOf gs)
+    → length buf < imageSize r p nulls (rowOf gs)
+    → Stopped (present r p) nulls (rowOf gs) buf (writeLeft r p nulls gs buf)
+unfolding writeLeft startImage
+left-lent r p nulls gs buf u w e s n l =
+    let f = filled (countBits p (countOf r)) nulls in
+    let cs = present r p in
+    let ds = rowOf gs in
+    dite (decLe (length nulls) (length buf))
+    (λ (q : length nulls ≤ length buf).
+    let y = stored buf 0 f in
+    let fits : 0 + length f ≤ length buf = omega arith in
+    let z = length-stored buf 0 f fits in
+    let i = put-left gs cs r p nulls 0 (nullBytes r p) y u (omega arith)
+    (ap (λ (x : ℕ). presentFrom x r p 0) (sub-zero (countOf r))) (w .row)
+    (subst (λ (k : ℕ). Marks nulls k ds) (sym (count-none p)) (w .marks)) (w .lent) (omega arith) (omega arith) in
+    let k = i .0 in
+    let o : 0 + length f ≡ nullBytes r p = zero-add (length f) ∙ e in
+    let x : writeLeft r p nulls gs buf ≡ stored buf 0 (filled (length ds) nulls ++ rowBytes cs (take k ds)) =
+    rw (nulls-is r p nulls u, store-fits buf f 0 fits)
+    (i .3 ∙ ap (λ (j : ℕ). stored y j (rowBytes cs (take k ds))) (sym o) ∙ stored-stored buf 0 f (rowBytes cs (take k ds)) fits
+    ∙ ap (λ (j : ℕ). stored buf 0 (filled j nulls ++ rowBytes cs (take k ds))) n) in
+    subst (Stopped cs nulls ds buf) (sym x) (at-value k (omega (arith, z, i .1)) (omega (arith, z, i .2))))
+    (λ q.
+    let x : writeLeft r p nulls gs buf ≡ buf = rw (nulls-is r p nulls u, store-full buf f 0 (omega arith)) in
+    subst (Stopped cs nulls ds buf) (sym x) (at-start (omega arith)))
+
+pub stopped : (r p nulls : List ℕ) (gs : List LentValue) (buf : List ℕ) → Fit r p nulls gs → length buf < imageSize r p nulls (rowOf gs)
+    → Stopped (present r p) nulls (rowOf gs) buf (writeLeft r p nulls gs buf)
+stopped r p nulls gs buf w h =
+    let n : countBits p (countOf r) ≡ length (rowOf gs) = sym (row-length (present r p) (rowOf gs) (w .row) ∙ present-length r p) in
+    let s : length nulls ≡ nullBytes r p = w .size ∙ ap bytesFor (sym n) in
+    let u : Lent r p nulls = record { over = record { valid = w .valid; bits = w .bits }; size = s } in
+    left-lent r p nulls gs buf u w (fill-length (countBits p (countOf r)) nulls s ∙ s) s n h

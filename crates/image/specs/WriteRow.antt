@@ -1,10 +1,10 @@
 -- A whole row written: a start, and then a step for each value given. Assumes nothing.
-use Prim.Native.Nat.{ℕ, _+_}
+use Prim.Native.Nat.{ℕ, suc, _+_, _≤_, _<_}
 use mathlib.Core.Path.{_≡_}
 use mathlib.Core.Bool.{Bool, true, _&&_}
 use mathlib.Core.List.{List, [], _∷_, _++_}
-use lib.ListN.{length}
-use Rattle.wire.specs.Outcome.{Outcome, ok, after}
+use lib.ListN.{length, take}
+use Rattle.wire.specs.Outcome.{Outcome, ok, refused, after}
 use Rattle.wire.specs.Bits.{bytesFor}
 use Rattle.wire.specs.Stored.{stored}
 use Rattle.value.specs.declared.datum.Value.{Value}
@@ -12,7 +12,7 @@ use Rattle.value.specs.Reading.{datumOf}
 use Rattle.value.specs.Storing.{isLent}
 use Rattle.record.specs.Records.{countOf, recordValid}
 use Rattle.image.specs.declared.cursor.Cursor.{Cursor}
-use Rattle.image.specs.Present.{present}
+use Rattle.image.specs.Present.{Present, present}
 use Rattle.image.specs.Walk.{walk}
 use Rattle.image.specs.Rows.{Row, inDomains, rowBytes, answersOf, Marks}
 use Rattle.image.specs.Puts.{filled, startImage, putFrom}
@@ -55,12 +55,27 @@ unfoldable pub writeRow : List ℕ → List ℕ → List ℕ → List LentValue 
 unfolding startImage putRow
 writeRow r p nulls gs buf = after (startImage r p nulls buf) (λ x. putRow r p nulls gs (x .0) (x .1))
 
+-- ---- what the calls leave of the buffer, one after the other: one that refuses leaves it as it was, and is the last
+abbrev pub leftThen : List ℕ → (Cursor → List ℕ → List ℕ) → Outcome (Cursor × List ℕ) → List ℕ
+leftThen buf f (ok x) = f (x .0) (x .1)
+leftThen buf f (refused w) = buf
+
+unfoldable pub putLeft : List ℕ → List ℕ → List ℕ → List LentValue → Cursor → List ℕ → List ℕ
+unfolding putFrom
+putLeft r p nulls [] c buf = buf
+putLeft r p nulls (g ∷ gs) c buf = leftThen buf (putLeft r p nulls gs) (putFrom r p nulls c (g .lent) (g .value) buf)
+
+unfoldable pub writeLeft : List ℕ → List ℕ → List ℕ → List LentValue → List ℕ → List ℕ
+unfolding startImage putLeft
+writeLeft r p nulls gs buf = leftThen buf (putLeft r p nulls gs) (startImage r p nulls buf)
+
 -- ---- what a row that was written is
 -- how many bytes the image of a row has
 abbrev pub imageSize : List ℕ → List ℕ → List ℕ → Row → ℕ
 imageSize r p nulls ds = length nulls + length (rowBytes (present r p) ds)
 
--- the last cursor tells the bytes used, the buffer begins with the image, and the walk over it gives the row
+-- the last cursor tells the bytes used, the buffer begins with the image, and the walk over it gives the row; so does the walk over the
+-- bytes used, whatever stands behind them
 pub record Wrote (r p nulls : List ℕ) (ds : Row) (buf : List ℕ) (w : Outcome (Cursor × List ℕ)) : Type 0 where
   pub last : Cursor
   pub left : List ℕ
@@ -68,3 +83,14 @@ pub record Wrote (r p nulls : List ℕ) (ds : Row) (buf : List ℕ) (w : Outcome
   pub offset : last .offset ≡ imageSize r p nulls ds
   pub buffer : left ≡ stored buf 0 (filled (length ds) nulls ++ rowBytes (present r p) ds)
   pub walked : walk r p left ≡ record { answers = answersOf (present r p) ds; how = ok (last .offset) }
+  pub anywhere : (rest : List ℕ)
+      → walk r p (take (last .offset) left ++ rest) ≡ record { answers = answersOf (present r p) ds; how = ok (last .offset) }
+
+-- ---- what a row without room leaves: as much as had room
+pub data Stopped (cs : List Present) (nulls : List ℕ) (ds : Row) (buf : List ℕ) : List ℕ → Type 0 where
+  -- no room for the null bits: the buffer as it was
+  at-start : length buf < length nulls → Stopped cs nulls ds buf buf
+  -- room for them and for the first k of the row, and not for the next: these at its head, and the rest as it was
+  at-value : (k : ℕ) → length nulls + length (rowBytes cs (take k ds)) ≤ length buf
+      → length buf < length nulls + length (rowBytes cs (take (suc k) ds))
+      → Stopped cs nulls ds buf (stored buf 0 (filled (length ds) nulls ++ rowBytes cs (take k ds)))

@@ -61,7 +61,7 @@ unfolding isAccepted
 accepted-taken c unsigned e = sign-free (c .real) (c .m0) (c .m1) unsigned false ∙ both-true (isReal (c .kind) (c .real)) _ e .1
 
 -- ---- a type and its real type are of one class
-one-of : {P : Type 0} (a b : Bool) → (a || b) ≡ true → (a ≡ true → P) → (b ≡ true → P) → P
+pub one-of : {P : Type 0} (a b : Bool) → (a || b) ≡ true → (a ≡ true → P) → (b ≡ true → P) → P
 one-of true b e f g = f refl
 one-of false b e f g = g e
 

@@ -12,6 +12,7 @@ use Rattle.table_map.specs.Lists.{Rule, walk}
 use Rattle.table_map.proofs.Steps.{step-end, step-past, step-before}
 use Rattle.table_map.proofs.Items.{Moves}
 use Rattle.table_map.proofs.Walks.{walk-steps}
+use Rattle.map_check.specs.Passes.{Between, none, more}
 
 -- ---- the items from a place on: the one that stands there, and those behind it
 pub items-next : {A : Type 0} (rule : Rule A) → Moves rule → (s : List ℕ) (at : ℕ) (a : A) (next : ℕ) → rule s at ≡ ok (a, next)
@@ -40,12 +41,7 @@ items-stop rule m s at w e =
     let g : at < length s = omega arith in
     rw (walk-steps rule m s at, step-before rule s at g, e))
 
--- ---- the items from one place up to another
-pub data Between {A : Type 0} (rule : Rule A) (s : List ℕ) : ℕ → ℕ → List A → Type 0 where
-  none : {at : ℕ} → Between rule s at at []
-  more : {at next to : ℕ} {a : A} {xs : List A} → rule s at ≡ ok (a, next) → Between rule s next to xs → Between rule s at to (a ∷ xs)
-
--- one more behind them
+-- ---- the items from one place up to another: one more behind them
 pub one-more : {A : Type 0} {rule : Rule A} {s : List ℕ} {at to next : ℕ} {a : A} {xs : List A}
     → Between rule s at to xs → rule s to ≡ ok (a, next) → Between rule s at next (xs ++ (a ∷ []))
 one-more none e = more e none

@@ -1,4 +1,4 @@
--- The optional fields one by one: the loop that looks for one, and the loop that keeps them, with what it has noted. Assumes nothing.
+-- The optional fields one by one: the loop that keeps them, with what it has noted. Assumes nothing.
 use Prim.Native.Nat.{ℕ, zero, suc, _-_, _≤_, _<_, suc-le-suc}
 use mathlib.Core.Path.{_≡_, refl, sym, ap, _∙_}
 use mathlib.Core.Bool.{Bool, true, false, cond, _||_, true≢false}
@@ -13,16 +13,16 @@ use Rattle.wire.specs.Outcome.{Outcome, ok, refused, refuse, after}
 use Rattle.wire.specs.declared.part.Part.{Part}
 use Rattle.wire.proofs.Outcomes.{both-true}
 use Rattle.table_map.specs.declared.field.Fields.{Fields as FieldCursor}
-use Rattle.table_map.specs.Lists.{Stepped, end, item, step, Walked, onward, walk}
+use Rattle.table_map.specs.Lists.{Stepped, end, item, step}
 use Rattle.table_map.specs.Fields.{fieldItem, fieldStep}
 use Rattle.table_map.proofs.Steps.{item-read}
-use Rattle.table_map.proofs.Walks.{item-moves, walk-steps}
+use Rattle.table_map.proofs.Walks.{item-moves}
 use Rattle.table_map.proofs.Optional.{field-stepped, field-ended, field-broken, field-read, field-moves}
 use Rattle.map_check.specs.declared.rank.Ranks.{Ranks}
 use Rattle.map_check.specs.declared.found.Found.{Found}
 use Rattle.map_check.specs.declared.found.Found.the-variants.{Value, Nothing}
 use Rattle.map_check.specs.declared.facts.KeptFields.{KeptFields}
-use Rattle.map_check.specs.Fields.{stood, rivalOf, standsGiven, standsBehind, keep, keepSteps, keepFrom, keepFields, firstOf, fieldsFrom}
+use Rattle.map_check.specs.Fields.{stood, rivalOf, standsGiven, standsBehind, keep, keepSteps, keepFrom, keepFields, firstOf}
 use Rattle.map_check.specs.Profile.{stands}
 use Rattle.map_check.specs.Standing.{keptBy}
 use Rattle.map_check.proofs.Bounds.{either-at-most}
@@ -33,23 +33,6 @@ pub cursor-moves : (c : FieldCursor) (s : List ℕ) (f : ℕ × Part) (next : Fi
     → (c .at < next .at) × (next .at ≤ length s)
 cursor-moves c s f next e =
     item-moves (fieldItem (c .numeric) (c .columns)) (field-moves (c .numeric) (c .columns)) s (c .at) f (next .at) (field-stepped c s f next e .0)
-
--- ---- looking for a field: the walk from a cursor is what its step met, and the walk from the next
-fields-turn : (c : FieldCursor) (s : List ℕ)
-    → fieldsFrom c s ≡ onward (walk (fieldItem (c .numeric) (c .columns)) s) (step (fieldItem (c .numeric) (c .columns)) s (c .at)) .items
-fields-turn c s =
-    ap (λ (w : Walked (ℕ × Part)). w .items) (walk-steps (fieldItem (c .numeric) (c .columns)) (field-moves (c .numeric) (c .columns)) s (c .at))
-
-pub fields-on : (c : FieldCursor) (s : List ℕ) (f : ℕ × Part) (next : FieldCursor) → fieldStep c s ≡ ok (item f next) → fieldsFrom c s ≡ f ∷ fieldsFrom next s
-fields-on c s f next e =
-    let w = field-stepped c s f next e in
-    fields-turn c s ∙ rw (w .0, w .1, w .2)
-
-pub fields-end : (c : FieldCursor) (s : List ℕ) → fieldStep c s ≡ ok end → fieldsFrom c s ≡ []
-fields-end c s e = fields-turn c s ∙ rw (field-ended c s e)
-
-pub fields-break : (c : FieldCursor) (s : List ℕ) (w : Refusal) → fieldStep c s ≡ refused w → fieldsFrom c s ≡ []
-fields-break c s w e = fields-turn c s ∙ rw (field-broken c s w e)
 
 -- ---- keeping fields: more turns than bytes are enough
 abbrev stepAt : FieldCursor → List ℕ → ℕ → Outcome (Stepped (ℕ × Part) ℕ)

@@ -2,13 +2,14 @@
 use Prim.Native.Nat.{ℕ}
 use mathlib.Core.Path.{_≡_, refl}
 use mathlib.Core.List.{List, [], _∷_}
+use mathlib.Core.Option.{none, some}
 use Rattle.wire.specs.Outcome.{ok, refuse}
 use Rattle.wire.specs.Packed.{readPacked, formOf}
 use Rattle.wire.specs.Number.{leValue}
 use Rattle.wire.specs.Parts.{part, within}
 use Rattle.value.specs.Types.{familyOf, isNumeric}
 use Rattle.value.specs.Classes.{hasSignBit}
-use Rattle.value.specs.declared.classes.Dialect.the-variants.{Document}
+use Rattle.value.specs.declared.classes.Dialect.the-variants.{Document, Mysql}
 use Rattle.table_map.specs.declared.field.Fields.{Fields as FieldCursor}
 use Rattle.table_map.specs.Parts.{shortPart, longPart}
 use Rattle.table_map.specs.Events.{readNames, readColumns, readEvent}
@@ -17,7 +18,7 @@ use Rattle.table_map.specs.Fields.{signBits, countSignBits, contentsHold, cutFi
 use Rattle.map_check.specs.Ranks.{place, noRanks}
 use Rattle.map_check.specs.Contents.{every, listHolds, exactly, keyItem, contentsFull}
 use Rattle.map_check.specs.Fields.{stood, rivalOf, standsGiven, keepSteps, keepFields, firstOf}
-use Rattle.map_check.specs.Names.{listOf, stringAt, columnName, nameIn, namesPart}
+use Rattle.map_check.specs.Names.{listOf, stringAt, columnName, nameIn, namesField}
 
 -- ---- names: "a" and "bc" in the map, "x" and "y" in the operator's list
 abbrev names : List ℕ
@@ -67,18 +68,40 @@ no-further : columnName (1 ∷ 97 ∷ 255 ∷ []) operator (place 0) ≡ ok (par
 unfolding columnName listOf stringAt step longPart within readPacked formOf
 no-further = refl
 
--- ---- the names of a map with one TINYINT column, behind other optional fields
-abbrev event : List ℕ → List ℕ
-event optional = 1 ∷ 0 ∷ 0 ∷ 0 ∷ 0 ∷ 0 ∷ 1 ∷ 0 ∷ 1 ∷ 0x74 ∷ 0 ∷ 1 ∷ 0x72 ∷ 0 ∷ 1 ∷ 1 ∷ 0 ∷ 0 ∷ optional
+-- ---- the names field of a map with one column of the type, whose optional bytes stand at 18
+abbrev event : ℕ → List ℕ → List ℕ
+event kind optional = 1 ∷ 0 ∷ 0 ∷ 0 ∷ 0 ∷ 0 ∷ 1 ∷ 0 ∷ 1 ∷ 0x74 ∷ 0 ∷ 1 ∷ 0x72 ∷ 0 ∷ 1 ∷ kind ∷ 0 ∷ 0 ∷ optional
 
-of-map : namesPart Document (event (1 ∷ 1 ∷ 128 ∷ 4 ∷ 2 ∷ 1 ∷ 97 ∷ [])) (readEvent (event (1 ∷ 1 ∷ 128 ∷ 4 ∷ 2 ∷ 1 ∷ 97 ∷ [])) 8) ≡ part 23 2
-unfolding readEvent readNames readColumns leValue readPacked formOf within shortPart longPart step walkSteps signBits countSignBits hasSignBit isNumeric familyOf contentsHold cutField judgeField fieldItem firstOf
-of-map = refl
+record NamesFields : Type 0 where
+  -- behind another field
+  found : namesField Document (event 1 (1 ∷ 1 ∷ 128 ∷ 4 ∷ 2 ∷ 1 ∷ 97 ∷ [])) 8 ≡ ok (some (part 23 2))
+  -- a field that is there and has no bytes, and none
+  empty : namesField Document (event 1 (4 ∷ 0 ∷ [])) 8 ≡ ok (some (part 20 0))
+  absent : namesField Document (event 1 (1 ∷ 1 ∷ 128 ∷ [])) 8 ≡ ok none
+  -- the first of two
+  first : namesField Document (event 1 (4 ∷ 0 ∷ 4 ∷ 2 ∷ 1 ∷ 97 ∷ [])) 8 ≡ ok (some (part 20 0))
+  -- a field of unknown type before it is a refusal, and one behind it is not looked at
+  before : namesField Document (event 1 (14 ∷ 0 ∷ 4 ∷ 2 ∷ 1 ∷ 97 ∷ [])) 8 ≡ refuse 6 18
+  behind : namesField Document (event 1 (4 ∷ 2 ∷ 1 ∷ 97 ∷ 14 ∷ 0 ∷ [])) 8 ≡ ok (some (part 20 2))
+  -- a YEAR has a signedness bit on a server and none by the letter, so in the wrong dialect its map is refused before its names
+  in-dialect : namesField Mysql (event 13 (1 ∷ 1 ∷ 128 ∷ 4 ∷ 2 ∷ 1 ∷ 97 ∷ [])) 8 ≡ ok (some (part 23 2))
+  in-another : namesField Document (event 13 (1 ∷ 1 ∷ 128 ∷ 4 ∷ 2 ∷ 1 ∷ 97 ∷ [])) 8 ≡ refuse 7 18
+  -- an event that is refused
+  cut : namesField Document (1 ∷ 0 ∷ 0 ∷ []) 8 ≡ refuse 1 0
 
--- none behind a field that is refused
-behind-a-refusal : namesPart Document (event (14 ∷ 0 ∷ 4 ∷ 2 ∷ 1 ∷ 97 ∷ [])) (readEvent (event (14 ∷ 0 ∷ 4 ∷ 2 ∷ 1 ∷ 97 ∷ [])) 8) ≡ part 0 0
+names-fields : NamesFields
 unfolding readEvent readNames readColumns leValue readPacked formOf within shortPart longPart step walkSteps signBits countSignBits hasSignBit isNumeric familyOf contentsHold cutField judgeField fieldItem firstOf
-behind-a-refusal = refl
+names-fields = record {
+  found = refl;
+  empty = refl;
+  absent = refl;
+  first = refl;
+  before = refl;
+  behind = refl;
+  in-dialect = refl;
+  in-another = refl;
+  cut = refl;
+}
 
 -- ---- fields of a map with no columns: two that may stand side by side, one that stands twice, and one beside its rival
 abbrev first : FieldCursor

@@ -1,17 +1,21 @@
--- What a row can rely on: the record of a map that passes is valid. Assumes nothing.
-use Prim.Native.Nat.{ℕ, zero, suc, _≤_, _<_}
+-- What a row can rely on: the record of a map that the check accepts is valid. Assumes nothing.
+use Prim.Native.Nat.{ℕ, zero, suc, _+_, _≤_, _<_}
 use mathlib.Core.Path.{_≡_, refl, sym, ap, subst, _∙_}
 use mathlib.Core.Bool.{true}
 use mathlib.Core.List.{List, [], _∷_}
 use native.Mathlib.Omega.{arith}
 use borrow.Author.Tests.{le-leb, leb-true}
-use lib.ListN.{length, getD, drop}
+use lib.ListN.{length, getD, take, drop}
 use lib.Dec.{leb, eqb}
 use Rattle.wire.specs.Outcome.{ok, why}
+use Rattle.wire.specs.declared.part.Part.{Part}
 use Rattle.wire.specs.Parts.{lentPart}
+use Rattle.wire.specs.Stored.{stored, store}
 use Rattle.wire.proofs.Outcomes.{after-is-ok, test-is-ok, same-ok}
+use Rattle.wire.proofs.Stores.{stored-part}
 use Rattle.value.specs.declared.classes.Dialect.{Dialect}
 use Rattle.table_map.specs.declared.event.Event.{Event}
+use Rattle.table_map.specs.Events.{readEvent}
 use Rattle.record.specs.declared.entry.Entry.{Entry}
 use Rattle.record.specs.Entries.{unsignedFlag, entryHolds}
 use Rattle.record.specs.Records.{mostColumns, recordBytes, recordValid}
@@ -27,17 +31,26 @@ use Rattle.map_check.specs.Fields.{fieldsAt, keepFields}
 use Rattle.map_check.specs.Keys.{keysHold}
 use Rattle.map_check.specs.Profile.{factsOf, flagsOf, entryFor, entriesFrom}
 use Rattle.map_check.specs.Standing.{ClassHolds}
-use Rattle.map_check.specs.Check.{fewEnough, entriesOf, checkEvent, Passes}
+use Rattle.map_check.specs.Check.{fewEnough, entriesOf, checkEvent, checkMap, check}
 use Rattle.map_check.proofs.Declares.{taken-turn, taken-all, declared-length}
 use Rattle.map_check.proofs.Accepts.{accepted-taken, accepted-numeric}
 use Rattle.map_check.proofs.KeptFields.{kept-first}
 use Rattle.map_check.proofs.Making.{entries-length}
 use Rattle.map_check.proofs.Profiles.{column-narrow, charset-holds, flags-hold}
 
--- ---- test by test
-pub passed : (d : Dialect) (s : List ℕ) (e : Event) (es : List Entry) → checkEvent d s e ≡ ok es → Passes d s e es
+-- ---- the check's tests, one by one
+pub record Chain (d : Dialect) (s : List ℕ) (e : Event) (es : List Entry) : Type 0 where
+  pub few : length (lentPart s (e .types)) ≤ mostColumns
+  pub columns : List Declared
+  pub taken : takeColumns (lentPart s (e .types)) (lentPart s (e .metadata)) 0 ≡ ok columns
+  pub fields : List (ℕ × Part)
+  pub kept : keepFields (sizesOf d columns) (fieldsAt d (lentPart s (e .types)) (e .optional .start)) s ≡ ok fields
+  pub once : keysHold s fields ≡ ok tt
+  pub said : es ≡ entriesOf d s e columns fields
+
+pub chained : (d : Dialect) (s : List ℕ) (e : Event) (es : List Entry) → checkEvent d s e ≡ ok es → Chain d s e es
 unfolding checkEvent fewEnough
-passed d s e es h =
+chained d s e es h =
     let types = lentPart s (e .types) in
     let meta = lentPart s (e .metadata) in
     let a = after-is-ok (fewEnough types) _ es h in
@@ -56,12 +69,12 @@ passed d s e es h =
     }
 
 -- and what passes each test, passes
-pub passes : {d : Dialect} {s : List ℕ} {e : Event} {es : List Entry} → Passes d s e es → checkEvent d s e ≡ ok es
+pub unchained : {d : Dialect} {s : List ℕ} {e : Event} {es : List Entry} → Chain d s e es → checkEvent d s e ≡ ok es
 unfolding checkEvent fewEnough
-passes {d} {s} {e} p = rw (le-leb (length (lentPart s (e .types))) mostColumns (p .few), p .taken, p .kept, p .once, p .said)
+unchained {d} {s} {e} p = rw (le-leb (length (lentPart s (e .types))) mostColumns (p .few), p .taken, p .kept, p .once, p .said)
 
 -- ---- the fields of charsets are as the writer of the record needs them
-pub classes : {d : Dialect} {s : List ℕ} {e : Event} {es : List Entry} (p : Passes d s e es)
+pub classes : {d : Dialect} {s : List ℕ} {e : Event} {es : List Entry} (p : Chain d s e es)
     → ClassHolds s (factsOf (e .bits) (p .fields) .characters) × ClassHolds s (factsOf (e .bits) (p .fields) .choices)
 unfolding contentsFull
 classes {d} {s} {e} p =
@@ -103,7 +116,7 @@ entries-kept d s x (kind ∷ types) meta p cs j k z h g e i l =
     go t again (suc i) l = again i (omega arith)
 
 -- ---- so its record is valid, and has a column for each type byte
-pub as-many : {d : Dialect} {s : List ℕ} {e : Event} {es : List Entry} → Passes d s e es → length es ≡ length (lentPart s (e .types))
+pub as-many : {d : Dialect} {s : List ℕ} {e : Event} {es : List Entry} → Chain d s e es → length es ≡ length (lentPart s (e .types))
 as-many {d} {s} {e} {es} p =
     let types = lentPart s (e .types) in
     let meta = lentPart s (e .metadata) in
@@ -112,7 +125,7 @@ as-many {d} {s} {e} {es} p =
     ∙ ap length (taken-all types meta 0 (p .columns) (p .taken))
     ∙ declared-length types meta
 
-pub valid : {d : Dialect} {s : List ℕ} {e : Event} {es : List Entry} → Passes d s e es → recordValid (recordBytes es) ≡ true
+pub valid : {d : Dialect} {s : List ℕ} {e : Event} {es : List Entry} → Chain d s e es → recordValid (recordBytes es) ≡ true
 valid {d} {s} {e} {es} p =
     let x = factsOf (e .bits) (p .fields) in
     let z : Entry = record { kind = 0; flags = 0; m0 = 0; m1 = 0; charset = 0 } in
@@ -122,3 +135,23 @@ valid {d} {s} {e} {es} p =
     made-valid es z n
     (subst (λ (y : List Entry). (i : ℕ) → i < length y → Kept (getD y i z)) (sym (p .said))
     (λ i l. entries-kept d s x (lentPart s (e .types)) (lentPart s (e .metadata)) 0 (p .columns) (place 0) noRanks z (w .0) (w .1) (p .taken) i (omega (arith, m, l))))
+
+-- ---- of the call: the record of an accepted map, and what is left at the buffer's start
+pub accepted-valid : (d : Dialect) (s : List ℕ) (postHeader : ℕ) (es : List Entry) → checkMap d s postHeader ≡ ok es → recordValid (recordBytes es) ≡ true
+unfolding checkMap
+accepted-valid d s postHeader es h =
+    let x = after-is-ok (readEvent s postHeader) (λ e. checkEvent d s e) es h in
+    valid (chained d s (x .0) es (x .2))
+
+pub checked-valid : (d : Dialect) (s : List ℕ) (postHeader : ℕ) (buf : List ℕ) (n : ℕ) (left : List ℕ) → check d s postHeader buf ≡ ok (n, left)
+    → recordValid (take n left) ≡ true
+unfolding check store
+checked-valid d s postHeader buf n left h =
+    let x = after-is-ok (checkMap d s postHeader) (λ es. store buf 0 (recordBytes es)) (n, left) h in
+    let r = recordBytes (x .0) in
+    let y = test-is-ok (leb (0 + length r) (length buf)) (0 + length r, stored buf 0 r) (why 8 0) (n, left) (x .2) in
+    let i : 0 + length r ≡ n = ap (λ (v : ℕ × List ℕ). v .0) (y .1) in
+    let j : stored buf 0 r ≡ left = ap (λ (v : ℕ × List ℕ). v .1) (y .1) in
+    let l : length r ≡ n = omega arith in
+    let t : take n left ≡ r = ap (take n) (sym j) ∙ ap (λ (k : ℕ). take k (stored buf 0 r)) (sym l) ∙ stored-part buf 0 r (omega arith) in
+    rw t (accepted-valid d s postHeader (x .0) (x .1))

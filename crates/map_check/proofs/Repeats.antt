@@ -1,24 +1,24 @@
 -- The keys of a value, and the search for one that stands twice: what its two loops turn on. Assumes nothing.
-use Prim.Native.Nat.{ℕ, zero, suc, _+_, _-_, _≤_, _<_}
+use Prim.Native.Nat.{ℕ, _+_, _≤_, _<_}
 use mathlib.Core.Path.{_≡_, refl, sym, ap, subst, _∙_}
 use mathlib.Core.Bool.{Bool, true, false, _||_}
 use mathlib.Core.Logic.{⊎-elim}
 use mathlib.Core.List.{List, [], _∷_, _++_}
 use native.Mathlib.Omega.{arith}
 use borrow.Author.Tests.{eq-eqb, ne-eqb}
-use lib.ListN.{length, getD}
+use lib.ListN.{length}
 use lib.Dec.{eqb}
 use Rattle.wire.specs.declared.refusal.Refusal.{Refusal}
-use Rattle.wire.specs.Outcome.{Outcome, ok, refused, refuse}
+use Rattle.wire.specs.Outcome.{ok, refused, refuse}
 use Rattle.wire.proofs.Outcomes.{after-is-ok, ok-not-refused, same-ok}
-use Rattle.table_map.specs.Lists.{Rule, Stepped, end, item, step, onward, walkSteps}
-use Rattle.table_map.proofs.Steps.{item-read}
+use Rattle.table_map.specs.Lists.{Rule}
 use Rattle.table_map.proofs.Items.{Moves}
 use Rattle.map_check.specs.Contents.{keyItem}
 use Rattle.map_check.specs.Fields.{stood}
 use Rattle.map_check.specs.Keys.{withPlace, keysFrom, keysOnce}
 use Rattle.map_check.proofs.KeyItems.{key-moves}
-use Rattle.map_check.proofs.Between.{Between, none, one-more, rises, parted, items-next, items-past, items-stop}
+use Rattle.map_check.specs.Passes.{Between, none}
+use Rattle.map_check.proofs.Between.{one-more, rises, parted, items-next, items-past, items-stop}
 
 -- items with their places move as they do without
 pub placed-moves : {A : Type 0} (rule : Rule A) → Moves rule → Moves (withPlace rule)
@@ -46,28 +46,6 @@ unfolding withPlace
 keys-stop paired value at w e =
     let r : withPlace (keyItem paired) value at ≡ refused w = rw e in
     items-stop (withPlace (keyItem paired)) (placed-moves (keyItem paired) (key-moves paired)) value at w r
-
--- they stand within the value
-places : {A : Type 0} (rule : Rule A) (m : ℕ) (s : List ℕ) (at j : ℕ) (d : ℕ × A) → j < length (walkSteps m (withPlace rule) s at .items)
-    → getD (walkSteps m (withPlace rule) s at .items) j d .0 < length s
-unfolding walkSteps withPlace
-places rule zero s at j d h = absurd (omega arith)
-places {A} rule (suc m) s at j d h = go (λ next i. places rule m s next i d) (step (withPlace rule) s at) refl j h
-  where
-    go : ((next i : ℕ) → i < length (walkSteps m (withPlace rule) s next .items) → getD (walkSteps m (withPlace rule) s next .items) i d .0 < length s)
-        → (o : Outcome (Stepped (ℕ × A) ℕ)) → step (withPlace rule) s at ≡ o
-        → (j : ℕ) → j < length (onward (walkSteps m (withPlace rule) s) o .items) → getD (onward (walkSteps m (withPlace rule) s) o .items) j d .0 < length s
-    go again (ok end) e j h = absurd (omega arith)
-    go again (refused r) e j h = absurd (omega arith)
-    go again (ok (item a next)) e zero h =
-        let x = item-read (withPlace rule) s at a next e in
-        let y = after-is-ok (rule s at) (λ z. ok ((at, z .0), z .1)) (a, next) (x .1) in
-        let z : at ≡ a .0 = ap (λ (w : (ℕ × A) × ℕ). w .0 .0) (same-ok (y .2)) in
-        omega (arith, x .0, z)
-    go again (ok (item a next)) e (suc j) h = again next j (omega arith)
-
-pub key-places : (paired : Bool) (value : List ℕ) (at j : ℕ) → j < length (keysFrom paired value at) → getD (keysFrom paired value at) j (0, 0) .0 < length value
-key-places paired value at j h = places (keyItem paired) (suc (length value - at)) value at j (0, 0) h
 
 -- ---- the outer loop: the keys before `later` repeat none, so those from there on decide
 pub record Reached (paired : Bool) (value : List ℕ) (start later : ℕ) : Type 0 where

@@ -13,17 +13,11 @@ use lib.Dec.{eqb}
 use Rattle.wire.specs.declared.refusal.Refusal.{Refusal}
 use Rattle.wire.specs.Outcome.{Outcome, ok, refused, refuse, why}
 use Rattle.wire.specs.Packed.{readPacked, formOf}
-use Rattle.wire.specs.declared.part.Part.{Part}
-use Rattle.wire.specs.Parts.{lentPart}
-use Rattle.wire.proofs.Outcomes.{by-test, after-refuses, ok-not-refused, same-refused}
+use Rattle.wire.proofs.Outcomes.{by-test, ok-not-refused, same-refused}
 use Rattle.table_map.specs.Lists.{step, walkSteps}
-use Rattle.map_check.specs.declared.found.Found.{Found}
-use Rattle.map_check.specs.declared.found.Found.the-variants.{Value, Nothing}
 use Rattle.map_check.specs.Contents.{keyItem}
-use Rattle.map_check.specs.Fields.{stood, firstOf}
-use Rattle.map_check.specs.Keys.{withPlace, keysFrom, keysOnce, onceIn, keysHold}
-use Rattle.wire.proofs.Parts.{lent-ends}
-use Rattle.map_check.proofs.Repeats.{key-places}
+use Rattle.map_check.specs.Fields.{stood}
+use Rattle.map_check.specs.Keys.{withPlace, keysFrom, keysOnce}
 
 -- item j: its place, and its key
 abbrev pub placeAt : List (ℕ × ℕ) → ℕ → ℕ
@@ -177,21 +171,6 @@ repeat-refused start items j r = go (keysOnce start [] items) refl
         (λ a. dite (decLe j (x .0)) (λ b. omega arith) (λ b. absurd (only (x .0) j (x .1) r (omega arith))))
         (λ a. absurd (only j (x .0) r (x .1) (omega arith)))
         in ap (λ (v : Refusal). refused v) (x .2 ∙ ap (λ (i : ℕ). why 7 (start + placeAt items i)) q)
-
--- ---- in a map: a repeated key is a 7, at a place of the event
-once-told : (paired : Bool) (s : List ℕ) (f : Found) (w : Refusal) → onceIn paired s f ≡ refused w → (w .number ≡ 7) × (w .place < length s)
-once-told paired s (Value p) w e =
-    let x = refused-repeat (p .start) (keysFrom paired (lentPart s p) 0) w e in
-    let h = key-places paired (lentPart s p) 0 (x .0) (x .1 .there) in
-    let at = ap (λ (v : Refusal). v .place) (x .2) in
-    (ap (λ (v : Refusal). v .number) (x .2), ⊎-elim (λ z. absurd (omega (arith, h, z))) (λ l. omega (arith, h, at, l)) (lent-ends s p))
-once-told paired s Nothing w e = absurd (ok-not-refused e)
-
-pub keys-told : (s : List ℕ) (fs : List (ℕ × Part)) (w : Refusal) → keysHold s fs ≡ refused w → (w .number ≡ 7) × (w .place < length s)
-unfolding keysHold
-keys-told s fs w e =
-    ⊎-elim (λ l. once-told false s (firstOf 8 fs) w l) (λ r. once-told true s (firstOf 9 fs) w (r .2))
-    (after-refuses (onceIn false s (firstOf 8 fs)) (λ x. onceIn true s (firstOf 9 fs)) w e)
 
 -- ---- keys 1, 2, 2, 1: the third item is told and not the fourth
 third : keysOnce 40 [] (keysFrom false (1 ∷ 2 ∷ 2 ∷ 1 ∷ []) 0) ≡ refuse 7 42

@@ -1,7 +1,6 @@
 -- The check of a map: "After event reading, in order: n at most 255; each column's type then metadata; no metadata left over; optional fields one by one,
 -- contents in full; a repeated key index; room." Assumes nothing.
-use Prim.Native.Nat.{ℕ, _≤_}
-use mathlib.Core.Path.{_≡_}
+use Prim.Native.Nat.{ℕ}
 use mathlib.Core.Bool.{cond}
 use mathlib.Core.List.{List}
 use lib.ListN.{length}
@@ -39,16 +38,6 @@ checkEvent d s e =
     after (keepFields (sizesOf d cs) (fieldsAt d (lentPart s (e .types)) (e .optional .start)) s) (λ fs.
     after (keysHold s fs) (λ once.
     ok (entriesOf d s e cs fs)))))
-
--- a map that passes, test by test, and its entries
-pub record Passes (d : Dialect) (s : List ℕ) (e : Event) (es : List Entry) : Type 0 where
-  pub few : length (lentPart s (e .types)) ≤ mostColumns
-  pub columns : List Declared
-  pub taken : takeColumns (lentPart s (e .types)) (lentPart s (e .metadata)) 0 ≡ ok columns
-  pub fields : List (ℕ × Part)
-  pub kept : keepFields (sizesOf d columns) (fieldsAt d (lentPart s (e .types)) (e .optional .start)) s ≡ ok fields
-  pub once : keysHold s fields ≡ ok tt
-  pub said : es ≡ entriesOf d s e columns fields
 
 unfoldable pub checkMap : Dialect → List ℕ → ℕ → Outcome (List Entry)
 unfolding readEvent checkEvent

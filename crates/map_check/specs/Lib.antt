@@ -1,6 +1,6 @@
 -- The definitions of the crate: what people must believe. `Columns`: each column's type and metadata. `Ranks`: places and ranks. `Contents`: the contents of
 -- optional fields. `Fields`: the fields one by one. `Keys`: a repeated key. `Profile`: what the record says of each column. `Standing`: where the making of a
--- record stands between two columns. `Check`: the check, in its order. `Names`: the names of columns.
+-- record stands between two columns. `Check`: the check, in its order. `Passes`: the maps that pass it. `Names`: the names of columns. `Places`: where refusals stand.
 pub mod Columns
 pub mod Ranks
 pub mod Contents
@@ -9,4 +9,6 @@ pub mod Keys
 pub mod Profile
 pub mod Standing
 pub mod Check
+pub mod Passes
 pub mod Names
+pub mod Places

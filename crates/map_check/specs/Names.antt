@@ -3,20 +3,23 @@
 use Prim.Native.Nat.{ℕ, zero, suc}
 use mathlib.Core.Bool.{cond}
 use mathlib.Core.List.{List, []}
+use mathlib.Core.Option.{Option, none, some}
 use lib.ListN.{length}
 use lib.Dec.{eqb}
-use Rattle.wire.specs.Outcome.{Outcome, ok, refused, refuse}
+use Rattle.wire.specs.Outcome.{Outcome, ok, refused, refuse, after}
 use Rattle.wire.specs.declared.part.Part.{Part}
-use Rattle.wire.specs.Parts.{part, lentPart}
+use Rattle.wire.specs.Parts.{lentPart}
 use Rattle.value.specs.declared.classes.Dialect.{Dialect}
-use Rattle.table_map.specs.declared.event.Event.{Event}
-use Rattle.table_map.specs.Lists.{Stepped, end, item, step, stringItem}
+use Rattle.table_map.specs.Events.{readEvent}
+use Rattle.table_map.specs.Lists.{Stepped, end, item, step, Ended, whole, broken, Walked, stringItem}
 use Rattle.map_check.specs.declared.rank.Place.{Place}
 use Rattle.map_check.specs.declared.found.Found.{Found}
 use Rattle.map_check.specs.declared.found.Found.the-variants.{Value, Nothing}
 use Rattle.map_check.specs.declared.names.NameRead.{NameRead}
 use Rattle.map_check.specs.declared.names.NameRead.the-variants.{Name, Refused}
-use Rattle.map_check.specs.Fields.{firstOf, fieldsAt, fieldsFrom}
+use Rattle.map_check.specs.declared.names.NamesRead.{NamesRead}
+use Rattle.map_check.specs.declared.names.NamesRead.the-variants.{Names, Absent, Refused as Refused₁}
+use Rattle.map_check.specs.Fields.{firstOf, fieldsAt, walkFields}
 
 -- the list that is looked at
 unfoldable pub listOf : List ℕ → List ℕ → List ℕ
@@ -44,20 +47,32 @@ abbrev pub nameIn : List ℕ → Outcome Part → List ℕ
 nameIn s (ok p) = lentPart s p
 nameIn s (refused r) = []
 
--- ---- the names field of a map: the value of the first field of type 4 in its walk, nothing if there is none or a refusal comes before it
-abbrev pub namesFound : Dialect → List ℕ → Outcome Event → Found
-namesFound d s (ok e) = firstOf 4 (fieldsFrom (fieldsAt d (lentPart s (e .types)) (e .optional .start)) s)
-namesFound d s (refused r) = Nothing
-
--- where it stands in the event, start and length 0 for nothing
-abbrev pub partFound : Found → Part
-partFound (Value p) = p
-partFound Nothing = part 0 0
-
-abbrev pub namesPart : Dialect → List ℕ → Outcome Event → Part
-namesPart d s o = partFound (namesFound d s o)
-
 -- what the answer of the lookup says
 abbrev pub nameOf : NameRead → Outcome Part
 nameOf (Name part) = ok part
 nameOf (Refused r) = refused r
+
+-- ---- the names field of a map: the first field of type 4 that the walk over its optional fields meets. Three answers are kept apart: its value, which may be
+-- empty; that there is none, where the walk comes to its end without one; and the refusal of the event or of the walk that comes before it. What stands behind
+-- the field is not looked at, as a list is "read no further" than the name
+
+-- a field that was met, or else how the walk ended
+abbrev pub orEnded : Found → Ended → Outcome (Option Part)
+orEnded (Value p) how = ok (some p)
+orEnded Nothing whole = ok none
+orEnded Nothing (broken r) = refused r
+
+-- the names among the fields of a walk
+abbrev pub namesIn : Walked (ℕ × Part) → Outcome (Option Part)
+namesIn w = orEnded (firstOf 4 (w .items)) (w .how)
+
+-- and among those of a map
+abbrev pub namesField : Dialect → List ℕ → ℕ → Outcome (Option Part)
+namesField d s postHeader =
+    after (readEvent s postHeader) (λ e. namesIn (walkFields (fieldsAt d (lentPart s (e .types)) (e .optional .start)) s))
+
+-- what the answer says
+abbrev pub namesOf : NamesRead → Outcome (Option Part)
+namesOf (Names p) = ok (some p)
+namesOf Absent = ok none
+namesOf (Refused₁ r) = refused r

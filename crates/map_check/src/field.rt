@@ -15,7 +15,7 @@ use wire::refusal::BAD_FIELD;
 ghost use mathlib.Core.Path.{_≡_};
 ghost use lib.ListN.{getD};
 ghost use Rattle.wire.specs.Outcome.{ok, after};
-ghost use Rattle.map_check.specs.Fields.{rivalOf, standsGiven, keepFields, firstOf, fieldsFrom};
+ghost use Rattle.map_check.specs.Fields.{rivalOf, standsGiven, keepFields, firstOf};
 ghost use Rattle.map_check.specs.Standing.{keptBy, keptOf};
 ghost use Rattle.map_check.specs.declared.found.Found.the-variants.{Nothing};
 
@@ -23,29 +23,6 @@ ghost use Rattle.map_check.specs.declared.found.Found.the-variants.{Noth
 pub(crate) enum FieldsKept {
     Kept(KeptFields),
     Refused(Refusal),
-}
-
-// The first field of a type, from a cursor on.
-pub(crate) fn find_field(event: &[u8], fields: Fields, kind: u8) -> Found
-    ensures { λ r. ⌜ r ≡ firstOf kind (fieldsFrom fields (now (event .entry))) ⌝ }
-{
-    let mut cursor = fields;
-    loop {
-        match cursor.next(event) {
-            FieldStep::Field {
-                kind: met,
-                value,
-                next,
-            } => {
-                if met == kind {
-                    return Found::Value(value);
-                }
-                cursor = next;
-            }
-            FieldStep::End => return Found::Nothing,
-            FieldStep::Refused(_) => return Found::Nothing,
-        }
-    }
 }
 
 // The type that may not stand beside one; there is no type 0.

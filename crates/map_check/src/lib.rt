@@ -15,8 +15,9 @@ mod rank;
 
 pub use map::check;
 pub use names::NameRead;
+pub use names::NamesRead;
 pub use names::column_name;
 pub use names::name_part;
-pub use names::names_part;
+pub use names::names_field;
 pub use rank::Place;
 pub use rank::Rank;

@@ -1,8 +1,7 @@
 // The names of columns (table_map_event.rs: ColumnName).
-use crate::field::find_field;
-use crate::found::Found;
 use crate::rank::Place;
 use table_map::EventRead;
+use table_map::FieldStep;
 use table_map::Fields;
 use table_map::StringStep;
 use table_map::Strings;
@@ -11,8 +10,8 @@ use wire::Part;
 use wire::Refusal;
 use wire::refusal::NO_COLUMN;
 ghost use mathlib.Core.Path.{_≡_};
-ghost use Rattle.table_map.specs.Events.{readEvent};
-ghost use Rattle.map_check.specs.Names.{listOf, stringAt, columnName, nameIn, partFound, namesPart, nameOf};
+ghost use Rattle.map_check.specs.Fields.{walkFields};
+ghost use Rattle.map_check.specs.Names.{listOf, stringAt, columnName, nameIn, nameOf, namesIn, namesField, namesOf};
 
 // The type of the field that holds the names.
 const NAMES: u8 = 4;
@@ -20,6 +19,13 @@ const NAMES: u8 = 4;
 // Where a column's name stands in the list that was looked at.
 pub enum NameRead {
     Name(Part),
+    Refused(Refusal),
+}
+
+// The names field of a map: where its value stands, which may be empty; that it has none; or the refusal of the event or of a field that comes before it.
+pub enum NamesRead {
+    Names(Part),
+    Absent,
     Refused(Refusal),
 }
 
@@ -40,27 +46,36 @@ pub fn name_part<'a>(names: &'a [u8], operator: &'a [u8], column: Place) -> &'a 
     }
 }
 
-// Where the names of a map stand in the event: start and length 0 where it has none, or a refusal comes before them.
-pub fn names_part(event: &[u8], post_header: u8, dialect: Dialect) -> Part
-    ensures { λ r. ⌜ r ≡ namesPart dialect (now (event .entry)) (readEvent (now (event .entry)) «post_header») ⌝ }
+// Where the names of a map stand in its event. A map without names may be given the operator's; one that is refused may not, as it may be of another dialect.
+pub fn names_field(event: &[u8], post_header: u8, dialect: Dialect) -> NamesRead
+    ensures { λ r. ⌜ namesOf r ≡ namesField dialect (now (event .entry)) «post_header» ⌝ }
 {
     let e = match table_map::read_event(event, post_header) {
         EventRead::Read(e) => e,
-        EventRead::Refused(_) => return Part { start: 0, len: 0 },
+        EventRead::Refused(r) => return NamesRead::Refused(r),
     };
     let types = e.types;
     let optional = e.optional;
     let fields = Fields::new(dialect, wire::part_of(event, types), optional.start);
-    part_found(find_field(event, fields, NAMES))
+    find_names(event, fields)
 }
 
-// The part of a value that was found, start and length 0 where there is none.
-fn part_found(found: Found) -> Part
-    ensures { λ r. ⌜ r ≡ partFound found ⌝ }
+// The same from a cursor on. It is read up to the names and no further, as a list of names is read up to the name.
+fn find_names(event: &[u8], fields: Fields) -> NamesRead
+    ensures { λ r. ⌜ namesOf r ≡ namesIn (walkFields fields (now (event .entry))) ⌝ }
 {
-    match found {
-        Found::Value(part) => part,
-        Found::Nothing => Part { start: 0, len: 0 },
+    let mut cursor = fields;
+    loop {
+        match cursor.next(event) {
+            FieldStep::Field { kind, value, next } => {
+                if kind == NAMES {
+                    return NamesRead::Names(value);
+                }
+                cursor = next;
+            }
+            FieldStep::End => return NamesRead::Absent,
+            FieldStep::Refused(r) => return NamesRead::Refused(r),
+        }
     }
 }
 

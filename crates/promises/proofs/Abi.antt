@@ -3,6 +3,7 @@ use Prim.Native.Nat.{ℕ, zero, suc, _+_, _≤_}
 use mathlib.Core.Path.{_≡_, refl, sym, ap, subst, _∙_}
 use mathlib.Core.Bool.{Bool, true, false, true≢false, cond}
 use mathlib.Core.List.{List, [], _∷_}
+use mathlib.Core.Option.{none, some}
 use native.Mathlib.Omega.{arith}
 use borrow.Author.Tests.{le-leb, leb-true}
 use lib.ListN.{length}
@@ -16,7 +17,7 @@ use Rattle.wire.specs.Parts.{part}
 use Rattle.table_map.specs.Events.{readEvent}
 use Rattle.record.specs.Records.{readRecord}
 use Rattle.map_check.specs.Ranks.{place}
-use Rattle.map_check.specs.Names.{columnName}
+use Rattle.map_check.specs.Names.{columnName, namesField}
 use Rattle.map_check.specs.Check.{check}
 use Rattle.image.specs.declared.cursor.Cursor.{Cursor}
 use Rattle.image.specs.Split.{Told, null, value, end, cursor, firstCursor, stepFrom}
@@ -24,13 +25,16 @@ use Rattle.image.specs.Puts.{startImage, putFrom}
 use Rattle.rows_event.specs.Events.{readRows}
 use Rattle.rows_event.specs.Images.{Told as Told₁, image, end as end₁, nextImage}
 use Rattle.feed_abi.specs.Answers.{numberOf, toldOf, statusOf, numbersLeft, bytesLeft}
-use Rattle.feed_abi.specs.Calls.{said, saidWith, lengthNumbers, partNumbers, mapNumbers, cursorNumbers, stepNumbers, toldNumbers, rowsNumbers, imageNumbers, dialectOf, secondAsked, setsAsked, imagesAt, feedMap, feedCheck, feedColumn, feedNames, feedName, feedFirst, feedStep, feedStart, feedPut, feedRows, feedImage}
+use Rattle.feed_abi.specs.Calls.{said, saidWith, lengthNumbers, partNumbers, mapNumbers, namesGiven, givenNumbers, cursorNumbers, stepNumbers, toldNumbers, rowsNumbers, imageNumbers, dialectOf, secondAsked, setsAsked, imagesAt, feedMap, feedCheck, feedColumn, feedNames, feedName, feedFirst, feedStep, feedStart, feedPut, feedRows, feedImage}
+use Rattle.feed_abi.proofs.Tells.{names-asked}
+use Rattle.feed_abi.proofs.Backs.{told-back, null-back}
 use Rattle.promises.specs.Refusals.{Line, OneOf, just, later, refusalNumbers, isAmong, inTable, Only}
 use Rattle.promises.specs.Buffers.{Touched}
 use Rattle.promises.specs.Abi.{Answered, Counts, AbiCalls}
 use Rattle.promises.proofs.Only.{Listed, done, stop, chain, test}
 use Rattle.promises.proofs.Values.{value-made}
 use Rattle.promises.proofs.Rows.{record-read}
+use Rattle.promises.proofs.Images.{step-held}
 use Rattle.promises.proofs.Buffers.{stores}
 use Rattle.promises.proofs.Refusals.{only, second, refusals}
 
@@ -119,7 +123,11 @@ left-counts : {A : Type 0} (k : ℕ) (f : A → List ℕ) (o : Outcome (A × Lis
 left-counts k f (ok x) h ns e = ap length (sym (same-ok e)) ∙ h (x .0)
 left-counts k f (refused w) h ns e = absurd (ok-not-refused (sym e))
 
--- of a writer that is asked after another test
+-- of a call that is asked after another test, and of a writer
+then-said : {A : Type 0} (k : ℕ) (o : Outcome A) (f : A → Outcome (List ℕ)) → ((a : A) → Counts k (f a)) → Counts k (after o f)
+then-said k (ok a) f h ns e = h a ns e
+then-said k (refused w) f h ns e = absurd (ok-not-refused (sym e))
+
 then-counts : {A : Type 0} (k : ℕ) (o : Outcome A) (f : A → Outcome (List ℕ × List ℕ)) → ((a : A) → Counts k (answerOf (f a))) → Counts k (answerOf (after o f))
 then-counts k (ok a) f h ns e = h a ns e
 then-counts k (refused w) f h ns e = absurd (ok-not-refused (sym e))
@@ -157,13 +165,16 @@ pub abi : AbiCalls
 unfolding feedMap feedCheck feedNames feedName feedFirst feedStep feedStart feedPut feedRows feedImage statusOf numbersLeft bytesLeft inTable isAmong
 abi = record {
   feed-map = λ event postHeader. only refl (in-numbers mapNumbers (readEvent event postHeader) (refusals .read-event event postHeader));
-  feed-check = λ event postHeader dialect buf n e.
+  feed-check = λ event postHeader dialect buf.
       only refl
       (answered _
       (chain (dialectOf dialect) _ (dialect-asked dialect just)
-      (λ d u. wider _ (left-too lengthNumbers (check d event postHeader buf) (refusals .check-map d event postHeader buf n e)))));
+      (λ d u. wider _ (left-too lengthNumbers (check d event postHeader buf) (refusals .check-map d event postHeader buf)))));
   feed-column = λ r column. only refl (column-told r column just (second just));
-  feed-names = λ event postHeader dialect. only refl (chain (dialectOf dialect) _ (dialect-asked dialect just) (λ d u. done _));
+  feed-names = λ event postHeader dialect.
+      only refl
+      (chain (dialectOf dialect) _ (dialect-asked dialect just)
+      (λ d u. wider _ (in-numbers (λ f. givenNumbers (namesGiven f)) (namesField d event postHeader) (refusals .names-field d event postHeader))));
   feed-name = λ names operator column. only refl (in-numbers partNumbers (columnName names operator (place column)) (refusals .column-name names operator (place column)));
   feed-first = λ r p. only refl (in-numbers cursorNumbers (firstCursor r p) (refusals .first-cursor r p));
   feed-step = λ r p im column offset. only refl (in-numbers toldNumbers (stepFrom r p im (cursor column offset)) (refusals .step-image r p im (cursor column offset)));
@@ -177,6 +188,8 @@ abi = record {
   feed-image = λ r s firstStart firstLength hasSecond secondStart secondLength offset second.
       let w = setsAsked (part firstStart firstLength) (secondAsked hasSecond secondStart secondLength) in
       only refl (in-numbers imageNumbers (nextImage r w s (imagesAt offset second)) (refusals .next-image r w s (imagesAt offset second)));
+  names-there = λ event postHeader dialect d p e f. names-asked event postHeader dialect d (ok (some p)) e f;
+  names-none = λ event postHeader dialect d e f. names-asked event postHeader dialect d (ok none) e f;
   status-zero = λ k out answer ls h. (zero-answered k out answer ls h, answered-zero k out answer);
   status-table = λ k out answer ls h z. status-in-table (leb k (length out)) answer ls h z;
   numbers-kept = λ k out answer l h. numbers-left (leb k (length out)) out answer (λ u. let n = leb-true k (length out) u in omega arith) h;
@@ -184,7 +197,7 @@ abi = record {
   map-six = λ event postHeader. said-counts 6 mapNumbers (readEvent event postHeader) (λ e. refl);
   check-one = λ event postHeader dialect buf. then-counts 1 (dialectOf dialect) _ (λ d. left-counts 1 lengthNumbers (check d event postHeader buf) (λ n. refl));
   column-five = column-counts;
-  names-two = λ event postHeader dialect. said-counts 2 _ (dialectOf dialect) (λ d. refl);
+  names-three = λ event postHeader dialect. then-said 3 (dialectOf dialect) _ (λ d. said-counts 3 _ (namesField d event postHeader) (λ f. refl));
   name-two = λ names operator column. said-counts 2 partNumbers (columnName names operator (place column)) (λ n. refl);
   first-two = λ r p. said-counts 2 cursorNumbers (firstCursor r p) (λ c. refl);
   step-eleven = λ r p im column offset. said-counts 11 toldNumbers (stepFrom r p im (cursor column offset)) told-counts;
@@ -196,4 +209,7 @@ abi = record {
       said-counts 6 imageNumbers
       (nextImage r (setsAsked (part firstStart firstLength) (secondAsked hasSecond secondStart secondLength)) s (imagesAt offset second)) image-counts;
   numbers-touched = told-alone;
+  value-back = told-back;
+  null-back = null-back;
+  step-held = step-held;
 }

@@ -1,12 +1,29 @@
--- The laws of the crate. `Only`: how a refusal is one of those listed; packed integers and stores. `Values`: temporals and values. `Maps`: events, lists and fields, the check,
--- names. `Rows`: records and row images. `RowsEvents`: rows events. `Refusals`: demand 1. `Buffers`: what writers touch. `Abi`: demand 1 for the calls of `feed_abi`. `Walks`: walks are their steps. `Results`: no contract leaves a choice of answer.
+-- The laws of the crate, file for file as in specs/; `Port` proves all of it. Besides, of demand 1: `Only`, how a refusal is one of those listed, with
+-- packed integers and stores; `Maps`, events, lists and fields, the check, names; `Rows`, records and row images.
 pub mod Only
 pub mod Values
 pub mod Maps
+pub mod Names
 pub mod Rows
+pub mod Images
 pub mod RowsEvents
 pub mod Refusals
+pub mod Occurs
 pub mod Buffers
 pub mod Abi
 pub mod Walks
 pub mod Results
+pub mod Demand1
+pub mod Events
+pub mod Words
+pub mod Demand2
+pub mod Checks
+pub mod Demand3
+pub mod Temporals
+pub mod Metadata
+pub mod Classes
+pub mod WorkedMaps
+pub mod Profiles
+pub mod Numbers
+pub mod Readings
+pub mod Port

@@ -5,7 +5,7 @@ use Rattle.value.proofs.Views.{same-read}
 use Rattle.value_parts.proofs.Views.{same-made}
 use Rattle.table_map.proofs.Views.{same-event-read, same-integer, same-pair, same-string, same-group, same-charset, same-field, same-cut, same-judged}
 use Rattle.record.proofs.Views.{same-record}
-use Rattle.map_check.proofs.Views.{same-name}
+use Rattle.map_check.proofs.Views.{same-name, same-names}
 use Rattle.image.proofs.Views.{same-step, same-first, same-head, same-end, same-put}
 use Rattle.rows_event.proofs.Views.{same-rows, same-image}
 use Rattle.promises.specs.Results.{Results}
@@ -30,6 +30,7 @@ results = record {
   charset = same-charset;
   columns = same-record;
   name = same-name;
+  names = same-names;
   head = same-head;
   first = same-first;
   step = same-step;

@@ -1,19 +1,20 @@
 -- The refusals of row images, read and written. Under a valid record no column is one that there is not, so neither 4 nor 5 is among them. Assumes nothing.
 use Prim.Native.Nat.{ℕ, suc, _+_, _-_, _≤_, _<_}
 use mathlib.Core.Path.{_≡_, refl, subst}
-use mathlib.Core.Bool.{true}
+use mathlib.Core.Bool.{Bool, true, false, cond}
 use mathlib.Core.List.{List, [], _∷_}
 use native.Mathlib.Omega.{arith}
-use borrow.Author.Tests.{ltb-true, ltb-false}
+use borrow.Author.Tests.{lt-ltb, le-ltb, ltb-true, ltb-false, eq-eqb}
 use lib.ListN.{length, drop}
 use lib.Dec.{ltb, eqb}
 use Rattle.wire.specs.Bits.{bytesFor}
-use Rattle.wire.specs.Outcome.{Outcome, ok, refused, why}
+use Rattle.wire.specs.Outcome.{Outcome, ok, refused, refuse, why}
 use Rattle.wire.specs.Stored.{store}
 use Rattle.wire.proofs.Outcomes.{after-is-ok, same-ok}
 use Rattle.value.specs.declared.datum.Value.{Value}
 use Rattle.value.specs.Columns.{isTaken}
 use Rattle.value.specs.Reading.{readValue, datumOf}
+use Rattle.value.specs.Storing.{storedBytes}
 use Rattle.record.specs.Records.{countOf, recordValid, readRecord}
 use Rattle.record.proofs.Valid.{valid-column}
 use Rattle.image.specs.declared.cursor.Cursor.{Cursor}
@@ -54,11 +55,11 @@ record Fine (r : List ℕ) (c : Present) : Type 0 where
   there : isTaken (c .shape) ≡ true
 
 -- what holds of the column of each slot
-unfoldable EachSlot : (Present → Type 0) → List Slot → Type 0
+unfoldable pub EachSlot : (Present → Type 0) → List Slot → Type 0
 EachSlot P [] = Unit {0}
 EachSlot P (i ∷ is) = P (i .present) × EachSlot P is
 
-each-slot : (P : Present → Type 0) (cs : List Present) (k : ℕ) (nulls : List ℕ) → Each P cs → EachSlot P (slots cs k nulls)
+pub each-slot : (P : Present → Type 0) (cs : List Present) (k : ℕ) (nulls : List ℕ) → Each P cs → EachSlot P (slots cs k nulls)
 unfolding slots Each EachSlot
 each-slot P [] k nulls e = tt
 each-slot P (c ∷ cs) k nulls e = (e .0, each-slot P cs (suc k) nulls (e .1))
@@ -161,3 +162,39 @@ image-put r p nulls c lent v buf eleven twelve fourteen thirteen eight =
     (λ u.
     let l = ltb-false (h .columns) (c .column) u in
     put-over r c fourteen thirteen eight (slotsAt r p nulls (c .column)) lent v buf (slots-fine r p nulls (c .column) (t .valid) (omega (arith, t .columns)))))
+
+-- ---- what is told where
+-- an offset past the image, its null bits whole
+pub past-refused : (r p im : List ℕ) (c : Cursor) → recordValid r ≡ true → length p ≡ bytesFor (countOf r) → c .column ≤ countOf r
+    → bytesFor (countBits p (countOf r)) ≤ length im → length im < c .offset → stepFrom r p im c ≡ refuse 9 (c .column)
+unfolding stepFrom slotsLeft headOf readRecord
+past-refused r p im c v b l w h =
+    let n = bytesFor (countBits p (countOf r)) in
+    let a = eq-eqb (length p) (bytesFor (countOf r)) b in
+    rw (v, a, le-ltb (countOf r) (c .column) l, le-ltb (length im) n w, lt-ltb (length im) (c .offset) h)
+
+-- a value and a bit that disagree on NULL
+slot-refused : (i : Slot) (lent : List ℕ) (v : Value) → (isNull (datumOf lent v) ≡ i .null → ⊥)
+    → slotBytes i lent v ≡ refuse 13 (i .present .column)
+unfolding slotBytes
+slot-refused i lent v h = go (isNull (datumOf lent v)) (i .null) h
+  where
+    go : (a b : Bool) → (a ≡ b → ⊥)
+        → cond a (cond b (ok []) (refuse 13 (i .present .column)))
+        (cond b (refuse 13 (i .present .column)) (storedBytes (i .present .shape) (i .present .column) lent v))
+        ≡ refuse 13 (i .present .column)
+    go true true h = absurd (h refl)
+    go true false h = refl
+    go false true h = refl
+    go false false h = absurd (h refl)
+
+pub null-refused : (r p nulls : List ℕ) (c : Cursor) (i : Slot) (is : List Slot) (lent : List ℕ) (v : Value) (buf : List ℕ)
+    → recordValid r ≡ true
+    → length p ≡ bytesFor (countOf r) → length nulls ≡ bytesFor (countBits p (countOf r)) → c .column ≤ countOf r
+    → slotsAt r p nulls (c .column) ≡ i ∷ is
+    → (isNull (datumOf lent v) ≡ i .null → ⊥) → putFrom r p nulls c lent v buf ≡ refuse 13 (i .present .column)
+unfolding putFrom headNulls headOf readRecord putOver
+null-refused r p nulls c i is lent v buf k b n l e h =
+    let m = bytesFor (countBits p (countOf r)) in
+    let a = eq-eqb (length p) (bytesFor (countOf r)) b in
+    rw (k, a, eq-eqb (length nulls) m n, le-ltb (countOf r) (c .column) l, e, slot-refused i lent v h)

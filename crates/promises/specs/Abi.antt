@@ -3,16 +3,24 @@
 use Prim.Native.Nat.{ℕ, _≤_}
 use mathlib.Core.Path.{_≡_}
 use mathlib.Core.Bool.{true}
-use mathlib.Core.List.{List, [], _∷_}
-use lib.ListN.{length}
+use mathlib.Core.List.{List, [], _∷_, _++_}
+use mathlib.Core.Option.{none, some}
+use lib.ListN.{length, getD, drop}
 use Rattle.wire.specs.Outcome.{Outcome, ok}
+use Rattle.wire.specs.Number.{Bytes}
 use Rattle.wire.specs.Stored.{answerOf}
-use Rattle.table_map.specs.Events.{readEvent, partIn}
+use Rattle.wire.specs.declared.part.Part.{Part}
+use Rattle.value.specs.declared.classes.Dialect.{Dialect}
+use Rattle.value.specs.declared.datum.Value.{Value}
+use Rattle.value.specs.declared.datum.Value.the-variants.{Null}
+use Rattle.value_parts.specs.Parts.{topOfBits, valueOf, isHeld}
 use Rattle.record.specs.Records.{countOf}
-use Rattle.map_check.specs.Names.{listOf}
+use Rattle.map_check.specs.Names.{listOf, namesField}
+use Rattle.image.specs.declared.cursor.Cursor.{Cursor}
+use Rattle.image.specs.Split.{null, value, stepFrom}
 use Rattle.feed_abi.specs.Answers.{statusOf, numbersLeft, bytesLeft}
-use Rattle.feed_abi.specs.Calls.{feedMap, feedCheck, feedColumn, feedNames, feedName, feedFirst, feedStep, feedStart, feedPut, feedRows, feedImage}
-use Rattle.promises.specs.Refusals.{Line, _at_, _below_, _upTo_, refusalNumbers, isAmong, Only}
+use Rattle.feed_abi.specs.Calls.{dialectOf, toldNumbers, feedMap, feedCheck, feedColumn, feedNames, feedName, feedFirst, feedStep, feedStart, feedPut, feedRows, feedImage}
+use Rattle.promises.specs.Refusals.{Line, _at_, _below_, refusalNumbers, isAmong, Only, eventLines, checkLines, nameLines, namesLines, rowsLines}
 use Rattle.promises.specs.Buffers.{Touched}
 
 -- the answer is no refusal, and there is room for its k numbers
@@ -23,21 +31,24 @@ Answered k out answer = (ns : List ℕ) × (answer ≡ ok ns) × (k ≤ length o
 abbrev pub Counts : ℕ → Outcome (List ℕ) → Type 0
 Counts k answer = (ns : List ℕ) → answer ≡ ok ns → length ns ≡ k
 
-pub record AbiCalls : Type 0 where
+-- what `feed_put` makes of the numbers that `feed_step` left: the first is the kind, and the parts begin with the fifth
+abbrev pub toldAgain : List ℕ → Outcome Value
+toldAgain ns = valueOf (getD ns 0 0) (drop 4 ns)
+
+pub record AbiCalls : Type 1 where
   -- ---- maps
   -- `feed_map`: as `read_event`
-  pub feed-map : (event : List ℕ) (postHeader : ℕ) → Only (feedMap event postHeader) (1 upTo length event ∷ 2 upTo length event ∷ [])
-  -- `feed_check`: 13 for a number that is no dialect; else as `check`, n being how many type bytes the event has
-  pub feed-check : (event : List ℕ) (postHeader dialect : ℕ) (buf : List ℕ) (n : ℕ) → n ≡ length (partIn (λ e. e .types) event (readEvent event postHeader))
-      → Only (answerOf (feedCheck event postHeader dialect buf))
-      (13 at 0 ∷ 1 upTo length event ∷ 2 upTo length event ∷ 3 at 0 ∷ 4 below n ∷ 5 upTo n ∷ 6 below length event ∷ 7 below length event ∷ 8 at 0 ∷ [])
+  pub feed-map : (event : List ℕ) (postHeader : ℕ) → Only (feedMap event postHeader) (eventLines event postHeader)
+  -- `feed_check`: 13 for a number that is no dialect; else as `check`
+  pub feed-check : (event : List ℕ) (postHeader dialect : ℕ) (buf : List ℕ)
+      → Only (answerOf (feedCheck event postHeader dialect buf)) (13 at 0 ∷ checkLines event postHeader)
   -- `feed_column`: 14 at the column asked
   pub feed-column : (r : List ℕ) (column : ℕ) → Only (feedColumn r column) (11 at 0 ∷ 14 at column ∷ [])
-  -- `feed_names`: 13 for a number that is no dialect
-  pub feed-names : (event : List ℕ) (postHeader dialect : ℕ) → Only (feedNames event postHeader dialect) (13 at 0 ∷ [])
+  -- `feed_names`: 13 for a number that is no dialect; else as `names_field`
+  pub feed-names : (event : List ℕ) (postHeader dialect : ℕ)
+      → Only (feedNames event postHeader dialect) (13 at 0 ∷ namesLines event postHeader)
   -- `feed_name`: as `column_name`
-  pub feed-name : (names operator : List ℕ) (column : ℕ)
-      → Only (feedName names operator column) (14 at column ∷ 1 below length (listOf names operator) ∷ 2 below length (listOf names operator) ∷ [])
+  pub feed-name : (names operator : List ℕ) (column : ℕ) → Only (feedName names operator column) (nameLines (listOf names operator) column)
   -- ---- rows; r is the record, p the presence bits
   -- `feed_first`: as `first_cursor`
   pub feed-first : (r p : List ℕ) → Only (feedFirst r p) (11 at 0 ∷ 12 at 0 ∷ [])
@@ -51,12 +62,16 @@ pub record AbiCalls : Type 0 where
       → Only (answerOf (feedPut r p nulls column offset kind parts lent im)) (13 at 0 ∷ 11 at 0 ∷ 12 at 0 ∷ 14 at column ∷ 13 below countOf r ∷ 8 at 0 ∷ [])
   -- ---- rows events; s is the event
   -- `feed_rows`: as `read_rows`
-  pub feed-rows : (code : ℕ) (r : List ℕ) (id : ℕ) (s : List ℕ)
-      → Only (feedRows code r id s) (11 at 0 ∷ 16 at 0 ∷ 1 upTo length s ∷ 2 upTo length s ∷ 15 at 8 ∷ 16 upTo length s ∷ [])
+  pub feed-rows : (code : ℕ) (r : List ℕ) (id : ℕ) (s : List ℕ) → Only (feedRows code r id s) (rowsLines code r s)
   -- `feed_image`: as `Images::next`
   pub feed-image : (r s : List ℕ) (firstStart firstLength hasSecond secondStart secondLength offset second : ℕ)
       → Only (feedImage r s firstStart firstLength hasSecond secondStart secondLength offset second)
       (11 at 0 ∷ 12 at 0 ∷ 9 at 0 ∷ 9 below countOf r ∷ 10 below countOf r ∷ [])
+  -- ---- what `feed_names` tells apart: names, be they without bytes, and none
+  pub names-there : (event : List ℕ) (postHeader dialect : ℕ) (d : Dialect) (p : Part) → dialectOf dialect ≡ ok d → namesField d event postHeader ≡ ok (some p)
+      → feedNames event postHeader dialect ≡ ok (1 ∷ p .start ∷ p .len ∷ [])
+  pub names-none : (event : List ℕ) (postHeader dialect : ℕ) (d : Dialect) → dialectOf dialect ≡ ok d → namesField d event postHeader ≡ ok none
+      → feedNames event postHeader dialect ≡ ok (0 ∷ 0 ∷ 0 ∷ [])
   -- ---- all calls: out is the buffer of numbers, and k how many the call's answer has
   -- the status is 0 exactly if the answer is no refusal and there is room for its numbers
   pub status-zero : (k : ℕ) (out : List ℕ) (answer : Outcome (List ℕ)) (ls : List Line) → Only answer ls
@@ -72,7 +87,7 @@ pub record AbiCalls : Type 0 where
   pub map-six : (event : List ℕ) (postHeader : ℕ) → Counts 6 (feedMap event postHeader)
   pub check-one : (event : List ℕ) (postHeader dialect : ℕ) (buf : List ℕ) → Counts 1 (answerOf (feedCheck event postHeader dialect buf))
   pub column-five : (r : List ℕ) (column : ℕ) → Counts 5 (feedColumn r column)
-  pub names-two : (event : List ℕ) (postHeader dialect : ℕ) → Counts 2 (feedNames event postHeader dialect)
+  pub names-three : (event : List ℕ) (postHeader dialect : ℕ) → Counts 3 (feedNames event postHeader dialect)
   pub name-two : (names operator : List ℕ) (column : ℕ) → Counts 2 (feedName names operator column)
   pub first-two : (r p : List ℕ) → Counts 2 (feedFirst r p)
   pub step-eleven : (r p im : List ℕ) (column offset : ℕ) → Counts 11 (feedStep r p im column offset)
@@ -83,3 +98,10 @@ pub record AbiCalls : Type 0 where
       → Counts 6 (feedImage r s firstStart firstLength hasSecond secondStart secondLength offset second)
   -- so many are touched, and no others
   pub numbers-touched : (k : ℕ) (out : List ℕ) (answer : Outcome (List ℕ)) → Counts k answer → Answered k out answer → Touched out 0 k (numbersLeft k out answer)
+  -- ---- what `feed_step` tells of a value makes that value where it is put, whatever stands behind its numbers
+  pub value-back : (column : ℕ) (v : Value) (next : Cursor) (rest : List ℕ) → isHeld v ≡ true
+      → toldAgain (toldNumbers (value column v next) ++ rest) ≡ ok v
+  pub null-back : (column : ℕ) (next : Cursor) (rest : List ℕ) → toldAgain (toldNumbers (null column next) ++ rest) ≡ ok Null
+  -- and every value that it tells is one that the machine can hold
+  pub step-held : (r p im : List ℕ) (c : Cursor) (j : ℕ) (v : Value) (next : Cursor) → Bytes im → length im ≤ topOfBits 64
+      → stepFrom r p im c ≡ ok (value j v next) → isHeld v ≡ true

@@ -1,14 +1,27 @@
--- The statements that the port is to be judged by. `Readings`: the worked readings of document 01. `Values`: one stored value of a column. `Events`: the
--- event's two round trips. `Checks`: the check of a map. `Images`: demand 3. `RowsEvents`: the same for each image of a rows event. `Refusals`: demand 1. `Buffers`: what writers touch. `Abi`: demand 1 for the calls of `feed_abi`. `Walks`: walks on paper never run out
--- of steps. `Results`: no contract leaves a choice of answer.
-pub mod Readings
-pub mod Values
-pub mod Events
-pub mod Checks
-pub mod Images
-pub mod RowsEvents
+-- The statements that the port is to be judged by. `Port` holds all of them, and stands on top. `Demand1`, `Demand2`, `Demand3`: the three
+-- demands. `Readings`: the definitions held against the paper's own numbers. `RowsEvents`: request 1. The others are their parts: of demand 1
+-- `Refusals`, `Abi` (the calls of `feed_abi`), `Buffers`, `Walks` and `Results`; of demand 2 `Values` and `Events`; of demand 3 `Checks` and `Names`;
+-- of the readings `Temporals`, `Metadata`, `Classes`, `WorkedMaps`, `Profiles` and `Numbers`, all over `Tables`.
 pub mod Refusals
+pub mod Occurs
 pub mod Buffers
 pub mod Abi
 pub mod Walks
 pub mod Results
+pub mod Demand1
+pub mod Values
+pub mod Events
+pub mod Demand2
+pub mod Checks
+pub mod Names
+pub mod Demand3
+pub mod Tables
+pub mod Temporals
+pub mod Metadata
+pub mod Classes
+pub mod WorkedMaps
+pub mod Profiles
+pub mod Numbers
+pub mod Readings
+pub mod RowsEvents
+pub mod Port

@@ -1,51 +1,39 @@
--- The worked readings of document 01 that it marks P: one statement over one table, computed from the definitions. Behind it the same for rows events, request 1. Assumes nothing.
+-- The worked readings of document 01 that it marks P: one statement over one table, computed from the definitions. Behind it the same for
+-- rows events, request 1, and the other tables that hold the definitions against the paper's own numbers. `readings` in
+-- proofs/Readings.antt proves all of it. Assumes nothing.
 use Prim.Native.Nat.{ℕ}
 use mathlib.Core.Bool.{Bool, true, false}
 use mathlib.Core.List.{List, [], _∷_}
-use mathlib.Core.Path.{_≡_, refl}
+use mathlib.Core.Path.{_≡_}
 use lib.IntN.{negsuc}
 use lib.ListN.{length}
 use Rattle.wire.specs.Outcome.{Outcome, ok, refused, refuse, after}
-use Rattle.wire.specs.Number.{leValue, leBytes}
-use Rattle.wire.specs.Packed.{readPacked, formOf, longForm, packedBytes}
-use Rattle.wire.specs.Parts.{part, within}
+use Rattle.wire.specs.Packed.{readPacked, packedBytes}
+use Rattle.wire.specs.Parts.{part}
 use Rattle.temporal.specs.declared.kind.Kind.{Kind}
 use Rattle.temporal.specs.declared.kind.Kind.the-variants.{Datetime2, Time2}
 use Rattle.temporal.specs.declared.parts.Temporal.{Temporal}
 use Rattle.temporal.specs.declared.parts.Temporal.the-variants.{At, Lasts}
-use Rattle.temporal.specs.Ranges.{clockFault, dayFault}
 use Rattle.temporal.specs.Reading.{readTemporal}
 use Rattle.value.specs.declared.shape.Shape.the-variants.{Counted}
-use Rattle.value.specs.Types.{familyOf, isKnown, metadataBytes, realType, isNumeric}
-use Rattle.value.specs.Columns.{charLength, shapeOf, leftoverBytes, decimalBytes, shapeIn, isTaken}
-use Rattle.value.specs.Classes.{hasSignBit, isCharacter, hasCharset, isEnumOrSet}
+use Rattle.value.specs.Columns.{charLength, shapeOf}
 use Rattle.value.specs.declared.classes.Dialect.the-variants.{Document}
-use Rattle.wire.specs.Bits.{digit, bitLsb0, bitMsb0}
-use Rattle.table_map.specs.Parts.{shortPart, longPart}
-use Rattle.table_map.specs.Events.{readNames, readColumns, readEvent}
-use Rattle.table_map.specs.Lists.{step, walkSteps, pairItem, strings, groupItem}
-use Rattle.table_map.specs.Fields.{signBits, countSignBits, contentsHold, cutField, judgeField, fieldItem, fieldStep}
-use Rattle.record.specs.Entries.{entryBytes, flagsHold, charsetHolds, entryHolds, entryOf}
-use Rattle.record.specs.Records.{headBytes, entriesBytes, recordBytes, entryIn, entriesHold, headHolds, recordValid, readRecord}
-use Rattle.map_check.specs.Columns.{metaByte, declared, isReal, isAccepted, takeColumn, takeColumns}
-use Rattle.map_check.specs.Ranks.{ranksAfter, ranksFrom}
-use Rattle.map_check.specs.Contents.{every, listHolds, exactly, isCharset, integerHolds, pairsHold, pairsWhole, defaultHolds, keyItem, contentsFull}
-use Rattle.map_check.specs.Fields.{stood, rivalOf, standsGiven, keepSteps, firstOf}
-use Rattle.map_check.specs.Keys.{withPlace, keysOnce, keysHold}
-use Rattle.map_check.specs.Profile.{pairOr, charsetBy, charsetFor, flagsOf, entriesFrom}
-use Rattle.map_check.specs.Check.{fewEnough, checkEvent, checkMap}
-use Rattle.wire.specs.Signed.{signedOf}
-use Rattle.value.specs.Shapes.{need, decode, fault}
-use Rattle.value.specs.Reading.{taken, cut, judged, readDatum}
-use Rattle.image.specs.Present.{countBits, shapeAt, presentFrom}
-use Rattle.image.specs.Split.{slots, slotsAt, headOf, firstCursor, slotsLeft}
-use Rattle.image.specs.Walk.{readSlot, readSlots, walkFrom, walk as walkImage}
-use Rattle.value.specs.Data.{Datum, int, uint, when, bytes as raw}
+use Rattle.value.specs.Data.{Datum, null, int, uint, when}
+use Rattle.record.specs.Records.{recordBytes}
+use Rattle.map_check.specs.Check.{checkMap}
+use Rattle.image.specs.Walk.{walk as walkImage}
 use Rattle.rows_event.specs.declared.parts.Extra.the-variants.{Absent, Data}
 use Rattle.rows_event.specs.declared.parts.Second.the-variants.{Absent as Absent₁, Bits}
 use Rattle.rows_event.specs.declared.event.Rows.{Rows}
 use Rattle.rows_event.specs.Events.{readRows}
-use Rattle.rows_event.specs.Images.{Met, met, walkSteps as imageSteps, imagesOf}
+use Rattle.rows_event.specs.Images.{Met, imagesOf}
+use Rattle.promises.specs.Tables.{Each, both, column, worked, workedEvent, workedImage, workedAnswers}
+use Rattle.promises.specs.Temporals.{Temporals}
+use Rattle.promises.specs.Metadata.{Metadata}
+use Rattle.promises.specs.Classes.{Classes}
+use Rattle.promises.specs.WorkedMaps.{WorkedMaps}
+use Rattle.promises.specs.Profiles.{Profiles}
+use Rattle.promises.specs.Numbers.{Numbers}
 
 -- a reading: what is read, and the bytes that say it
 pub data Reading : Type 0 where
@@ -63,29 +51,15 @@ toEnd bytes (refused w) = refused w
 -- what the paper means by it
 abbrev pub Holds : Reading → Type 0
 -- the number is written as these bytes, and they are read as it, to their end
-Holds (packed number bytes) = (packedBytes number ≡ bytes) × (readPacked bytes 0 ≡ ok (number, length bytes))
+Holds (packed number bytes) = both (packedBytes number) (readPacked bytes 0) ≡ both bytes (ok (number, length bytes))
 -- these bytes of a column of this kind are read as the temporal, to their end, or refused
 Holds (temporal kind bytes answer) = readTemporal kind 0 bytes 0 ≡ toEnd bytes answer
 -- a CHAR column with this metadata has this declared length, and its values so many length bytes
-Holds (char m0 m1 declared lengthBytes) = (charLength m0 m1 ≡ declared) × (shapeOf (record { kind = 254; m0 = m0; m1 = m1; unsigned = false }) ≡ Counted lengthBytes)
+Holds (char m0 m1 declared lengthBytes) = both (charLength m0 m1) (shapeOf (column 254 m0 m1)) ≡ both declared (Counted lengthBytes)
 -- the check of this event (post-header length 8), to document 01's letter, gives this record
 Holds (event bytes profile) = after (checkMap Document bytes 8) (λ es. ok (recordBytes es)) ≡ ok profile
 -- under this record and these presence bits the walk over this image gives these answers, and so many bytes used
 Holds (image profile presence im answers used) = walkImage profile presence im ≡ record { answers = answers; how = ok used }
-
-abbrev pub Each : {A : Type 0} → (A → Type 0) → List A → Type 0
-Each P [] = Unit {0}
-Each P (a ∷ l) = P a × Each P l
-
--- document 01's record, an image under it, and its values: -2, "ab", 200
-abbrev pub worked : List ℕ
-worked = 0x18 ∷ 0x00 ∷ 0x01 ∷ 0x00 ∷ 0x03 ∷ 0x00 ∷ 0x03 ∷ 0x0c ∷ 0x00 ∷ 0x00 ∷ 0x00 ∷ 0x00 ∷ 0x0f ∷ 0x0a ∷ 0x14 ∷ 0x00 ∷ 0x00 ∷ 0x00 ∷ 0x01 ∷ 0x0d ∷ 0x00 ∷ 0x00 ∷ 0x00 ∷ 0x00 ∷ []
-
-abbrev pub workedImage : List ℕ
-workedImage = 0xf8 ∷ 0xfe ∷ 0xff ∷ 0xff ∷ 0xff ∷ 0x02 ∷ 0x61 ∷ 0x62 ∷ 0xc8 ∷ []
-
-abbrev pub workedAnswers : List (ℕ × Datum)
-workedAnswers = (0, int (negsuc 1)) ∷ (1, raw (0x61 ∷ 0x62 ∷ [])) ∷ (2, uint 200) ∷ []
 
 unfoldable pub table : List Reading
 table =
@@ -104,15 +78,44 @@ table =
     (ok (At record { year = 2000; month = 1; day = 1; hour = 0; minute = 0; second = 0; micros = 0 }))
     ∷ char 0xfe 0xff 255 1
     ∷ char 0xee 0x00 256 2
-    ∷ event
-    (0x2a ∷ 0x00 ∷ 0x00 ∷ 0x00 ∷ 0x00 ∷ 0x00 ∷ 0x01 ∷ 0x00 ∷ 0x01 ∷ 0x74 ∷ 0x00 ∷ 0x01 ∷ 0x72 ∷ 0x00 ∷ 0x03 ∷ 0x03 ∷ 0x0f ∷ 0x01 ∷ 0x02 ∷ 0x14 ∷ 0x00 ∷ 0x02 ∷ 0x01 ∷ 0x01 ∷ 0x40 ∷ [])
-    worked
+    ∷ event workedEvent worked
     ∷ image worked (0x07 ∷ []) workedImage workedAnswers 9
     ∷ []
 
-pub readings : Each Holds table
-unfolding table packedBytes leBytes readPacked formOf longForm leValue readTemporal clockFault dayFault shapeOf digit bitLsb0 bitMsb0 familyOf isKnown metadataBytes realType leftoverBytes decimalBytes shapeIn isTaken isNumeric hasSignBit isCharacter hasCharset isEnumOrSet within shortPart longPart readNames readColumns readEvent step walkSteps pairItem strings groupItem signBits countSignBits contentsHold cutField judgeField fieldItem fieldStep entryBytes headBytes entriesBytes recordBytes metaByte declared isReal isAccepted takeColumn takeColumns ranksAfter ranksFrom every listHolds exactly isCharset integerHolds pairsHold pairsWhole defaultHolds keyItem contentsFull stood rivalOf standsGiven keepSteps firstOf withPlace keysOnce keysHold pairOr charsetBy charsetFor flagsOf entriesFrom fewEnough checkEvent checkMap signedOf need decode fault taken cut judged readDatum flagsHold charsetHolds entryHolds entryOf entryIn entriesHold headHolds recordValid readRecord countBits shapeAt presentFrom slots slotsAt headOf firstCursor slotsLeft readSlot readSlots walkFrom walkImage
-readings = ((refl, refl), ((refl, refl), ((refl, refl), (refl, (refl, (refl, (refl, ((refl, refl), ((refl, refl), (refl, (refl, tt)))))))))))
+-- packed integers: the least and the greatest of every form, and what is no such form
+unfoldable pub packedTable : List Reading
+packedTable =
+    packed 0 (0x00 ∷ [])
+    ∷ packed 65535 (0xfc ∷ 0xff ∷ 0xff ∷ [])
+    ∷ packed 16777215 (0xfd ∷ 0xff ∷ 0xff ∷ 0xff ∷ [])
+    ∷ packed 16777216 (0xfe ∷ 0x00 ∷ 0x00 ∷ 0x00 ∷ 0x01 ∷ 0x00 ∷ 0x00 ∷ 0x00 ∷ 0x00 ∷ [])
+    ∷ packed 18446744073709551615 (0xfe ∷ 0xff ∷ 0xff ∷ 0xff ∷ 0xff ∷ 0xff ∷ 0xff ∷ 0xff ∷ 0xff ∷ [])
+    ∷ []
+
+-- bytes that the shortest form would not be, and what is read of them
+abbrev pub ReadAs : List ℕ × Outcome (ℕ × ℕ) → Type 0
+ReadAs x = readPacked (x .0) 0 ≡ x .1
+
+unfoldable pub otherForms : List (List ℕ × Outcome (ℕ × ℕ))
+otherForms =
+    (0xfc ∷ 0x05 ∷ 0x00 ∷ [], ok (5, 3))
+    ∷ (0xfd ∷ 0x05 ∷ 0x00 ∷ 0x00 ∷ [], ok (5, 4))
+    ∷ (0xfe ∷ 0x05 ∷ 0x00 ∷ 0x00 ∷ 0x00 ∷ 0x00 ∷ 0x00 ∷ 0x00 ∷ 0x00 ∷ [], ok (5, 9))
+    ∷ (0xfb ∷ [], refuse 2 0)
+    ∷ (0xff ∷ [], refuse 2 0)
+    ∷ (0xfc ∷ 0x05 ∷ [], refuse 1 0)
+    ∷ ([], refuse 1 0)
+    ∷ []
+
+-- images under document 01's record with columns absent, which have no null bit; and with none present
+unfoldable pub imageTable : List Reading
+imageTable =
+    -- the second column absent and the third NULL: its null bit is the second
+    image worked (0x05 ∷ []) (0xfe ∷ 0xfe ∷ 0xff ∷ 0xff ∷ 0xff ∷ []) ((0, int (negsuc 1)) ∷ (2, null) ∷ []) 5
+    -- the first absent, and spare bits of presence set
+    ∷ image worked (0xfe ∷ []) (0x01 ∷ 0xc8 ∷ []) ((1, null) ∷ (2, uint 200) ∷ []) 2
+    ∷ image worked (0xf8 ∷ []) [] [] 0
+    ∷ []
 
 -- ---- rows events
 -- a reading: the event's code, the record and the table id of its map, and its body; its parts and its images
@@ -126,11 +129,14 @@ pub record RowsReading : Type 0 where
 
 -- it has these parts, and the walk over its images gives these, to the end
 abbrev pub RowsHold : RowsReading → Type 0
-RowsHold x = (readRows (x .code) (x .profile) (x .id) (x .body) ≡ ok (x .parts)) × (imagesOf (x .profile) (x .parts) (x .body) ≡ record { images = x .images; how = ok tt })
+RowsHold x =
+    both (readRows (x .code) (x .profile) (x .id) (x .body)) (imagesOf (x .profile) (x .parts) (x .body))
+    ≡ both (ok (x .parts)) (record { images = x .images; how = ok tt })
 
 -- the answers of an image whose one column is a time of so many seconds and microseconds
 abbrev pub lasts : Bool → ℕ → ℕ → List (ℕ × Datum)
-lasts negative seconds micros = (0, when (Lasts record { negative = negative; hours = 0; minutes = 0; seconds = seconds; micros = micros })) ∷ []
+lasts negative seconds micros =
+    (0, when (Lasts record { negative = negative; hours = 0; minutes = 0; seconds = seconds; micros = micros })) ∷ []
 
 unfoldable pub rowsTable : List RowsReading
 rowsTable =
@@ -143,21 +149,23 @@ rowsTable =
       parts = record { flags = 1; extra = Absent; before = part 9 1; after = Absent₁; images = 10 };
       images = record { second = false; bytes = workedImage; answers = workedAnswers } ∷ [];
     }
-    -- the second: the same row, behind extra data of no bytes
+    -- the second: the same row, behind two bytes of extra data
     ∷ record {
       code = 30;
       profile = worked;
       id = 42;
-      body = 0x2a ∷ 0x00 ∷ 0x00 ∷ 0x00 ∷ 0x00 ∷ 0x00 ∷ 0x01 ∷ 0x00 ∷ 0x02 ∷ 0x00 ∷ 0x03 ∷ 0x07 ∷ workedImage;
-      parts = record { flags = 1; extra = Data (part 10 0); before = part 11 1; after = Absent₁; images = 12 };
+      body = 0x2a ∷ 0x00 ∷ 0x00 ∷ 0x00 ∷ 0x00 ∷ 0x00 ∷ 0x01 ∷ 0x00 ∷ 0x04 ∷ 0x00 ∷ 0xaa ∷ 0xbb ∷ 0x03 ∷ 0x07 ∷ workedImage;
+      parts = record { flags = 1; extra = Data (part 10 2); before = part 13 1; after = Absent₁; images = 14 };
       images = record { second = false; bytes = workedImage; answers = workedAnswers } ∷ [];
     }
-    -- an update of one TIME2(2) column, from 00:00:00 to -00:00:01.500000
+    -- an update of one TIME2(2) column, from 00:00:00 to -00:00:01.500000, behind extra data of no bytes
     ∷ record {
       code = 31;
       profile = 0x0c ∷ 0x00 ∷ 0x01 ∷ 0x00 ∷ 0x01 ∷ 0x00 ∷ 0x13 ∷ 0x0a ∷ 0x02 ∷ 0x00 ∷ 0x00 ∷ 0x00 ∷ [];
       id = 42;
-      body = 0x2a ∷ 0x00 ∷ 0x00 ∷ 0x00 ∷ 0x00 ∷ 0x00 ∷ 0x01 ∷ 0x00 ∷ 0x02 ∷ 0x00 ∷ 0x01 ∷ 0x01 ∷ 0x01 ∷ 0x00 ∷ 0x80 ∷ 0x00 ∷ 0x00 ∷ 0x00 ∷ 0x00 ∷ 0x7f ∷ 0xff ∷ 0xfe ∷ 0xce ∷ [];
+      body =
+          0x2a ∷ 0x00 ∷ 0x00 ∷ 0x00 ∷ 0x00 ∷ 0x00 ∷ 0x01 ∷ 0x00 ∷ 0x02 ∷ 0x00 ∷ 0x01 ∷ 0x01 ∷ 0x01 ∷ 0x00 ∷ 0x80 ∷ 0x00 ∷ 0x00 ∷ 0x00
+          ∷ 0x00 ∷ 0x7f ∷ 0xff ∷ 0xfe ∷ 0xce ∷ [];
       parts = record { flags = 1; extra = Data (part 10 0); before = part 11 1; after = Bits (part 12 1); images = 13 };
       images =
           record { second = false; bytes = 0x00 ∷ 0x80 ∷ 0x00 ∷ 0x00 ∷ 0x00 ∷ []; answers = lasts false 0 0 }
@@ -166,6 +174,70 @@ rowsTable =
     }
     ∷ []
 
-pub rows-read : Each RowsHold rowsTable
-unfolding rowsTable clockFault readRows met imageSteps
-rows-read = ((refl, refl), ((refl, refl), ((refl, refl), tt)))
+-- refused: the code, the table id of the map and the event's body, under document 01's record; the number, and the place
+pub record RowsRefusal : Type 0 where
+  pub code : ℕ
+  pub id : ℕ
+  pub body : List ℕ
+  pub number : ℕ
+  pub place : ℕ
+
+abbrev pub rowsRefusal : ℕ → ℕ → List ℕ → ℕ → ℕ → RowsRefusal
+rowsRefusal code id body number place = record { code = code; id = id; body = body; number = number; place = place }
+
+abbrev pub RowsRefused : RowsRefusal → Type 0
+RowsRefused x = readRows (x .code) worked (x .id) (x .body) ≡ refuse (x .number) (x .place)
+
+-- table 42, flags 1, and what is behind them
+abbrev pub rowsBody : List ℕ → List ℕ
+rowsBody rest = 0x2a ∷ 0x00 ∷ 0x00 ∷ 0x00 ∷ 0x00 ∷ 0x00 ∷ 0x01 ∷ 0x00 ∷ rest
+
+unfoldable pub rowsRefusals : List RowsRefusal
+rowsRefusals =
+    -- another code, before anything is read
+    rowsRefusal 26 42 [] 16 0
+    -- parts cut short: id, flags, the extra data and its length, the count, the presence bits, the second set
+    ∷ rowsRefusal 23 42 (0x2a ∷ 0x00 ∷ 0x00 ∷ 0x00 ∷ 0x00 ∷ []) 1 0
+    ∷ rowsRefusal 23 42 (0x2a ∷ 0x00 ∷ 0x00 ∷ 0x00 ∷ 0x00 ∷ 0x00 ∷ 0x01 ∷ []) 1 6
+    ∷ rowsRefusal 30 42 (rowsBody (0x02 ∷ [])) 1 8
+    ∷ rowsRefusal 30 42 (rowsBody (0x03 ∷ 0x00 ∷ [])) 1 8
+    ∷ rowsRefusal 30 42 (rowsBody (0x03 ∷ 0x00 ∷ 0xaa ∷ [])) 1 11
+    ∷ rowsRefusal 23 42 (rowsBody (0x03 ∷ [])) 1 9
+    ∷ rowsRefusal 24 42 (rowsBody (0x03 ∷ 0x07 ∷ [])) 1 10
+    -- a count that is no packed integer, and an extra length of 1
+    ∷ rowsRefusal 25 42 (rowsBody (0xfb ∷ [])) 2 8
+    ∷ rowsRefusal 32 42 (rowsBody (0x01 ∷ 0x00 ∷ [])) 15 8
+    -- another table, another count, and both; a cut event is told as cut
+    ∷ rowsRefusal 23 43 (rowsBody (0x03 ∷ 0x07 ∷ [])) 16 0
+    ∷ rowsRefusal 30 42 (rowsBody (0x02 ∷ 0x00 ∷ 0x04 ∷ 0x07 ∷ [])) 16 10
+    ∷ rowsRefusal 23 43 (rowsBody (0x04 ∷ 0x07 ∷ [])) 16 0
+    ∷ rowsRefusal 23 43 (rowsBody (0x04 ∷ [])) 1 9
+    ∷ []
+
+-- parts of an event with one set, which is at 9 and has no column, and what is behind it at 10
+abbrev pub noColumns : Rows
+noColumns = record { flags = 1; extra = Absent; before = part 9 1; after = Absent₁; images = 10 }
+
+-- ---- all tables
+pub record Readings : Type 0 where
+  -- the readings that document 01 marks P
+  pub marked : Each Holds table
+  -- packed integers at the ends of every form
+  pub packings : Each Holds packedTable
+  pub other-forms : Each ReadAs otherForms
+  -- images with columns absent
+  pub images : Each Holds imageTable
+  -- rows events, request 1
+  pub rows-read : Each RowsHold rowsTable
+  pub rows-refused : Each RowsRefused rowsRefusals
+  -- where no set has a column, nothing is covered by no image, and any byte is left over: 9 at 0. Spare bits are no columns
+  pub none-left : imagesOf worked noColumns (rowsBody (0x03 ∷ 0xf8 ∷ [])) ≡ record { images = []; how = ok tt }
+  pub left-over : imagesOf worked noColumns (rowsBody (0x03 ∷ 0xf8 ∷ 0x00 ∷ [])) ≡ record { images = []; how = refuse 9 0 }
+  -- every type's values; metadata and classes over all type bytes; maps with every field, and refused by every rule; valid records byte by
+  -- byte; the numbers of the calls for C
+  pub temporals : Temporals
+  pub metadata : Metadata
+  pub classes : Classes
+  pub maps : WorkedMaps
+  pub profiles : Profiles
+  pub numbers : Numbers

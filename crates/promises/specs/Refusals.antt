@@ -2,19 +2,21 @@
 -- then hold what they held." That every call ends is no statement here: the checker accepts no function that might not, and no public one has a condition on its input. Stated is, for every
 -- public call that can refuse, which refusals it gives and at which places; that their numbers are those of the table; and that a refusal leaves the buffer. A call stands here by the
 -- definition that its contract equals, whatever it is lent. `refusals` in proofs/Refusals.antt proves all of it. Assumes nothing.
-use Prim.Native.Nat.{ℕ, _+_, _≤_, _<_}
+use Prim.Native.Nat.{ℕ, suc, _+_, _≤_, _<_}
 use mathlib.Core.Path.{_≡_}
 use mathlib.Core.Bool.{Bool, true, false, _&&_, _||_}
 use mathlib.Core.Logic.{_⊎_}
-use mathlib.Core.List.{List, [], _∷_}
+use mathlib.Core.List.{List, [], _∷_, _++_}
 use lib.ListN.{length}
 use lib.Dec.{eqb}
 use Rattle.wire.specs.declared.refusal.Refusal.{Refusal}
-use Rattle.wire.specs.Outcome.{Outcome, refused, why}
+use Rattle.wire.specs.Bits.{bytesFor}
+use Rattle.wire.specs.Outcome.{Outcome, ok, refused, refuse, why}
 use Rattle.wire.specs.Packed.{readFixed, readPacked}
 use Rattle.wire.specs.Stored.{store, answerOf, leftOf}
 use Rattle.wire.specs.declared.part.Part.{Part}
 use Rattle.wire.specs.Parts.{within}
+use Rattle.wire.specs.Layouts.{Layout, CutShort, NotPacked}
 use Rattle.temporal.specs.declared.kind.Kind.{Kind}
 use Rattle.temporal.specs.declared.parts.Temporal.{Temporal}
 use Rattle.temporal.specs.Reading.{readTemporal, writeTemporal}
@@ -23,48 +25,54 @@ use Rattle.value.specs.declared.classes.Dialect.{Dialect}
 use Rattle.value.specs.declared.datum.Value.{Value}
 use Rattle.value.specs.declared.shape.Shape.the-variants.{NotTaken}
 use Rattle.value.specs.Columns.{shapeOf}
-use Rattle.value.specs.Reading.{readValue}
+use Rattle.value.specs.Reading.{readValue, datumOf}
 use Rattle.value.specs.Storing.{writeValue, sizeOf}
 use Rattle.value_parts.specs.Parts.{valueOf}
+use Rattle.table_map.specs.declared.event.Event.{Event}
 use Rattle.table_map.specs.declared.field.Fields.{Fields}
 use Rattle.table_map.specs.Events.{readEvent, partIn}
 use Rattle.table_map.specs.Writes.{Parts, writeEvent, eventSize}
 use Rattle.table_map.specs.Lists.{step, integerItem, pairItem, stringItem, groupItem, defaultCharset}
 use Rattle.table_map.specs.Fields.{cutField, judgeField, fieldStep}
-use Rattle.record.specs.Records.{countOf, readRecord}
+use Rattle.table_map.specs.Layouts.{eventLayout, pairLayout, stringsLayout, groupLayout}
+use Rattle.record.specs.Records.{countOf, recordValid, readRecord}
 use Rattle.map_check.specs.declared.rank.Place.{Place}
 use Rattle.map_check.specs.Check.{check}
-use Rattle.map_check.specs.Names.{listOf, columnName}
+use Rattle.map_check.specs.Names.{listOf, columnName, namesField}
+use Rattle.map_check.specs.Places.{TypeNotTaken, MetadataWrong, FieldCut, FieldNotPacked, FieldUnknown, FieldWrong, KeyRepeated}
 use Rattle.image.specs.declared.cursor.Cursor.{Cursor}
-use Rattle.image.specs.Split.{headOf, firstCursor, stepFrom}
+use Rattle.image.specs.Present.{countBits}
+use Rattle.image.specs.Split.{Slot, slotsAt, headOf, firstCursor, stepFrom}
 use Rattle.image.specs.Walk.{walk}
+use Rattle.image.specs.Rows.{isNull}
 use Rattle.image.specs.Puts.{startImage, putFrom}
 use Rattle.rows_event.specs.declared.event.Rows.{Rows}
 use Rattle.rows_event.specs.declared.images.Images.{Images}
 use Rattle.rows_event.specs.Events.{readRows}
+use Rattle.rows_event.specs.Layouts.{rowsLayout, CountUnlike}
 use Rattle.rows_event.specs.Images.{nextImage}
 
 infix 70 _at_
 infix 70 _below_
-infix 70 _upTo_
+infix 70 _wherever_
 -- ---- how refusals are listed
--- a number at just this place; at a place below this; at a place of at most this
-pub data Line : Type 0 where
+-- a number at just this place; at a place below this; at a place of which this holds
+pub data Line : Type 1 where
   _at_ : ℕ → ℕ → Line
   _below_ : ℕ → ℕ → Line
-  _upTo_ : ℕ → ℕ → Line
+  _wherever_ : ℕ → (ℕ → Type 0) → Line
 
 -- the refusal is one of those listed
-pub data OneOf : List Line → Refusal → Type 0 where
+pub data OneOf : List Line → Refusal → Type 1 where
   just : {n p : ℕ} {ls : List Line} → OneOf (n at p ∷ ls) (why n p)
   under : {n p q : ℕ} {ls : List Line} → p < q → OneOf (n below q ∷ ls) (why n p)
-  most : {n p q : ℕ} {ls : List Line} → p ≤ q → OneOf (n upTo q ∷ ls) (why n p)
+  such : {n p : ℕ} {P : ℕ → Type 0} {ls : List Line} → P p → OneOf (n wherever P ∷ ls) (why n p)
   later : {l : Line} {ls : List Line} {w : Refusal} → OneOf ls w → OneOf (l ∷ ls) w
 
 abbrev pub numberOf : Line → ℕ
 numberOf (n at p) = n
 numberOf (n below p) = n
-numberOf (n upTo p) = n
+numberOf (n wherever P) = n
 
 -- the numbers of document 01's table, and those that document 02 adds
 abbrev pub refusalNumbers : List ℕ
@@ -81,9 +89,63 @@ inTable [] = true
 inTable (l ∷ ls) = isAmong (numberOf l) refusalNumbers && inTable ls
 
 -- where the answer is a refusal, it is one of those listed
-pub record Only {A : Type 0} (answer : Outcome A) (ls : List Line) : Type 0 where
+pub record Only {A : Type 0} (answer : Outcome A) (ls : List Line) : Type 1 where
   pub table : inTable ls ≡ true
   pub listed : (w : Refusal) → answer ≡ refused w → OneOf ls w
+
+-- ---- lists that a call of `feed_abi` shares with the call that it stands over
+-- of the bytes s, laid out from p on: 1 at the first byte of the first part that they end in, or of its length; 2 at a first byte 251 or
+-- 255 of a packed integer
+abbrev pub laidOut : List ℕ → Layout → ℕ → List Line
+laidOut s l p = 1 wherever CutShort s l p ∷ 2 wherever NotPacked s l p ∷ []
+
+abbrev pub eventLines : List ℕ → ℕ → List Line
+eventLines event postHeader = laidOut event (eventLayout postHeader) 0
+
+-- the type bytes and the metadata of an event, none where it is refused
+abbrev pub typesIn : List ℕ → ℕ → List ℕ
+typesIn event postHeader = partIn (λ e. e .types) event (readEvent event postHeader)
+
+abbrev pub metadataIn : List ℕ → ℕ → List ℕ
+metadataIn event postHeader = partIn (λ e. e .metadata) event (readEvent event postHeader)
+
+-- of the check: those of the event; 3; then those of its columns, its optional fields and its keys; and room
+abbrev pub checkLines : List ℕ → ℕ → List Line
+checkLines event postHeader =
+    eventLines event postHeader
+    ++ (3 at 0
+    ∷ 4 wherever TypeNotTaken (typesIn event postHeader) (metadataIn event postHeader)
+    ∷ 5 wherever MetadataWrong (typesIn event postHeader) (metadataIn event postHeader)
+    ∷ 1 wherever FieldCut event postHeader
+    ∷ 2 wherever FieldNotPacked event postHeader
+    ∷ 6 wherever FieldUnknown event postHeader
+    ∷ 7 wherever FieldWrong event postHeader
+    ∷ 7 wherever KeyRepeated event postHeader
+    ∷ 8 at 0
+    ∷ [])
+
+-- of the names field: those of the event, and of its optional fields up to the names
+abbrev pub namesLines : List ℕ → ℕ → List Line
+namesLines event postHeader =
+    eventLines event postHeader
+    ++ (1 wherever FieldCut event postHeader
+    ∷ 2 wherever FieldNotPacked event postHeader
+    ∷ 6 wherever FieldUnknown event postHeader
+    ∷ 7 wherever FieldWrong event postHeader
+    ∷ [])
+
+-- of a column's name in a list: 14 at the column; 1 and 2 at the first of the strings up to its own that fails, which starts within the
+-- list
+abbrev pub nameLines : List ℕ → ℕ → List Line
+nameLines list column =
+    14 at column
+    ∷ 1 wherever (λ p. (p < length list) × CutShort list (stringsLayout (suc column)) 0 p)
+    ∷ 2 wherever NotPacked list (stringsLayout (suc column)) 0
+    ∷ []
+
+-- of a rows event under a record r: 15 at the length of the extra data; 16 at 0 for the code and the table id, and at the column count
+abbrev pub rowsLines : ℕ → List ℕ → List ℕ → List Line
+rowsLines code r s = 11 at 0 ∷ 16 at 0 ∷ 15 at 8 ∷ 16 wherever CountUnlike s (rowsLayout code) (countOf r) ∷ laidOut s (rowsLayout code) 0
 
 -- ---- demand 1
 pub record EveryCall : Type 1 where
@@ -117,8 +179,8 @@ pub record EveryCall : Type 1 where
   pub value-of : (kind : ℕ) (parts : List ℕ) → Only (valueOf kind parts) (13 at 0 ∷ [])
   -- ---- `table_map`. `Fields::new` and `flag` refuse nothing; `database_name`, `table_name`, `column_types`, `column_metadata`, `nullable_bits` and `optional_metadata` hand back an
   -- empty part where the event is refused
-  -- `read_event`: an offset of the event, or its end
-  pub read-event : (event : List ℕ) (postHeader : ℕ) → Only (readEvent event postHeader) (1 upTo length event ∷ 2 upTo length event ∷ [])
+  -- `read_event`
+  pub read-event : (event : List ℕ) (postHeader : ℕ) → Only (readEvent event postHeader) (eventLines event postHeader)
   -- `write_event`, `event_size`
   pub write-event : (p : Parts) (buf : List ℕ) → Only (writeEvent p buf) (13 at 0 ∷ 8 at 0 ∷ [])
   pub event-size : (p : Parts) → Only (eventSize p) (13 at 0 ∷ 8 at 0 ∷ [])
@@ -131,22 +193,29 @@ pub record EveryCall : Type 1 where
   -- `next` of `Integers` and `Strings`: where the cursor stands
   pub next-integer : (s : List ℕ) (o : ℕ) → Only (step integerItem s o) (1 at o ∷ 2 at o ∷ [])
   pub next-string : (s : List ℕ) (o : ℕ) → Only (step stringItem s o) (1 at o ∷ 2 at o ∷ [])
-  -- `next` of `Pairs` and `Groups`: where an integer or a string of the item starts, or would start at the end of the bytes; a cursor past them is 1 where it stands
-  pub next-pair : (s : List ℕ) (o : ℕ) → Only (step pairItem s o) (1 at o ∷ 1 upTo length s ∷ 2 upTo length s ∷ [])
-  pub next-group : (s : List ℕ) (o : ℕ) → Only (step groupItem s o) (1 at o ∷ 1 upTo length s ∷ 2 upTo length s ∷ [])
+  -- `next` of `Pairs` and `Groups`: the integer or string of the item that fails; past the bytes that is the first, where the cursor stands
+  pub next-pair : (s : List ℕ) (o : ℕ) → Only (step pairItem s o) (laidOut s pairLayout o)
+  pub next-group : (s : List ℕ) (o : ℕ) → Only (step groupItem s o) (laidOut s groupLayout o)
   -- `default_charset`: the start of the value
   pub default-charset : (value : List ℕ) → Only (defaultCharset value) (1 at 0 ∷ 2 at 0 ∷ [])
   -- ---- `record`. `entry_at`, `entry_in`, `entry_holds` and `column_of` refuse nothing
   -- `read_record`
   pub read-record : (r : List ℕ) → Only (readRecord r) (11 at 0 ∷ [])
-  -- ---- `map_check`. `name_part` and `names_part` hand back an empty part where there is a refusal
-  -- `check`: 1, 2, 6 and 7 at an offset of the event; 4 at a column, and 5 too, or at n for metadata left over, n being how many type bytes the event has
-  pub check-map : (d : Dialect) (event : List ℕ) (postHeader : ℕ) (buf : List ℕ) (n : ℕ) → n ≡ length (partIn (λ e. e .types) event (readEvent event postHeader))
-      → Only (check d event postHeader buf)
-      (1 upTo length event ∷ 2 upTo length event ∷ 3 at 0 ∷ 4 below n ∷ 5 upTo n ∷ 6 below length event ∷ 7 below length event ∷ 8 at 0 ∷ [])
+  -- ---- `map_check`. `name_part` hands back an empty part where there is a refusal
+  -- `check`: 1, 2, 6 and 7 at offsets of the event, 4 and 5 at columns
+  pub check-map : (d : Dialect) (event : List ℕ) (postHeader : ℕ) (buf : List ℕ)
+      → Only (check d event postHeader buf) (checkLines event postHeader)
+  -- and the first column that is not taken is told, in an event that was read and has at most 255; so metadata left over is 5 at n
+  pub type-told : (d : Dialect) (event : List ℕ) (postHeader : ℕ) (buf : List ℕ) (e : Event) (j : ℕ) → readEvent event postHeader ≡ ok e
+      → length (typesIn event postHeader) ≤ 255 → TypeNotTaken (typesIn event postHeader) (metadataIn event postHeader) j
+      → check d event postHeader buf ≡ refuse 4 j
+  pub metadata-told : (d : Dialect) (event : List ℕ) (postHeader : ℕ) (buf : List ℕ) (e : Event) (j : ℕ) → readEvent event postHeader ≡ ok e
+      → length (typesIn event postHeader) ≤ 255 → MetadataWrong (typesIn event postHeader) (metadataIn event postHeader) j
+      → check d event postHeader buf ≡ refuse 5 j
   -- `column_name`: the column asked, or an offset of the list that is looked at
-  pub column-name : (names operator : List ℕ) (c : Place)
-      → Only (columnName names operator c) (14 at c .0 ∷ 1 below length (listOf names operator) ∷ 2 below length (listOf names operator) ∷ [])
+  pub column-name : (names operator : List ℕ) (c : Place) → Only (columnName names operator c) (nameLines (listOf names operator) (c .0))
+  -- `names_field`: those of the event, and of its optional fields up to the names
+  pub names-field : (d : Dialect) (event : List ℕ) (postHeader : ℕ) → Only (namesField d event postHeader) (namesLines event postHeader)
   -- ---- `image`; r is the record, p the presence bits. `count_bits` and `first_set` refuse nothing
   -- `read_head`, `first_cursor`
   pub read-head : (r p : List ℕ) → Only (headOf r p) (11 at 0 ∷ 12 at 0 ∷ [])
@@ -154,6 +223,9 @@ pub record EveryCall : Type 1 where
   -- `Cursor::step`: 14 at the cursor's column; 9 at 0 in the null bits, at the cursor's column for an offset past the image, and else, as 10, at one of the record's columns
   pub step-image : (r p im : List ℕ) (c : Cursor)
       → Only (stepFrom r p im c) (11 at 0 ∷ 12 at 0 ∷ 14 at c .column ∷ 9 at 0 ∷ 9 at c .column ∷ 9 below countOf r ∷ 10 below countOf r ∷ [])
+  -- "an offset past the image, its null bits whole, 9 at that column"
+  pub past-told : (r p im : List ℕ) (c : Cursor) → recordValid r ≡ true → length p ≡ bytesFor (countOf r) → c .column ≤ countOf r
+      → bytesFor (countBits p (countOf r)) ≤ length im → length im < c .offset → stepFrom r p im c ≡ refuse 9 (c .column)
   -- `walk_end`: 9 at 0 in the null bits, and else, as 10, at one of the record's columns
   pub walk-end : (r p im : List ℕ) → Only (walk r p im .how) (11 at 0 ∷ 12 at 0 ∷ 9 at 0 ∷ 9 below countOf r ∷ 10 below countOf r ∷ [])
   -- `start`
@@ -161,10 +233,15 @@ pub record EveryCall : Type 1 where
   -- `Cursor::put`: 14 at the cursor's column, 13 at one of the record's columns
   pub put-value : (r p nulls : List ℕ) (c : Cursor) (lent : List ℕ) (v : Value) (buf : List ℕ)
       → Only (putFrom r p nulls c lent v buf) (11 at 0 ∷ 12 at 0 ∷ 14 at c .column ∷ 13 below countOf r ∷ 8 at 0 ∷ [])
+  -- "13 where value and bit disagree on it", at the first present column at or after the cursor's
+  pub null-told : (r p nulls : List ℕ) (c : Cursor) (i : Slot) (is : List Slot) (lent : List ℕ) (v : Value) (buf : List ℕ)
+      → recordValid r ≡ true
+      → length p ≡ bytesFor (countOf r) → length nulls ≡ bytesFor (countBits p (countOf r)) → c .column ≤ countOf r
+      → slotsAt r p nulls (c .column) ≡ i ∷ is
+      → (isNull (datumOf lent v) ≡ i .null → ⊥) → putFrom r p nulls c lent v buf ≡ refuse 13 (i .present .column)
   -- ---- `rows_event`
-  -- `read_rows`: 1 and 2 at an offset of the event, or at its end; 15 at the length of the extra data; 16 at 0 for the code and the table id, and at the column count
-  pub read-rows : (code : ℕ) (r : List ℕ) (id : ℕ) (s : List ℕ)
-      → Only (readRows code r id s) (11 at 0 ∷ 16 at 0 ∷ 1 upTo length s ∷ 2 upTo length s ∷ 15 at 8 ∷ 16 upTo length s ∷ [])
+  -- `read_rows`
+  pub read-rows : (code : ℕ) (r : List ℕ) (id : ℕ) (s : List ℕ) → Only (readRows code r id s) (rowsLines code r s)
   -- `Images::next`: those of `walk_end`
   pub next-image : (r : List ℕ) (w : Rows) (s : List ℕ) (c : Images) → Only (nextImage r w s c) (11 at 0 ∷ 12 at 0 ∷ 9 at 0 ∷ 9 below countOf r ∷ 10 below countOf r ∷ [])
   -- ---- all calls

@@ -12,7 +12,7 @@ use Rattle.table_map.specs.Events.{eventOf}
 use Rattle.table_map.specs.Lists.{integerOf, pairOf, stringOf, groupOf, charsetOf}
 use Rattle.table_map.specs.Fields.{fieldOf, fieldCutOf, judgedOf}
 use Rattle.record.specs.Records.{recordOf}
-use Rattle.map_check.specs.Names.{nameOf}
+use Rattle.map_check.specs.Names.{nameOf, namesOf}
 use Rattle.image.specs.Split.{told, firstTold, headTold}
 use Rattle.image.specs.Walk.{endTold}
 use Rattle.image.specs.Puts.{putTold}
@@ -53,8 +53,9 @@ pub record Results : Type 0 where
   pub charset : Apart charsetOf
   -- `read_record`
   pub columns : Apart recordOf
-  -- `column_name`
+  -- `column_name`, `names_field`
   pub name : Apart nameOf
+  pub names : Apart namesOf
   -- `read_head`, `first_cursor`, `Cursor::step`, `walk_end`, and `start` with `Cursor::put`
   pub head : Apart headTold
   pub first : Apart firstTold

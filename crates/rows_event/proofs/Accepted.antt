@@ -5,7 +5,7 @@ use mathlib.Core.Bool.{Bool, true, false, cond, _&&_, not, true≢false}
 use mathlib.Core.Logic.{_⊎_, inl, inr}
 use mathlib.Core.List.{List}
 use native.Mathlib.Omega.{arith}
-use borrow.Author.Tests.{eqb-true}
+use borrow.Author.Tests.{ltb-false, eqb-true}
 use lib.ListN.{length, drop}
 use lib.Dec.{ltb, eqb}
 use Rattle.wire.specs.declared.refusal.Refusal.{Refusal}
@@ -14,6 +14,7 @@ use Rattle.wire.specs.Outcome.{Outcome, ok, refused, why, refuse}
 use Rattle.wire.specs.Bits.{bytesFor}
 use Rattle.wire.specs.Packed.{readFixed, readPacked}
 use Rattle.wire.specs.Parts.{part, lentPart, within}
+use Rattle.wire.specs.Layouts.{Form as WireForm, integer, sized, Whole, all-bytes, all-sized, Layout, _then_, Starts, count as at-count, behind as behind-part}
 use Rattle.wire.proofs.Outcomes.{same-ok, same-refused, ok-not-refused, after-is-ok, after-refuses, test-is-ok, by-test}
 use Rattle.wire.specs.Number.{Bytes}
 use Rattle.wire.proofs.Inverse.{bytes-drop}
@@ -31,6 +32,7 @@ use Rattle.rows_event.specs.declared.parts.Parts.{Parts}
 use Rattle.rows_event.specs.declared.event.Rows.{Rows}
 use Rattle.rows_event.specs.declared.images.Images.{Images}
 use Rattle.rows_event.specs.Events.{formOf, extraData, extraAt, secondSet, secondAt, setsAt, readSets, readParts, rowsOf, fitting, readRows}
+use Rattle.rows_event.specs.Layouts.{setsLayout, formLayout}
 use Rattle.rows_event.specs.Images.{isThere, inPairs, secondBits, setOf, isEmpty, Told, image, end, isSecond, behind, nextImage}
 use Rattle.rows_event.proofs.Says.{Fits, cursor-set}
 
@@ -80,27 +82,52 @@ parts-sized f s p e =
     let z = subst (λ (j : ℕ). Sized s (bytesFor j) (t .0 .before) (t .0 .after) (t .0 .images)) (sym (k .0)) (k .1) in
     subst (λ (y : Parts). Sized s (bytesFor (y .sets .count)) (y .sets .before) (y .sets .after) (y .sets .images)) (same-ok (t .2)) z
 
--- ---- places within the event
--- where the extra data ends: within the event
-pub extra-ends : (has : Bool) (s : List ℕ) (x : Extra × ℕ) → 8 ≤ length s → extraAt has s 8 ≡ ok x → x .1 ≤ length s
+-- ---- where the count stands: behind the extra data, if there is such
+extra-whole : (s : List ℕ) (x : Extra × ℕ) → extraAt true s 8 ≡ ok x → Whole s sized 8 (x .1)
 unfolding extraAt extraData
-extra-ends true s x l e =
+extra-whole s x e =
     let n = after-is-ok (readFixed 2 s 8) _ x e in
-    by-test (ltb (n .0 .0) 2) _ _ (ok x) (n .2) (λ u f. absurd (ok-not-refused (sym f)))
-    (λ u f. let w = after-is-ok (within s 8 (n .0 .0) 8) _ x f in
-    subst (λ (y : Extra × ℕ). y .1 ≤ length s) (same-ok (w .2)) (within-ok s 8 (n .0 .0) 8 (w .0) (w .1) .1))
-extra-ends false s x l e = subst (λ (y : Extra × ℕ). y .1 ≤ length s) (same-ok e) l
+    let f = fixed-ok 2 s 8 (n .0 .0) (n .0 .1) (n .1) in
+    by-test (ltb (n .0 .0) 2) _ _ (ok x) (n .2) (λ u g. absurd (ok-not-refused (sym g)))
+    (λ u g.
+    let l = ltb-false (n .0 .0) 2 u in
+    let w = after-is-ok (within s 8 (n .0 .0) 8) _ x g in
+    let i = within-ok s 8 (n .0 .0) 8 (w .0) (w .1) in
+    let q : 8 + n .0 .0 ≡ x .1 = sym (i .0) ∙ ap (λ (y : Extra × ℕ). y .1) (same-ok (w .2)) in
+    subst (λ (y : ℕ). Whole s sized 8 y) q (all-sized (sym (f .value)) l (omega (arith, i .0, i .1))))
 
--- and where the count stands, behind it
-pub counted-in : (f : Form) (s : List ℕ) (p : Parts) → readParts f s ≡ ok p → p .counted ≤ length s
-unfolding readParts
-counted-in f s p e =
+-- what starts behind it
+pub behind-extra : (has : Bool) (s : List ℕ) (l : Layout) (x : Extra × ℕ) → extraAt has s 8 ≡ ok x → {f : WireForm} {q : ℕ}
+    → Starts s l (x .1) f q
+    → Starts s (cond has (sized then l) l) 8 f q
+unfolding extraAt
+behind-extra true s l x e a = behind-part (extra-whole s x e) a
+behind-extra false s l x e {f} {q} a =
+    let z : 8 ≡ x .1 = ap (λ (y : Extra × ℕ). y .1) (same-ok e) in
+    subst (λ (o : ℕ). Starts s l o f q) (sym z) a
+
+pub record CountedAt (f : Form) (s : List ℕ) (p : Parts) : Type 0 where
+  pub starts : Starts s (formLayout f) 0 integer (p .counted)
+  pub next : ℕ
+  pub read : readPacked s (p .counted) ≡ ok (p .sets .count, next)
+
+pub counted-at : (f : Form) (s : List ℕ) (p : Parts) → readParts f s ≡ ok p → CountedAt f s p
+unfolding readParts readSets
+counted-at f s p e =
     let i = after-is-ok (readFixed 6 s 0) _ p e in
     let g = after-is-ok (readFixed 2 s 6) _ p (i .2) in
     let b = fixed-ok 2 s 6 (g .0 .0) (g .0 .1) (g .1) in
     let x = after-is-ok (extraAt (f .extra) s 8) _ p (g .2) in
     let y = after-is-ok (readSets (f .second) s (x .0 .1)) _ p (x .2) in
-    subst (λ (z : Parts). z .counted ≤ length s) (same-ok (y .2)) (extra-ends (f .extra) s (x .0) (omega (arith, b .next-is, b .ends)) (x .1))
+    let n = after-is-ok (readPacked s (x .0 .1)) _ (y .0) (y .1) in
+    let k = sets-sized (f .second) (n .0 .0) s (n .0 .1) (y .0) (n .2) in
+    subst (CountedAt f s) (same-ok (y .2)) (record {
+      starts =
+          behind-part (all-bytes (omega (arith, b .next-is, b .ends)))
+          (behind-part (all-bytes (omega (arith, b .next-is, b .ends))) (behind-extra (f .extra) s (setsLayout (f .second)) (x .0) (x .1) at-count));
+      next = n .0 .1;
+      read = n .1 ∙ ap (λ (m : ℕ). ok (m, n .0 .1)) (sym (k .0));
+    })
 
 -- ---- the event
 fits-sized : (r : List ℕ) (w : Rows) (s : List ℕ) → recordValid r ≡ true → Sized s (bytesFor (countOf r)) (w .before) (w .after) (w .images) → Fits r w s

@@ -45,7 +45,7 @@ formOf code =
     (cond (eqb code 32) (ok (form true false))
     (refuse 16 0))))))
 
--- extra data behind its length, which counts itself, and the place after it; cut short, it is placed at the length
+-- extra data behind its length, which counts itself, and the place after it. If it is cut short, the refusal is at its length
 unfoldable pub extraData : List ℕ → ℕ → Outcome (Extra × ℕ)
 unfolding readFixed within
 extraData s at =

@@ -16,7 +16,7 @@ ghost use Rattle.rows_event.specs.Events.{fitting, readRows, rowsTold};
 pub struct Rows {
     pub flags: u16,
     pub extra: Extra,
-    // the presence bits of every image, in updates of those before the change
+    // the presence bits of the images of a write or a delete, which have this set alone, and in updates of those before the change
     pub before: Part,
     // in updates, of the images after it
     pub after: Second,

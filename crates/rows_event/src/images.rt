@@ -15,6 +15,7 @@ ghost use Rattle.record.specs.Records.{recordValid};
 ghost use Rattle.rows_event.specs.Images.{isThere, inPairs, secondBits, setOf, isEmpty, imageAt, nextImage, toldImage};
 
 // Where the walk over the images stands: an offset of the event, and whether the image there stands under the second set.
+// A walk begins with `Images { at: rows.images, second: false }`.
 pub struct Images {
     pub at: usize,
     pub second: bool,
@@ -31,7 +32,7 @@ pub enum ImageStep {
     Refused(Refusal),
 }
 
-// Whether images come in pairs.
+// Whether there is a second set, so that images come in pairs.
 fn is_there(second: Second) -> bool
     ensures { λ r. ⌜ r ≡ isThere second ⌝ }
 {
@@ -50,8 +51,8 @@ fn second_bits(event: &[u8], second: Second) -> &[u8]
     }
 }
 
-// The presence bits that an image stands under.
-fn set_of(rows: Rows, event: &[u8], second: bool) -> &[u8]
+// The presence bits that an image stands under: the first set, or the second, which is empty where there is none.
+pub fn set_of(rows: Rows, event: &[u8], second: bool) -> &[u8]
     ensures { λ r. ⌜ now r ≡ setOf rows (now (event .entry)) second ⌝ }
 {
     if second {

@@ -10,5 +10,6 @@ pub use event::RowsRead;
 pub use event::read_rows;
 pub use images::ImageStep;
 pub use images::Images;
+pub use images::set_of;
 pub use parts::Extra;
 pub use parts::Second;

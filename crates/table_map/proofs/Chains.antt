@@ -27,7 +27,7 @@ pub record Named (s : List ℕ) (at : ℕ) (p : Part) (next : ℕ) : Type 0 wher
   pub next-is : next ≡ p .start + p .len
   pub ends : next ≤ length s
 
-named : (s : List ℕ) (at : ℕ) (x : Part × ℕ) → shortPart s at ≡ ok x → Named s at (x .0) (x .1)
+pub named : (s : List ℕ) (at : ℕ) (x : Part × ℕ) → shortPart s at ≡ ok x → Named s at (x .0) (x .1)
 unfolding shortPart
 named s at x e =
     let v = after-is-ok (within s at 1 at) _ _ e in

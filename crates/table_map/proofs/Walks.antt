@@ -1,8 +1,7 @@
--- Walks, by any rule whose items move: a walk is its first step and the walk from where that leads, it ends, and where it breaks, it breaks as the step there.
+-- Walks, by any rule whose items move: a walk is its first step and the walk from where that leads, and it ends.
 -- Assumes nothing.
 use Prim.Native.Nat.{ℕ, zero, suc, _-_, _≤_, _<_}
-use mathlib.Core.Path.{_≡_, refl, ap, _∙_}
-use mathlib.Core.Logic.{_⊎_, inl, inr, ⊎-elim}
+use mathlib.Core.Path.{_≡_, refl}
 use mathlib.Core.List.{List}
 use native.Mathlib.Omega.{arith}
 use lib.ListN.{length}
@@ -63,37 +62,6 @@ few {A} rule v (suc m) s at = go (λ next. few rule v m s next) (step rule s at)
 pub walk-ends : {A : Type 0} (rule : Rule A) → Moves rule → (s : List ℕ) (at : ℕ) → length (walk rule s at .items) ≤ length s - at
 walk-ends rule v s at = few rule v (suc (length s - at)) s at
 
--- ---- a walk that breaks, breaks as the step at the place that it had come to
--- there, the step refuses so; it is where the walk began, or a place within the bytes
-pub record Breaks {A : Type 0} (rule : Rule A) (s : List ℕ) (at : ℕ) (w : Refusal) : Type 0 where
-  pub there : ℕ
-  pub from : (there ≡ at) ⊎ ((at < there) × (there ≤ length s))
-  pub refuses : step rule s there ≡ refused w
-
-whole-not-broken : {w : Refusal} → whole ≡ broken w → ⊥
+-- ---- a walk that comes to the end is not broken
+pub whole-not-broken : {w : Refusal} → whole ≡ broken w → ⊥
 whole-not-broken e = let z : _≡_ {A = ℕ} 0 1 = cc in omega arith
-
-further : {A : Type 0} {rule : Rule A} {s : List ℕ} {w : Refusal} (at next : ℕ) → at < next → next ≤ length s → Breaks rule s next w → Breaks rule s at w
-further at next h l b = record {
-  there = b .there;
-  from = inr (⊎-elim (λ e. (omega arith, omega arith)) (λ p. (omega arith, p .1)) (b .from));
-  refuses = b .refuses;
-}
-
-breaks : {A : Type 0} (rule : Rule A) → Moves rule → (m : ℕ) (s : List ℕ) (at : ℕ) (w : Refusal) → walkSteps m rule s at .how ≡ broken w → Breaks rule s at w
-unfolding walkSteps
-breaks rule v zero s at w e = absurd (whole-not-broken e)
-breaks {A} rule v (suc m) s at w e = go (λ next. breaks rule v m s next w) (step rule s at) refl e
-  where
-    go : ((next : ℕ) → walkSteps m rule s next .how ≡ broken w → Breaks rule s next w)
-        → (o : Outcome (Stepped A ℕ)) → step rule s at ≡ o → onward (walkSteps m rule s) o .how ≡ broken w → Breaks rule s at w
-    go again (ok end) f g = absurd (whole-not-broken g)
-    go again (ok (item a next)) f g =
-        let x = item-moves rule v s at a next f in
-        further at next (x .0) (x .1) (again next g)
-    go again (refused r) f g =
-        let x : r ≡ w = cc in
-        record { there = at; from = inl refl; refuses = f ∙ ap (λ (y : Refusal). refused y) x }
-
-pub walk-breaks : {A : Type 0} (rule : Rule A) → Moves rule → (s : List ℕ) (at : ℕ) (w : Refusal) → walk rule s at .how ≡ broken w → Breaks rule s at w
-walk-breaks rule v s at w e = breaks rule v (suc (length s - at)) s at w e

@@ -11,11 +11,11 @@ use lib.ListN.{length, take, drop, length-append, length-drop, take-append-drop}
 use lib.Seq.{take-at, drop-at, take-take, take-add, drop-drop, length-take-le}
 use lib.Dec.{leb, ltb, eqb}
 use Rattle.wire.specs.Outcome.{ok}
-use Rattle.wire.specs.Number.{Bytes, leValue, leBytes}
+use Rattle.wire.specs.Number.{Bytes, areBytes, leValue, leBytes}
 use Rattle.wire.specs.Signed.{signedOf, twosOf}
 use Rattle.wire.proofs.Outcomes.{ok-not-refused, both-true}
 use Rattle.wire.proofs.Bytes.{leBytes-length}
-use Rattle.wire.proofs.Inverse.{le-back, le-sound, le-bound, bytes-take}
+use Rattle.wire.proofs.Inverse.{le-back, le-sound, le-bound, bytes-take, bytes-drop, bytes-are}
 use Rattle.wire.proofs.Signs.{signs-back, signs-sound, bytes-even}
 use Rattle.temporal.proofs.Forms.{sized as timed-sized, back as timed-back, sound as timed-sound}
 use Rattle.value.specs.declared.shape.Shape.{Shape}
@@ -48,7 +48,7 @@ is-made (when t) = refl
 is-made (bytes b) = refl
 
 -- a value whose sort is known
-sorted : (d : Datum) (n : ℕ) (b : Bool) → (eqb (tag d) n && b) ≡ true → (made n d ≡ d) × (b ≡ true)
+pub sorted : (d : Datum) (n : ℕ) (b : Bool) → (eqb (tag d) n && b) ≡ true → (made n d ≡ d) × (b ≡ true)
 sorted d n b e =
     let w = both-true (eqb (tag d) n) b e in
     (ap (λ (k : ℕ). made k d) (sym (eqb-true (tag d) n (w .0))) ∙ is-made d, w .1)
@@ -70,8 +70,9 @@ need-bytes FloatBits d rest h = sym (leBytes-length 4 (numberIn d))
 need-bytes DoubleBits d rest h = sym (leBytes-length 8 (numberIn d))
 need-bytes YearByte d rest h = sym (leBytes-length 1 (numberIn d - 1900))
 need-bytes (Timed k) d rest h = sym (timed-sized k (whenIn d))
-need-bytes (Fixed n) d rest h = sym (eqb-true (length (bytesIn d)) n (sorted d 7 _ h .1))
-need-bytes (Counted k) d rest h = counted-need k (bytesIn d) rest (ltb-true (length (bytesIn d)) (256 ^ k) (sorted d 7 _ h .1))
+need-bytes (Fixed n) d rest h = sym (eqb-true (length (bytesIn d)) n (both-true (areBytes (bytesIn d)) _ (sorted d 7 _ h .1) .1))
+need-bytes (Counted k) d rest h =
+    counted-need k (bytesIn d) rest (ltb-true (length (bytesIn d)) (256 ^ k) (both-true (areBytes (bytesIn d)) _ (sorted d 7 _ h .1) .1))
 need-bytes (NotTaken n) d rest h = refl
 
 -- ---- (2), and no part of a value in the domain is out of range
@@ -131,12 +132,12 @@ year-whole : (n : ℕ) → n < 256 → (leb 1900 (1900 + n) && leb (1900 + n) 21
 year-whole n h = rw (le-leb 1900 (1900 + n) (omega arith), le-leb (1900 + n) 2155 (omega arith))
 
 counted-whole : (k : ℕ) (b : List ℕ) → Bytes b → k + leValue (take k b) ≡ length b
-    → (ltb (length (drop k b)) (256 ^ k) ≡ true) × (leBytes k (length (drop k b)) ++ drop k b ≡ b)
+    → ((areBytes (drop k b) && ltb (length (drop k b)) (256 ^ k)) ≡ true) × (leBytes k (length (drop k b)) ++ drop k b ≡ b)
 counted-whole k b h n =
     let l : length (drop k b) ≡ leValue (take k b) = length-drop k b ∙ omega arith in
     let m : length (take k b) ≡ k = length-take-le k b (omega arith) in
     let w = number-whole k (take k b) (bytes-take k b h) (sym m) in (
-      lt-ltb (length (drop k b)) (256 ^ k) (subst (λ (j : ℕ). j < 256 ^ k) (sym l) (w .0)),
+      rw (bytes-are (drop k b) (bytes-drop k b h)) (lt-ltb (length (drop k b)) (256 ^ k) (subst (λ (j : ℕ). j < 256 ^ k) (sym l) (w .0))),
       ap (λ (x : ℕ). leBytes k x ++ drop k b) l ∙ ap (λ (x : List ℕ). x ++ drop k b) (w .1) ∙ take-append-drop k b,
     )
 
@@ -155,7 +156,7 @@ whole YearByte b z h n r t =
     let e : 1900 + leValue b - 1900 ≡ leValue b = omega arith in
     (year-whole (leValue b) (w .0), ap (leBytes 1) e ∙ w .1)
 whole (Timed k) b z h n r t = timed-sound k b (sym n) h r
-whole (Fixed n) b z h e r t = (eq-eqb (length b) n (sym e), refl)
+whole (Fixed n) b z h e r t = (rw (bytes-are b h) (eq-eqb (length b) n (sym e)), refl)
 whole (Counted k) b z h n r t = counted-whole k b h n
 whole (NotTaken n) b z h e r t = absurd (ok-not-refused (sym t))
 

@@ -1,13 +1,19 @@
--- What holds of every column: its shape has a width that there is, and an accepted column's value takes a byte at least. The table of a decimal's
--- leftover digits has a rule. Assumes nothing.
-use Prim.Native.Nat.{ℕ, _+_, _-_, _*_, _/_, _%_, _≤_, _<_}
+-- What holds of every column: its shape has a width that there is, an accepted column's value takes a byte at least, and a value in its
+-- domain has few bytes. The table of a decimal's leftover digits has a rule. Assumes nothing.
+use Prim.Native.Nat.{ℕ, _+_, _-_, _*_, _/_, _%_, _^_, _≤_, _<_}
 use mathlib.Core.Bool.{Bool, true, false, cond, _&&_, _||_, true≢false}
 use mathlib.Core.List.{List}
-use mathlib.Core.Logic.{_⊎_, inl, inr}
+use mathlib.Core.Logic.{_⊎_, inl, inr, dite}
 use mathlib.Core.Path.{_≡_, refl, sym, ap, _∙_, subst}
-use borrow.Author.Tests.{ne-eqb}
+use borrow.Author.Tests.{lt-leb, ne-eqb, ltb-true, eqb-true}
+use native.Mathlib.Decide.{decLe}
 use native.Mathlib.Omega.{arith}
+use lib.ListN.{length}
 use lib.Dec.{T, leb, ltb, eqb, eqb→eq, leb→le}
+use Rattle.wire.specs.Number.{areBytes}
+use Rattle.wire.proofs.Bytes.{wider}
+use Rattle.wire.proofs.Outcomes.{both-true}
+use Rattle.wire.proofs.Each.{below, left, right}
 use Rattle.temporal.proofs.Forms.{size-least}
 use Rattle.value.specs.declared.shape.Shape.{Shape}
 use Rattle.value.specs.declared.shape.Shape.the-variants.{Unsigned, Signed, FloatBits, DoubleBits, YearByte, Timed, Fixed, Counted, NotTaken}
@@ -16,8 +22,10 @@ use Rattle.value.specs.declared.types.Family.{Family}
 use Rattle.value.specs.declared.types.Family.the-variants.{Integer, Float, Double, Year, Timestamp, Date, Time, Datetime, Timestamp2, Datetime2, Time2, Varchar, Char, Blob, Json, Bit, Decimal, Enum, Set, Unknown}
 use Rattle.value.specs.Types.{familyOf, or30}
 use Rattle.value.specs.Columns.{shapeIn, shapeOf, isTaken, refusalOf, leftoverBytes, digitsBytes, decimalBytes, declaredIn, lengthBytes}
+use Rattle.value.specs.Data.{Datum, tag, bytesIn}
+use Rattle.value.specs.Domains.{domain}
 use Rattle.value.specs.Shapes.{Sized, need}
-use Rattle.wire.proofs.Each.{below, left, right}
+use Rattle.value.proofs.Facts.{made, sorted}
 
 -- ---- the table of a decimal's leftover digits
 pub leftover-rule : (digits : ℕ) → digits < 9 → leftoverBytes digits ≡ (digits + 1) / 2
@@ -33,6 +41,16 @@ decimal-some : (m0 m1 : ℕ) → 1 ≤ m0 → m1 ≤ m0 → 0 < decimalBytes m0 
 unfolding decimalBytes
 decimal-some m0 m1 h l = rw (leftover-rule ((m0 - m1) % 9) (omega arith), leftover-rule (m1 % 9) (omega arith)) (omega arith)
 
+decimal-few : (m0 m1 : ℕ) → m0 ≤ 65 → m1 ≤ 30 → decimalBytes m0 m1 ≤ 64
+unfolding decimalBytes
+decimal-few m0 m1 h l = rw (leftover-rule ((m0 - m1) % 9) (omega arith), leftover-rule (m1 % 9) (omega arith)) (omega arith)
+
+-- the bytes of a SET
+set-few : (m1 : ℕ) → T (leb m1 4 || eqb m1 8) → m1 ≤ 64
+set-few m1 t =
+    dite (decLe m1 64) (λ h. h)
+    (λ h. absurd (rw (lt-leb m1 4 (omega arith), ne-eqb m1 8 (λ e. omega arith)) at t))
+
 -- ---- what holds of both sides of a test holds of what it picks
 pick : {A : Type 0} (P : A → Type 0) (b : Bool) {x y : A} → (T b → P x) → P y → P (cond b x y)
 pick P true p q = p tt
@@ -46,7 +64,7 @@ Fine FloatBits = Unit {0}
 Fine DoubleBits = Unit {0}
 Fine YearByte = Unit {0}
 Fine (Timed k) = Unit {0}
-Fine (Fixed n) = 0 < n
+Fine (Fixed n) = (0 < n) × (n ≤ 64)
 Fine (Counted k) = (0 < k) × (k ≤ 4)
 Fine (NotTaken n) = (n ≡ 4) ⊎ (n ≡ 5)
 
@@ -115,17 +133,24 @@ fine-in Blob m0 m1 u w =
 fine-in Json m0 m1 u w = pick Fine (eqb m0 4 && eqb m1 0) (λ e. (omega arith, omega arith)) (inr refl)
 fine-in Bit m0 m1 u w =
     pick Fine (leb m0 7 && (leb 1 (8 * m1 + m0) && leb (8 * m1 + m0) 64))
-    (λ e. let h : 1 ≤ 8 * m1 + m0 = leb→le 1 (8 * m1 + m0) (left (leb 1 (8 * m1 + m0)) _ (right (leb m0 7) _ e)) in
-    omega arith) (inr refl)
+    (λ e. let w = right (leb m0 7) _ e in
+    let h : 1 ≤ 8 * m1 + m0 = leb→le 1 (8 * m1 + m0) (left (leb 1 (8 * m1 + m0)) _ w) in
+    let l : 8 * m1 + m0 ≤ 64 = leb→le (8 * m1 + m0) 64 (right (leb 1 (8 * m1 + m0)) _ w) in
+    (omega arith, omega arith)) (inr refl)
 fine-in Decimal m0 m1 u w =
     pick Fine (leb 1 m0 && (leb m0 65 && (leb m1 30 && leb m1 m0)))
-    (λ e. decimal-some m0 m1 (leb→le 1 m0 (left (leb 1 m0) _ e))
-    (leb→le m1 m0 (right (leb m1 30) _ (right (leb m0 65) _ (right (leb 1 m0) _ e))))) (inr refl)
+    (λ e. let w = right (leb 1 m0) _ e in
+    let z = right (leb m0 65) _ w in (
+      decimal-some m0 m1 (leb→le 1 m0 (left (leb 1 m0) _ e)) (leb→le m1 m0 (right (leb m1 30) _ z)),
+      decimal-few m0 m1 (leb→le m0 65 (left (leb m0 65) _ w)) (leb→le m1 30 (left (leb m1 30) _ z)),
+    )) (inr refl)
 fine-in Enum m0 m1 u w =
     pick Fine (leb 1 m1 && leb m1 2)
     (λ e. let l : m1 ≤ 2 = leb→le m1 2 (right (leb 1 m1) _ e) in
     (leb→le 1 m1 (left (leb 1 m1) _ e), omega arith)) (inr refl)
-fine-in Set m0 m1 u w = pick Fine (leb 1 m1 && (leb m1 4 || eqb m1 8)) (λ e. leb→le 1 m1 (left (leb 1 m1) _ e)) (inr refl)
+fine-in Set m0 m1 u w =
+    pick Fine (leb 1 m1 && (leb m1 4 || eqb m1 8))
+    (λ e. (leb→le 1 m1 (left (leb 1 m1) _ e), set-few m1 (right (leb 1 m1) _ e))) (inr refl)
 fine-in Unknown m0 m1 u w = inl refl
 
 fine : (c : Column) → Fine (shapeOf c)
@@ -158,12 +183,40 @@ some-of FloatBits h e s = omega arith
 some-of DoubleBits h e s = omega arith
 some-of YearByte h e s = omega arith
 some-of (Timed k) h e s = size-least k
-some-of (Fixed n) h e s = h
+some-of (Fixed n) h e s = h .0
 some-of (Counted k) h e s = let l = h .0 in omega arith
 some-of (NotTaken n) h e s = absurd (true≢false (sym e))
 
 pub some-bytes : (c : Column) → isTaken (shapeOf c) ≡ true → (s : List ℕ) → 0 < need (shapeOf c) s
 some-bytes c = some-of (shapeOf c) (fine c)
+
+-- what a value in its domain has of bytes are bytes, and fewer than four bytes can count
+abbrev FewBytes : Datum → Type 0
+FewBytes d = (areBytes (bytesIn d) ≡ true) × (length (bytesIn d) < 256 ^ 4)
+
+-- a value of the sort n, which has none
+none-of : (d : Datum) (n : ℕ) (b : Bool) → FewBytes (made n d) → (eqb (tag d) n && b) ≡ true → FewBytes d
+none-of d n b f h = subst FewBytes (sorted d n b h .0) f
+
+few-of : (sh : Shape) (d : Datum) → Fine sh → domain sh d ≡ true → FewBytes d
+unfolding domain bytesIn areBytes
+few-of (Unsigned k) d f h = none-of d 2 _ (refl, omega arith) h
+few-of (Signed k) d f h = none-of d 1 _ (refl, omega arith) h
+few-of FloatBits d f h = none-of d 3 _ (refl, omega arith) h
+few-of DoubleBits d f h = none-of d 4 _ (refl, omega arith) h
+few-of YearByte d f h = none-of d 5 _ (refl, omega arith) h
+few-of (Timed k) d f h = none-of d 6 _ (refl, omega arith) h
+few-of (Fixed n) d f h =
+    let w = both-true (areBytes (bytesIn d)) _ (sorted d 7 _ h .1) in
+    let e : length (bytesIn d) ≡ n = eqb-true (length (bytesIn d)) n (w .1) in
+    (w .0, omega (arith, e, f .1))
+few-of (Counted k) d f h =
+    let w = both-true (areBytes (bytesIn d)) _ (sorted d 7 _ h .1) in
+    (w .0, wider k 4 (length (bytesIn d)) (f .1) (ltb-true (length (bytesIn d)) (256 ^ k) (w .1)))
+few-of (NotTaken n) d f h = absurd (true≢false (sym h))
+
+pub few-bytes : (c : Column) (d : Datum) → domain (shapeOf c) d ≡ true → (areBytes (bytesIn d) ≡ true) × (length (bytesIn d) < 256 ^ 4)
+few-bytes c d = few-of (shapeOf c) d (fine c)
 
 -- ---- a column's shape is its family's, where its type is a real type
 pub by-family :

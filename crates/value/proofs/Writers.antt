@@ -7,15 +7,16 @@ use mathlib.Core.List.{List, [], _++_, append-nil}
 use native.Mathlib.Decide.{decLe}
 use native.Mathlib.Omega.{arith}
 use borrow.Author.Tests.{lt-ltb, le-ltb, le-leb, lt-leb, eq-eqb, ne-eqb, leb-true}
-use lib.ListN.{length, length-append}
+use lib.ListN.{length, drop, length-append}
 use lib.Dec.{leb, ltb, eqb}
 use Rattle.wire.specs.Outcome.{ok, refuse}
-use Rattle.wire.specs.Number.{leBytes}
+use Rattle.wire.specs.Number.{Bytes as AllBytes, areBytes, leBytes}
 use Rattle.wire.specs.Signed.{twosOf, inHalves}
 use Rattle.wire.specs.declared.part.Part.{Part}
 use Rattle.wire.specs.Parts.{partOf, lentPart}
 use Rattle.wire.specs.Stored.{store}
 use Rattle.wire.proofs.Bytes.{leBytes-length}
+use Rattle.wire.proofs.Inverse.{bytes-take, bytes-drop, bytes-are}
 use Rattle.wire.proofs.Outcomes.{both-true}
 use Rattle.wire.proofs.Parts.{part-length, lent-is}
 use Rattle.temporal.specs.declared.kind.Kind.{Kind}
@@ -83,6 +84,12 @@ lent-fits s v h = leb-true (bytesAt v .start + bytesAt v .len) (length s) h
 pub bytes-length : (s : List ℕ) (v : Value) → isLent s v ≡ true → length (bytesIn (datumOf s v)) ≡ bytesAt v .len
 bytes-length s v h = ap length (bytes-part s v) ∙ part-length s (bytesAt v) (lent-fits s v h)
 
+-- and what is lent to the code are bytes
+bytes-lent : (s : List ℕ) (v : Value) → AllBytes s → areBytes (bytesIn (datumOf s v)) ≡ true
+bytes-lent s v h =
+    ap areBytes (bytes-part s v)
+    ∙ bytes-are (partOf s (bytesAt v)) (bytes-take (bytesAt v .len) (drop (bytesAt v .start) s) (bytes-drop (bytesAt v .start) s h))
+
 -- ---- which values a column takes, as the code tests it
 pub not-in : (sh : Shape) (s : List ℕ) (v : Value) → isLent s v ≡ false → false ≡ isIn sh s v
 unfolding isIn
@@ -140,14 +147,15 @@ just n m =
     (λ g. rw (le-leb n m h, lt-leb m n (omega arith)) (sym (ne-eqb m n (λ e. omega arith)))))
     (λ h. rw (lt-leb n m (omega arith)) (sym (ne-eqb m n (λ e. omega arith))))
 
-pub in-fixed : (n : ℕ) (s : List ℕ) (v : Value) → isLent s v ≡ true → (isBytes (datumOf [] v) && (leb n (bytesAt v .len) && leb (bytesAt v .len) n)) ≡ isIn (Fixed n) s v
+pub in-fixed : (n : ℕ) (s : List ℕ) (v : Value) → AllBytes s → isLent s v ≡ true
+    → (isBytes (datumOf [] v) && (leb n (bytesAt v .len) && leb (bytesAt v .len) n)) ≡ isIn (Fixed n) s v
 unfolding isIn domain
-in-fixed n s v h = rw (h, tag-any s v, bytes-length s v h, just n (bytesAt v .len))
+in-fixed n s v b h = rw (h, tag-any s v, bytes-lent s v b, bytes-length s v h, just n (bytesAt v .len))
 
-pub in-counted : (k most : ℕ) (s : List ℕ) (v : Value) → most + 1 ≡ 256 ^ k → isLent s v ≡ true
+pub in-counted : (k most : ℕ) (s : List ℕ) (v : Value) → most + 1 ≡ 256 ^ k → AllBytes s → isLent s v ≡ true
     → (isBytes (datumOf [] v) && (leb 0 (bytesAt v .len) && leb (bytesAt v .len) most)) ≡ isIn (Counted k) s v
 unfolding isIn domain
-in-counted k most s v e h = rw (h, tag-any s v, bytes-length s v h, below (bytesAt v .len) most k e)
+in-counted k most s v e b h = rw (h, tag-any s v, bytes-lent s v b, bytes-length s v h, below (bytesAt v .len) most k e)
 
 pub in-none : (n : ℕ) (s : List ℕ) (v : Value) → isLent s v ≡ true → false ≡ isIn (NotTaken n) s v
 unfolding isIn domain

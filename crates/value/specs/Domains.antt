@@ -3,6 +3,7 @@ use Prim.Native.Nat.{_^_}
 use mathlib.Core.Bool.{Bool, false, _&&_}
 use lib.ListN.{length}
 use lib.Dec.{leb, ltb, eqb}
+use Rattle.wire.specs.Number.{areBytes}
 use Rattle.wire.specs.Signed.{inHalves}
 use Rattle.temporal.specs.Domains.{domain as timedDomain}
 use Rattle.value.specs.declared.shape.Shape.{Shape}
@@ -10,7 +11,7 @@ use Rattle.value.specs.declared.shape.Shape.the-variants.{Unsigned, Sign
 use Rattle.value.specs.Data.{Datum, tag, isInt, isUint, isFloat, isDouble, isYear, isWhen, isBytes, intIn, numberIn, whenIn, bytesIn}
 
 unfoldable pub domain : Shape → Datum → Bool
-unfolding tag intIn numberIn whenIn bytesIn inHalves timedDomain
+unfolding tag intIn numberIn whenIn bytesIn areBytes inHalves timedDomain
 -- a number of k bytes
 domain (Unsigned k) d = isUint d && ltb (numberIn d) (256 ^ k)
 -- from -256^k/2 to 256^k/2 - 1
@@ -21,7 +22,7 @@ domain DoubleBits d = isDouble d && ltb (numberIn d) (256 ^ 8)
 domain YearByte d = isYear d && (leb 1900 (numberIn d) && leb (numberIn d) 2155)
 domain (Timed k) d = isWhen d && timedDomain k (whenIn d)
 -- just n bytes, whatever they are
-domain (Fixed n) d = isBytes d && eqb (length (bytesIn d)) n
+domain (Fixed n) d = isBytes d && (areBytes (bytesIn d) && eqb (length (bytesIn d)) n)
 -- as many as k bytes can count
-domain (Counted k) d = isBytes d && ltb (length (bytesIn d)) (256 ^ k)
+domain (Counted k) d = isBytes d && (areBytes (bytesIn d) && ltb (length (bytesIn d)) (256 ^ k))
 domain (NotTaken n) d = false

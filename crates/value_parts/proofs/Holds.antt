@@ -33,12 +33,14 @@ pub held-null : isHeld Null ≡ true
 unfolding isHeld inHalves intIn datumOf topsOf kindOf partsOf fit
 held-null = refl
 
-pub held-int : (z : ℤ) → SFits w64 z → isHeld (Int z) ≡ true
+pub held-halves : (z : ℤ) → inHalves (2 ^ 64) z ≡ true → isHeld (Int z) ≡ true
 unfolding isHeld intIn datumOf topsOf kindOf partsOf fit
-held-int z f =
-    let h = in-halves z f in
+held-halves z h =
     let w = signs-back (2 ^ 64) z h in
     rw (h, le-leb (twosOf (2 ^ 64) z) (topOfBits 64) (omega (arith, w .0)))
+
+pub held-int : (z : ℤ) → SFits w64 z → isHeld (Int z) ≡ true
+held-int z f = held-halves z (in-halves z f)
 
 pub held-uint : (n : ℕ) → n ≤ topOfBits 64 → isHeld (Uint n) ≡ true
 unfolding isHeld inHalves intIn datumOf topsOf kindOf partsOf fit

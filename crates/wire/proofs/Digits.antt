@@ -94,6 +94,19 @@ half-of : (x : ℕ) (on : Bool) → (x * 2 + number on) / 2 ≡ x
 half-of x true = omega arith
 half-of x false = omega arith
 
+-- a number of n digits stays one
+few-number : (on : Bool) → number on ≤ 1
+few-number true = omega arith
+few-number false = omega arith
+
+pub with-below : (x j n : ℕ) (on : Bool) → x < 2 ^ n → j < n → withDigit x j on < 2 ^ n
+with-below x j zero on h l = absurd (omega arith)
+with-below x zero (suc n) on h l = omega (arith, pow-suc 2 n, low-with x on (digit x 0) refl, few-number on)
+with-below x (suc j) (suc n) on h l =
+    let q = pow-suc 2 n in
+    let i = with-below (x / 2) j n on (omega arith) (omega arith) in
+    omega (arith, half-with x j on (digit (x / 2) j) refl)
+
 -- the digit that was written
 pub digit-written : (x j : ℕ) (on : Bool) → digit (withDigit x j on) j ≡ on
 digit-written x zero on = rw (low-with x on (digit x 0) refl) (low-digit _ ∙ low-of (x / 2) on)

@@ -2,7 +2,7 @@
 -- shortest, and the only one of its length. Assumes nothing.
 use Prim.Native.Nat.{ℕ, suc, _+_, _-_, _^_, _≤_, _<_}
 use mathlib.Core.Path.{_≡_, refl, sym, subst, _∙_}
-use mathlib.Core.Logic.{dite, _⊎_, inl, inr}
+use mathlib.Core.Logic.{dite, inl, inr}
 use mathlib.Core.List.{List, [], _∷_, _++_}
 use native.Mathlib.Numerals.{add-one}
 use native.Mathlib.Decide.{decLe, decLt}
@@ -15,6 +15,7 @@ use Rattle.wire.specs.declared.refusal.Refusal.{Refusal}
 use Rattle.wire.specs.Outcome.{ok, refused, why}
 use Rattle.wire.specs.Number.{Bytes, leValue, leBytes}
 use Rattle.wire.specs.Packed.{packedBytes, readPacked, formOf, longForm}
+use Rattle.wire.specs.Layouts.{Precedes, two as two′, three as three′, eight as eight′, IntegerCut, no-byte, few-behind, IntegerRefused}
 use Rattle.wire.specs.Stored.{stored}
 use Rattle.wire.proofs.Outcomes.{by-test, test-is-ok, test-refuses, ok-not-refused, same-ok, same-refused}
 use Rattle.wire.proofs.Bytes.{leBytes-length, wider}
@@ -212,37 +213,41 @@ read-stored d at v h r =
     rw n at (read-back (take at d) (drop (at + length (packedBytes v)) d) v h)
 
 -- ---- which refusals there are, and where
+precedes : {first k least : ℕ} → Tag first k least → Precedes first k
+precedes two = two′
+precedes three = three′
+precedes eight = eight′
+
 pub data Refuses (s : List ℕ) (at : ℕ) : Refusal → Type 0 where
-  -- there is no byte, or the bytes after the first end early
-  short : length s ≤ at → Refuses s at (why 1 at)
-  cut : (first k least : ℕ) → Tag first k least → getD s at 0 ≡ first → at < length s → length s < at + 1 + k → Refuses s at (why 1 at)
-  -- the first byte is one of those that precede nothing
-  none : at < length s → (getD s at 0 ≡ 251) ⊎ (getD s at 0 ≡ 255) → Refuses s at (why 2 at)
+  short : IntegerCut s at → Refuses s at (why 1 at)
+  none : IntegerRefused s at → Refuses s at (why 2 at)
 
-cut-refuses : {first k least : ℕ} (s : List ℕ) (at : ℕ) (w : Refusal) → Tag first k least → getD s at 0 ≡ first → at < length s → longForm s at k ≡ refused w → Refuses s at w
+cut-refuses : {first k least : ℕ} (s : List ℕ) (at : ℕ) (w : Refusal) → Tag first k least → getD s at 0 ≡ first
+    → longForm s at k ≡ refused w → Refuses s at w
 unfolding longForm
-cut-refuses {first} {k} {least} s at w t b h e =
+cut-refuses {first} {k} {least} s at w t b e =
     let x = test-refuses (leb (at + 1 + k) (length s)) (leValue (take k (drop (at + 1) s)), at + 1 + k) (why 1 at) w e in
-    subst (Refuses s at) (x .1) (cut first k least t b h (leb-false (at + 1 + k) (length s) (x .0)))
+    subst (Refuses s at) (x .1) (short (few-behind (subst (λ (y : ℕ). Precedes y k) (sym b) (precedes t)) (leb-false (at + 1 + k) (length s) (x .0))))
 
-form-refuses : (s : List ℕ) (at b : ℕ) (w : Refusal) → b < 256 → at < length s → getD s at 0 ≡ b → formOf s at b ≡ refused w → Refuses s at w
+form-refuses : (s : List ℕ) (at b : ℕ) (w : Refusal) → at < length s → getD s at 0 ≡ b → formOf s at b ≡ refused w → Refuses s at w
 unfolding formOf
-form-refuses s at b w l h g e =
+form-refuses s at b w h g e =
     by-test (leb b 250) _ _ _ e (λ t e₁. absurd (ok-not-refused e₁))
-    (λ t₀ e₀. by-test (eqb b 252) _ _ _ e₀ (λ t e₁. cut-refuses s at w two (g ∙ eqb-true b 252 t) h e₁)
-    (λ t₁ e₁. by-test (eqb b 253) _ _ _ e₁ (λ t e₂. cut-refuses s at w three (g ∙ eqb-true b 253 t) h e₂)
-    (λ t₂ e₂. by-test (eqb b 254) _ _ _ e₂ (λ t e₃. cut-refuses s at w eight (g ∙ eqb-true b 254 t) h e₃)
+    (λ t₀ e₀. by-test (eqb b 252) _ _ _ e₀ (λ t e₁. cut-refuses s at w two (g ∙ eqb-true b 252 t) e₁)
+    (λ t₁ e₁. by-test (eqb b 253) _ _ _ e₁ (λ t e₂. cut-refuses s at w three (g ∙ eqb-true b 253 t) e₂)
+    (λ t₂ e₂. by-test (eqb b 254) _ _ _ e₂ (λ t e₃. cut-refuses s at w eight (g ∙ eqb-true b 254 t) e₃)
     (λ t₃ e₃.
     let n₀ : 250 < b = leb-false b 250 t₀ in
     let n₁ : b ≡ 252 → ⊥ = eqb-false b 252 t₁ in
     let n₂ : b ≡ 253 → ⊥ = eqb-false b 253 t₂ in
     let n₃ : b ≡ 254 → ⊥ = eqb-false b 254 t₃ in
-    subst (Refuses s at) (same-refused e₃) (none h (dite (decLe b 251) (λ y. inl (g ∙ omega arith)) (λ y. inr (g ∙ omega arith))))))))
+    subst (Refuses s at) (same-refused e₃)
+    (none (record { there = h; first = λ l. dite (decLe b 251) (λ y. inl (g ∙ omega arith)) (λ y. inr (g ∙ omega (arith, l, g))) }))))))
 
 -- what was refused, and why: no other number, no other place
-pub read-refuses : (s : List ℕ) (at : ℕ) (w : Refusal) → Bytes s → readPacked s at ≡ refused w → Refuses s at w
+pub read-refuses : (s : List ℕ) (at : ℕ) (w : Refusal) → readPacked s at ≡ refused w → Refuses s at w
 unfolding readPacked
-read-refuses s at w h e =
+read-refuses s at w e =
     by-test (leb (length s) at) _ _ _ e
-    (λ t e₁. subst (Refuses s at) (same-refused e₁) (short (leb-true (length s) at t)))
-    (λ t e₁. form-refuses s at (getD s at 0) w (h at) (leb-false (length s) at t) refl e₁)
+    (λ t e₁. subst (Refuses s at) (same-refused e₁) (short (no-byte (leb-true (length s) at t))))
+    (λ t e₁. form-refuses s at (getD s at 0) w (leb-false (length s) at t) refl e₁)

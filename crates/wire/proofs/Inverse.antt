@@ -2,13 +2,29 @@
 -- reversed list. Assumes nothing.
 use Prim.Native.Nat.{ℕ, zero, suc, _+_, _*_, _/_, _%_, _^_, _<_}
 use mathlib.Core.Path.{_≡_, refl, sym, ap, _∙_, subst}
+use mathlib.Core.Bool.{true}
 use mathlib.Core.List.{List, [], _∷_, _++_, reverse, reverse-cons, reverse-append, reverse-reverse}
 use native.Mathlib.Nat.{pow-suc, div-lt-iff-lt-mul, zero-lt-suc}
 use native.Mathlib.Omega.{arith}
+use borrow.Author.Tests.{lt-ltb, ltb-true}
 use lib.ListN.{length, take, drop, length-reverse}
 use lib.Seq.{getD-drop}
-use Rattle.wire.specs.Number.{Bytes, leValue, leBytes, beValue, beBytes}
+use lib.Dec.{ltb}
+use Rattle.wire.specs.Number.{Bytes, areBytes, leValue, leBytes, beValue, beBytes}
+use Rattle.wire.proofs.Outcomes.{both-true}
 use Rattle.wire.proofs.Bytes.{more}
+
+-- ---- the test for bytes says that they are bytes, and passes where they are
+pub are-bytes : (l : List ℕ) → areBytes l ≡ true → Bytes l
+unfolding areBytes
+are-bytes [] h i = omega arith
+are-bytes (b ∷ l) h zero = ltb-true b 256 (both-true (ltb b 256) (areBytes l) h .0)
+are-bytes (b ∷ l) h (suc i) = are-bytes l (both-true (ltb b 256) (areBytes l) h .1) i
+
+pub bytes-are : (l : List ℕ) → Bytes l → areBytes l ≡ true
+unfolding areBytes
+bytes-are [] h = refl
+bytes-are (b ∷ l) h = rw (lt-ltb b 256 (h 0)) (bytes-are l (λ i. h (suc i)))
 
 -- ---- lists of bytes: their parts are too
 pub bytes-append : (l m : List ℕ) → Bytes l → Bytes m → Bytes (l ++ m)
@@ -27,7 +43,8 @@ bytes-take (suc n) [] h i = h i
 bytes-take (suc n) (b ∷ l) h zero = h 0
 bytes-take (suc n) (b ∷ l) h (suc i) = bytes-take n l (λ j. h (suc j)) i
 
-bytes-one : (b : ℕ) → b < 256 → Bytes (b ∷ [])
+-- one byte
+pub bytes-one : (b : ℕ) → b < 256 → Bytes (b ∷ [])
 bytes-one b h zero = h
 bytes-one b h (suc i) = omega arith
 

@@ -13,16 +13,21 @@ use lib.Dec.{leb}
 use Rattle.wire.specs.declared.refusal.Refusal.{Refusal}
 use Rattle.wire.specs.Outcome.{ok, refuse, why}
 use Rattle.wire.specs.Stored.{stored, store, answerOf, leftOf, writtenOf}
-use Rattle.wire.specs.Number.{leValue, beValue, leBytes, beBytes}
+use Rattle.wire.specs.Number.{Bytes, leValue, beValue, leBytes, beBytes}
 use Rattle.wire.specs.declared.store.Written.{Written}
 use Rattle.wire.specs.declared.store.Written.the-variants.{Done, Refused}
 use Rattle.wire.proofs.Bytes.{leBytes-length, beBytes-length}
-use Rattle.wire.proofs.Inverse.{le-back, be-back}
+use Rattle.wire.proofs.Inverse.{le-back, be-back, bytes-append, bytes-take, bytes-drop}
 
 -- a buffer keeps its length
 pub length-stored : (d : List ℕ) (at : ℕ) (w : List ℕ) → at + length w ≤ length d → length (stored d at w) ≡ length d
 unfolding stored
 length-stored d at w h = simp (length-append, length-take, length-drop) (omega arith)
+
+-- a buffer of bytes stays one
+pub stored-bytes : (d : List ℕ) (at : ℕ) (w : List ℕ) → Bytes d → Bytes w → Bytes (stored d at w)
+unfolding stored
+stored-bytes d at w h k = bytes-append (take at d) _ (bytes-take at d h) (bytes-append w _ k (bytes-drop (at + length w) d h))
 
 -- nothing stored changes nothing
 pub stored-none : (d : List ℕ) (at : ℕ) → stored d at [] ≡ d

@@ -6,3 +6,4 @@ pub mod Stored
 pub mod Bits
 pub mod Parts
 pub mod Packed
+pub mod Layouts

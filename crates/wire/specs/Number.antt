@@ -1,11 +1,18 @@
 -- What number a list of bytes is, and what bytes a number is, at any width. Assumes nothing.
 use Prim.Native.Nat.{ℕ, zero, suc, _+_, _*_, _/_, _%_, _<_}
+use mathlib.Core.Bool.{Bool, true, _&&_}
 use mathlib.Core.List.{List, [], _∷_, reverse}
 use lib.ListN.{getD}
+use lib.Dec.{ltb}
 
 -- every element is a byte
 abbrev pub Bytes : List ℕ → Type 0
 Bytes l = (i : ℕ) → getD l i 0 < 256
+
+-- the same as a test
+unfoldable pub areBytes : List ℕ → Bool
+areBytes [] = true
+areBytes (b ∷ l) = ltb b 256 && areBytes l
 
 -- the number of bytes, the least significant first
 unfoldable pub leValue : List ℕ → ℕ

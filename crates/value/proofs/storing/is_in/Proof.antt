@@ -3,6 +3,7 @@ use Prim.Native.Nat.{_≤_}
 use mathlib.Core.Path.{sym, ap, subst, _∙_}
 use native.Mathlib.Omega.{arith}
 use borrow.Author.Tests.{not-true, not-false}
+use Rattle.wire.specs.Number.{Bytes}
 use Rattle.value.specs.declared.shape.Shape.{Shape}
 use Rattle.value.specs.declared.shape.Shape.the-variants.{Unsigned, FloatBits, DoubleBits}
 use Rattle.value.specs.Shapes.{Sized}
@@ -129,14 +130,16 @@ returns-8 : tie.Need-returns-8
 returns-8 c = let a = c .before .before .before .before .before .before .before .args in
     let s = a .lent .now in
     let v = a .value in
-    c .is-bytes .ensures ∙ in-fixed _ s v (sym (c .before .before .before .before .before .is-lent .ensures) ∙ not-false _ (c .before .before .before .before .if1 .left)) ∙ ap (λ (sh : Shape). isIn sh s v) (sym (c .before .before .shape4 .given .1))
+    let b : Bytes s = λ i. omega (arith, c .before .before .before .before .before .before .shared-slice-known .given i) in
+    c .is-bytes .ensures ∙ in-fixed _ s v b (sym (c .before .before .before .before .before .is-lent .ensures) ∙ not-false _ (c .before .before .before .before .if1 .left)) ∙ ap (λ (sh : Shape). isIn sh s v) (sym (c .before .before .shape4 .given .1))
 
 returns-9 : tie.Need-returns-9
 returns-9 c = let a = c .before .before .before .before .before .before .before .before .args in
     let s = a .lent .now in
     let v = a .value in
     let h : c .before .before .before .shape5 .given .0 .0 ≤ 4 = subst Sized (c .before .before .before .shape5 .given .1) (c .before .before .before .before .before .before .before .before .pre) in
-    c .is-bytes2 .ensures ∙ in-counted (c .before .before .before .shape5 .given .0 .0) _ s v (top-narrow _ _ (omega (arith, h)) (c .before .top-of4 .ensures)) (sym (c .before .before .before .before .before .before .is-lent .ensures) ∙ not-false _ (c .before .before .before .before .before .if1 .left)) ∙ ap (λ (sh : Shape). isIn sh s v) (sym (c .before .before .before .shape5 .given .1))
+    let b : Bytes s = λ i. omega (arith, c .before .before .before .before .before .before .before .shared-slice-known .given i) in
+    c .is-bytes2 .ensures ∙ in-counted (c .before .before .before .shape5 .given .0 .0) _ s v (top-narrow _ _ (omega (arith, h)) (c .before .top-of4 .ensures)) b (sym (c .before .before .before .before .before .before .is-lent .ensures) ∙ not-false _ (c .before .before .before .before .before .if1 .left)) ∙ ap (λ (sh : Shape). isIn sh s v) (sym (c .before .before .before .shape5 .given .1))
 
 returns-10 : tie.Need-returns-10
 returns-10 c = let a = c .before .before .before .before .before .args in

@@ -1,0 +1,80 @@
+-- Metadata: the tables computed, and the bits of 254. Assumes nothing.
+use mathlib.Core.Path.{refl}
+use Rattle.value.specs.Columns.{declaredLength, shapeOf, isTaken}
+use Rattle.value.specs.Shapes.{need}
+use Rattle.value.specs.Reading.{readValue}
+use Rattle.value.specs.Storing.{writeValue}
+use Rattle.value.proofs.Bits.{real-or, real-small, real-digit, length-xor, xor-small, xor-digit}
+use Rattle.map_check.specs.Columns.{takeColumns}
+use Rattle.promises.specs.Tables.{Each, done, _and_, IsStored}
+use Rattle.promises.specs.Metadata.{OneByte, oneByte, Firsts, firsts, Seconds, seconds, values, Metadata}
+use Rattle.promises.specs.Metadata.{DecimalTakes, decimals, Declares, declaredLengths}
+
+one-byte : Each OneByte oneByte
+unfolding oneByte takeColumns
+one-byte =
+    refl and refl and refl and refl and refl and refl and refl and refl and refl and refl and refl and refl and done
+
+first-bytes : Each Firsts firsts
+unfolding firsts takeColumns
+first-bytes =
+    refl and refl and refl and refl and refl and refl and refl and refl and refl and done
+
+second-bytes : Each Seconds seconds
+unfolding seconds takeColumns
+second-bytes =
+    refl and refl and refl and refl and refl and refl and refl and refl and refl and refl and refl and refl and refl and refl
+    and done
+
+stored-values : Each IsStored values
+unfolding values shapeOf readValue writeValue
+stored-values =
+    refl and refl and refl and refl and refl and refl and refl and refl and refl and refl and refl and refl and refl and refl
+    and refl and refl and refl and refl and refl and refl and refl and refl and refl and refl and refl and refl and refl
+    and refl and refl and refl and refl and refl and refl and refl and refl and refl and refl and refl and refl and refl
+    and refl and refl and refl and refl and refl and refl and refl and refl and refl and refl and refl and refl and refl
+    and refl and refl and refl and refl and refl and refl and refl and refl and refl and refl and refl and refl and refl
+    and refl and refl and refl and refl and refl and refl and refl and refl and refl and refl and refl and refl and refl
+    and refl and refl and refl and refl and refl and refl and refl and refl and refl and refl and refl and refl and refl
+    and refl and refl and refl and refl and refl and refl and refl and refl and refl and refl and refl and refl and refl
+    and refl and refl and refl and refl and refl and refl and refl and refl and refl and refl and refl and refl and refl
+    and refl and refl and refl and refl and refl and refl and refl and refl and refl and refl and done
+
+decimal-sizes : Each DecimalTakes decimals
+unfolding decimals shapeOf need
+decimal-sizes =
+    refl and refl and refl and refl and refl and refl and refl and refl and refl and refl and refl and refl and refl and refl
+    and refl and refl and refl and refl and refl and refl and refl and refl and refl and refl and refl and refl and refl
+    and refl and refl and refl and refl and done
+
+declared-lengths : Each Declares declaredLengths
+unfolding declaredLengths declaredLength
+declared-lengths = refl and refl and refl and refl and refl and refl and refl and refl and refl and done
+
+pub metadata : Metadata
+unfolding takeColumns shapeOf isTaken writeValue
+metadata =
+    record {
+      types-taken = refl;
+      types-0 = refl;
+      types-1 = refl;
+      types-2 = refl;
+      one-byte = one-byte;
+      first-bytes = first-bytes;
+      second-bytes = second-bytes;
+      all-firsts = refl and refl and refl and refl and refl and refl and done;
+      all-seconds = refl and refl and refl and refl and done;
+      lone-types = refl;
+      lone-254 = refl;
+      stored-values = stored-values;
+      most-bytes = refl;
+      more-bytes = refl;
+      other-size = refl;
+      not-lent = refl;
+      decimal-sizes = decimal-sizes;
+      declared-lengths = declared-lengths;
+      real-type = real-or;
+      real-digits = λ m0 h. record { small = real-small m0 h; each = λ j l. real-digit m0 j h l };
+      declared-length = length-xor;
+      length-digits = λ m0 h. record { small = xor-small m0 h; each = λ j l. xor-digit m0 j h l };
+    }

@@ -1,0 +1,10 @@
+-- The root of all proofs. Assumes nothing.
+use Rattle.promises.specs.Port.{Port}
+use Rattle.promises.proofs.Demand1.{demand1}
+use Rattle.promises.proofs.Demand2.{demand2}
+use Rattle.promises.proofs.Demand3.{demand3}
+use Rattle.promises.proofs.Readings.{readings}
+use Rattle.promises.proofs.RowsEvents.{rows-events}
+
+pub port : Port
+port = record { demand1 = demand1; demand2 = demand2; demand3 = demand3; readings = readings; rows-events = rows-events }

@@ -1,0 +1,38 @@
+-- Demand 2: "Readers and writers equal the Rust wherever it returns an answer and 01 states no difference, shown by differential runs, and are
+-- proved against definitions written from MySQL's public documents." The runs are compare/rust and compare/captures; the contracts say of each
+-- public call that it answers what its definition says. Stated here is what ties the definitions to each other and to the document's words: what
+-- is written is read back, and what is read has one stored form. `demand2` in proofs/Demand2.antt proves all of it. Assumes nothing.
+use Prim.Native.Nat.{ℕ, _+_, _≤_}
+use mathlib.Core.Path.{_≡_}
+use mathlib.Core.Bool.{false, cond}
+use mathlib.Core.List.{List}
+use lib.ListN.{length, take, drop}
+use Rattle.wire.specs.Outcome.{Outcome, ok, refuse}
+use Rattle.wire.specs.Number.{Bytes}
+use Rattle.temporal.specs.declared.parts.Time.{Time}
+use Rattle.temporal.specs.declared.parts.Temporal.the-variants.{Lasts}
+use Rattle.temporal.specs.Fraction.{fractionBytes}
+use Rattle.temporal.specs.Ranges.{inClock}
+use Rattle.temporal.specs.Words.{worded}
+use Rattle.value.specs.declared.datum.Value.{Value}
+use Rattle.value.specs.declared.datum.Value.the-variants.{When}
+use Rattle.value.specs.Columns.{shapeOf}
+use Rattle.value.specs.Reading.{readValue}
+use Rattle.promises.specs.Values.{Values}
+use Rattle.promises.specs.Events.{Events}
+
+-- a time that was read at a place p and ends at `next`, if its parts are in range: "hour 23 (time 838), minute and second 59, fraction
+-- 999,999"
+abbrev pub inRange : ℕ → ℕ → Time → Outcome (Value × ℕ)
+inRange p next t = cond (inClock 838 (t .hours) (t .minutes) (t .seconds) (t .micros)) (ok (When (Lasts t), next)) (refuse 10 p)
+
+pub record Demand2 : Type 0 where
+  -- one stored value of any column, through reader and writer
+  pub values : Values
+  -- the event's two round trips
+  pub events : Events
+  -- TIME2 in document 01's own words, whatever m0 and the bytes: the time is `worded`, which has the document's signed numbers, its "plus 1",
+  -- "less 256 or 65,536" and "absolute value then split at 2^24"
+  pub time2-worded : (m0 p : ℕ) (s : List ℕ) (o : ℕ) → Bytes s → m0 ≤ 6 → o + (3 + fractionBytes m0) ≤ length s
+      → readValue (shapeOf (record { kind = 19; m0 = m0; m1 = 0; unsigned = false })) p s o
+      ≡ inRange p (o + (3 + fractionBytes m0)) (worded m0 (take (3 + fractionBytes m0) (drop o s)))

@@ -1,0 +1,182 @@
+-- The numbers of the calls for C (docs/ABI.md, bindings/feed.h): kinds of values and their parts, dialects, statuses, and the order in
+-- which every answer has its numbers. `numbers` in proofs/Numbers.antt proves all of it. Assumes nothing.
+use Prim.Native.Nat.{ℕ, suc}
+use mathlib.Core.Path.{_≡_}
+use mathlib.Core.List.{List, [], _∷_}
+use lib.ListN.{length, replicate}
+use Rattle.wire.specs.Outcome.{Outcome, ok, refuse}
+use Rattle.value.specs.declared.classes.Dialect.the-variants.{Document, Mysql, Mariadb}
+use Rattle.feed_abi.specs.Answers.{statusOf, numbersLeft, bytesLeft}
+use Rattle.feed_abi.specs.Calls.{dialectOf, feedMap, feedCheck, feedColumn, feedNames, feedName}
+use Rattle.feed_abi.specs.Calls.{feedFirst, feedStep, feedStart, feedPut, feedRows, feedImage}
+use Rattle.promises.specs.Tables.{Each, worked, workedEvent, workedImage}
+
+-- eleven columns: TINYINT, TINYINT UNSIGNED, FLOAT, DOUBLE, TIMESTAMP(6), YEAR, DATE, DATETIME(6), TIME(6), VARCHAR(276), TINYINT that may
+-- be NULL
+abbrev pub everyKind : List ℕ
+everyKind =
+    0x48 ∷ 0x00 ∷ 0x01 ∷ 0x00 ∷ 0x0b ∷ 0x00
+    ∷ 0x01 ∷ 0x0c ∷ 0x00 ∷ 0x00 ∷ 0x00 ∷ 0x00
+    ∷ 0x01 ∷ 0x0d ∷ 0x00 ∷ 0x00 ∷ 0x00 ∷ 0x00
+    ∷ 0x04 ∷ 0x0c ∷ 0x04 ∷ 0x00 ∷ 0x00 ∷ 0x00
+    ∷ 0x05 ∷ 0x0c ∷ 0x08 ∷ 0x00 ∷ 0x00 ∷ 0x00
+    ∷ 0x11 ∷ 0x08 ∷ 0x06 ∷ 0x00 ∷ 0x00 ∷ 0x00
+    ∷ 0x0d ∷ 0x08 ∷ 0x00 ∷ 0x00 ∷ 0x00 ∷ 0x00
+    ∷ 0x0e ∷ 0x08 ∷ 0x00 ∷ 0x00 ∷ 0x00 ∷ 0x00
+    ∷ 0x12 ∷ 0x08 ∷ 0x06 ∷ 0x00 ∷ 0x00 ∷ 0x00
+    ∷ 0x13 ∷ 0x08 ∷ 0x06 ∷ 0x00 ∷ 0x00 ∷ 0x00
+    ∷ 0x0f ∷ 0x08 ∷ 0x14 ∷ 0x01 ∷ 0x21 ∷ 0x02
+    ∷ 0x01 ∷ 0x0e ∷ 0x00 ∷ 0x00 ∷ 0x00 ∷ 0x00
+    ∷ []
+
+-- all of them are present, and the last is NULL
+abbrev pub present : List ℕ
+present = 0xff ∷ 0x07 ∷ []
+
+abbrev pub nulls : List ℕ
+nulls = 0x00 ∷ 0xfc ∷ []
+
+abbrev pub kindsImage : List ℕ
+kindsImage =
+    0x00 ∷ 0xfc
+    ∷ 0xfe
+    ∷ 0xc8
+    ∷ 0x00 ∷ 0x00 ∷ 0x80 ∷ 0x3f
+    ∷ 0x00 ∷ 0x00 ∷ 0x00 ∷ 0x00 ∷ 0x00 ∷ 0x00 ∷ 0xf0 ∷ 0x3f
+    ∷ 0x65 ∷ 0x53 ∷ 0xf1 ∷ 0x00 ∷ 0x00 ∷ 0x00 ∷ 0x07
+    ∷ 0x64
+    ∷ 0x3f ∷ 0xa0 ∷ 0x0f
+    ∷ 0x99 ∷ 0x2d ∷ 0x78 ∷ 0x71 ∷ 0x49 ∷ 0x00 ∷ 0x00 ∷ 0x7b
+    ∷ 0x7f ∷ 0xef ∷ 0x7c ∷ 0xff ∷ 0xff ∷ 0xfc
+    ∷ 0x02 ∷ 0x00 ∷ 0x61 ∷ 0x62
+    ∷ []
+
+-- a cursor's column and offset, and the eleven numbers of a step from there: kind, column, next column, next offset, and seven parts
+abbrev pub StepTells : ℕ × ℕ × List ℕ → Type 0
+StepTells x = feedStep everyKind present kindsImage (x .0) (x .1) ≡ ok (x .2)
+
+unfoldable pub steps : List (ℕ × ℕ × List ℕ)
+steps =
+    (0, 2, 2 ∷ 0 ∷ 1 ∷ 3 ∷ 18446744073709551614 ∷ 0 ∷ 0 ∷ 0 ∷ 0 ∷ 0 ∷ 0 ∷ [])
+    ∷ (1, 3, 3 ∷ 1 ∷ 2 ∷ 4 ∷ 200 ∷ 0 ∷ 0 ∷ 0 ∷ 0 ∷ 0 ∷ 0 ∷ [])
+    ∷ (2, 4, 4 ∷ 2 ∷ 3 ∷ 8 ∷ 1065353216 ∷ 0 ∷ 0 ∷ 0 ∷ 0 ∷ 0 ∷ 0 ∷ [])
+    ∷ (3, 8, 5 ∷ 3 ∷ 4 ∷ 16 ∷ 4607182418800017408 ∷ 0 ∷ 0 ∷ 0 ∷ 0 ∷ 0 ∷ 0 ∷ [])
+    ∷ (4, 16, 6 ∷ 4 ∷ 5 ∷ 23 ∷ 1700000000 ∷ 7 ∷ 0 ∷ 0 ∷ 0 ∷ 0 ∷ 0 ∷ [])
+    ∷ (5, 23, 7 ∷ 5 ∷ 6 ∷ 24 ∷ 2000 ∷ 0 ∷ 0 ∷ 0 ∷ 0 ∷ 0 ∷ 0 ∷ [])
+    ∷ (6, 24, 8 ∷ 6 ∷ 7 ∷ 27 ∷ 2000 ∷ 1 ∷ 31 ∷ 0 ∷ 0 ∷ 0 ∷ 0 ∷ [])
+    ∷ (7, 27, 9 ∷ 7 ∷ 8 ∷ 35 ∷ 1983 ∷ 2 ∷ 28 ∷ 7 ∷ 5 ∷ 9 ∷ 123 ∷ [])
+    ∷ (8, 35, 10 ∷ 8 ∷ 9 ∷ 41 ∷ 1 ∷ 1 ∷ 2 ∷ 3 ∷ 4 ∷ 0 ∷ 0 ∷ [])
+    ∷ (9, 41, 11 ∷ 9 ∷ 10 ∷ 45 ∷ 43 ∷ 2 ∷ 0 ∷ 0 ∷ 0 ∷ 0 ∷ 0 ∷ [])
+    ∷ (10, 45, 1 ∷ 10 ∷ 11 ∷ 45 ∷ 0 ∷ 0 ∷ 0 ∷ 0 ∷ 0 ∷ 0 ∷ 0 ∷ [])
+    ∷ (11, 45, 0 ∷ 0 ∷ 0 ∷ 45 ∷ 0 ∷ 0 ∷ 0 ∷ 0 ∷ 0 ∷ 0 ∷ 0 ∷ [])
+    ∷ []
+
+-- a column, the kind and the parts of a value for it, and the bytes that are put; its own bytes are lent as 7a 61 62
+pub record Put : Type 0 where
+  pub column : ℕ
+  pub kind : ℕ
+  pub parts : List ℕ
+  pub bytes : List ℕ
+
+abbrev pub put : ℕ → ℕ → List ℕ → List ℕ → Put
+put column kind parts bytes = record { column = column; kind = kind; parts = parts; bytes = bytes }
+
+-- put at the buffer's start, with the next column and offset told
+abbrev pub PutStores : Put → Type 0
+PutStores x =
+    feedPut everyKind present nulls (x .column) 0 (x .kind) (x .parts) (0x7a ∷ 0x61 ∷ 0x62 ∷ []) (replicate (length (x .bytes)) 0)
+    ≡ ok (suc (x .column) ∷ length (x .bytes) ∷ [], x .bytes)
+
+unfoldable pub puts : List Put
+puts =
+    put 0 2 (18446744073709551614 ∷ []) (0xfe ∷ [])
+    ∷ put 1 3 (200 ∷ []) (0xc8 ∷ [])
+    ∷ put 2 4 (1065353216 ∷ []) (0x00 ∷ 0x00 ∷ 0x80 ∷ 0x3f ∷ [])
+    ∷ put 3 5 (4607182418800017408 ∷ []) (0x00 ∷ 0x00 ∷ 0x00 ∷ 0x00 ∷ 0x00 ∷ 0x00 ∷ 0xf0 ∷ 0x3f ∷ [])
+    ∷ put 4 6 (1700000000 ∷ 7 ∷ []) (0x65 ∷ 0x53 ∷ 0xf1 ∷ 0x00 ∷ 0x00 ∷ 0x00 ∷ 0x07 ∷ [])
+    ∷ put 5 7 (2000 ∷ []) (0x64 ∷ [])
+    ∷ put 6 8 (2000 ∷ 1 ∷ 31 ∷ []) (0x3f ∷ 0xa0 ∷ 0x0f ∷ [])
+    ∷ put 7 9 (1983 ∷ 2 ∷ 28 ∷ 7 ∷ 5 ∷ 9 ∷ 123 ∷ []) (0x99 ∷ 0x2d ∷ 0x78 ∷ 0x71 ∷ 0x49 ∷ 0x00 ∷ 0x00 ∷ 0x7b ∷ [])
+    ∷ put 8 10 (1 ∷ 1 ∷ 2 ∷ 3 ∷ 4 ∷ []) (0x7f ∷ 0xef ∷ 0x7c ∷ 0xff ∷ 0xff ∷ 0xfc ∷ [])
+    ∷ put 9 11 (1 ∷ 2 ∷ []) (0x02 ∷ 0x00 ∷ 0x61 ∷ 0x62 ∷ [])
+    ∷ put 10 1 [] []
+    ∷ []
+
+-- an update of the second edition, with the rows 5 and 6 of one TINYINT column
+abbrev pub update : List ℕ
+update = 0x2a ∷ 0x00 ∷ 0x00 ∷ 0x00 ∷ 0x00 ∷ 0x00 ∷ 0x01 ∷ 0x00 ∷ 0x02 ∷ 0x00 ∷ 0x01 ∷ 0x01 ∷ 0x01 ∷ 0xfe ∷ 0x05 ∷ 0xfe ∷ 0x06 ∷ []
+
+-- a step over its images, with a second set or none, from an offset, of the first set or the second
+abbrev pub imageFrom : ℕ → ℕ → ℕ → Outcome (List ℕ)
+imageFrom hasSecond offset second =
+    feedImage (0x0c ∷ 0x00 ∷ 0x01 ∷ 0x00 ∷ 0x01 ∷ 0x00 ∷ 0x01 ∷ 0x08 ∷ 0x00 ∷ 0x00 ∷ 0x00 ∷ 0x00 ∷ [])
+    update 11 1 hasSecond 12 1 offset second
+
+-- an event of one INT column, with these optional bytes
+abbrev pub oneColumn : List ℕ → List ℕ
+oneColumn optional =
+    0x2a ∷ 0x00 ∷ 0x00 ∷ 0x00 ∷ 0x00 ∷ 0x00 ∷ 0x01 ∷ 0x00 ∷ 0x01 ∷ 0x74 ∷ 0x00 ∷ 0x01 ∷ 0x72 ∷ 0x00 ∷ 0x01 ∷ 0x03 ∷ 0x00 ∷ 0x00 ∷ optional
+
+pub record Numbers : Type 0 where
+  -- ---- every call
+  -- status 0 and the numbers, or the refusal's number and its place; 8, and nothing changed, without room for the numbers. Bytes are left
+  -- as the writer leaves them
+  pub answered : (statusOf 2 (7 ∷ 7 ∷ 7 ∷ []) (ok (5 ∷ 6 ∷ [])) ≡ 0) × (numbersLeft 2 (7 ∷ 7 ∷ 7 ∷ []) (ok (5 ∷ 6 ∷ [])) ≡ 5 ∷ 6 ∷ 7 ∷ [])
+  pub refused : (statusOf 2 (7 ∷ 7 ∷ 7 ∷ []) (refuse 14 9) ≡ 14) × (numbersLeft 2 (7 ∷ 7 ∷ 7 ∷ []) (refuse 14 9) ≡ 9 ∷ 7 ∷ 7 ∷ [])
+  pub no-room : (statusOf 2 (7 ∷ []) (ok (5 ∷ 6 ∷ [])) ≡ 8) × (numbersLeft 2 (7 ∷ []) (ok (5 ∷ 6 ∷ [])) ≡ 7 ∷ [])
+  pub bytes-left : (bytesLeft 1 (7 ∷ []) (1 ∷ []) (ok (5 ∷ [], 2 ∷ [])) ≡ 2 ∷ [])
+      × (bytesLeft 1 (7 ∷ []) (1 ∷ []) (refuse 8 0) ≡ 1 ∷ []) × (bytesLeft 1 [] (1 ∷ []) (ok (5 ∷ [], 2 ∷ [])) ≡ 1 ∷ [])
+  -- ---- maps
+  -- table id, flags, start and length of the database's name and of the table's
+  pub map-numbers : feedMap
+      (0x2a ∷ 0x00 ∷ 0x00 ∷ 0x00 ∷ 0x00 ∷ 0x00 ∷ 0x01 ∷ 0x00 ∷ 0x02 ∷ 0x61 ∷ 0x62 ∷ 0x00 ∷ 0x03 ∷ 0x63 ∷ 0x64 ∷ 0x65 ∷ 0x00 ∷ 0x00
+      ∷ 0x00 ∷ []) 8
+      ≡ ok (42 ∷ 1 ∷ 9 ∷ 2 ∷ 13 ∷ 3 ∷ [])
+  -- 0 is the document, 1 MySQL, 2 MariaDB, and there is no other
+  pub dialects : (dialectOf 0 ≡ ok Document) × (dialectOf 1 ≡ ok Mysql) × (dialectOf 2 ≡ ok Mariadb) × (dialectOf 3 ≡ refuse 13 0)
+  -- the length of the record, which stands at the buffer's start
+  pub check-numbers : feedCheck workedEvent 8 0 (replicate 24 0) ≡ ok (24 ∷ [], worked)
+  -- real type, flags, m0, m1, charset; and 14 for a column that there is not
+  pub column-numbers : feedColumn everyKind 9 ≡ ok (15 ∷ 8 ∷ 20 ∷ 1 ∷ 545 ∷ [])
+  pub no-column : feedColumn everyKind 11 ≡ refuse 14 11
+  -- 1, start and length of the names in an event of one column, which may have no bytes; zeros where there are none; and the refusal of a field
+  -- before them
+  pub names-numbers : (feedNames (oneColumn (0x04 ∷ 0x03 ∷ 0x02 ∷ 0x61 ∷ 0x62 ∷ [])) 8 0 ≡ ok (1 ∷ 20 ∷ 3 ∷ []))
+      × (feedNames (oneColumn (0x04 ∷ 0x00 ∷ [])) 8 0 ≡ ok (1 ∷ 20 ∷ 0 ∷ []))
+      × (feedNames (oneColumn []) 8 0 ≡ ok (0 ∷ 0 ∷ 0 ∷ []))
+      × (feedNames (oneColumn (0x01 ∷ 0x00 ∷ 0x04 ∷ 0x03 ∷ 0x02 ∷ 0x61 ∷ 0x62 ∷ [])) 8 0 ≡ refuse 7 18)
+  -- start and length of a name in a list: the operator's where there are no names
+  pub name-numbers : (feedName (0x01 ∷ 0x61 ∷ 0x02 ∷ 0x62 ∷ 0x63 ∷ []) (0x00 ∷ []) 1 ≡ ok (3 ∷ 2 ∷ []))
+      × (feedName [] (0x01 ∷ 0x61 ∷ 0x02 ∷ 0x62 ∷ 0x63 ∷ []) 1 ≡ ok (3 ∷ 2 ∷ []))
+      × (feedName (0x01 ∷ 0x61 ∷ []) (0x00 ∷ 0x00 ∷ []) 1 ≡ refuse 14 1)
+  -- ---- rows
+  -- column and offset; the start sets spare null bits
+  pub first-numbers : feedFirst everyKind present ≡ ok (0 ∷ 2 ∷ [])
+  pub start-numbers : feedStart everyKind present (0x00 ∷ 0x04 ∷ []) (0 ∷ 0 ∷ 0 ∷ []) ≡ ok (0 ∷ 2 ∷ [], 0x00 ∷ 0xfc ∷ 0 ∷ [])
+  pub step-numbers : Each StepTells steps
+  -- under document 01's record with the first column absent, the third from its own cursor: its null bit is the second
+  pub step-absent : feedStep worked (0x06 ∷ []) (0x02 ∷ 0x00 ∷ []) 2 2 ≡ ok (1 ∷ 2 ∷ 3 ∷ 2 ∷ 0 ∷ 0 ∷ 0 ∷ 0 ∷ 0 ∷ 0 ∷ 0 ∷ [])
+  -- an offset past the image is 9 at the cursor's column; a value for NULL and NULL for a value are 13 at the column found
+  pub step-past : feedStep worked (0x07 ∷ []) workedImage 2 10 ≡ refuse 9 2
+  pub put-null : feedPut worked (0x05 ∷ []) (0x00 ∷ []) 1 0 1 [] [] [] ≡ refuse 13 2
+  pub put-value : feedPut worked (0x05 ∷ []) (0x02 ∷ []) 1 0 3 (200 ∷ []) [] [] ≡ refuse 13 2
+  pub put-numbers : Each PutStores puts
+  -- a kind that there is not, a part too few, and one that is too great
+  pub no-put : (feedPut everyKind present nulls 0 0 0 [] [] [] ≡ refuse 13 0)
+      × (feedPut everyKind present nulls 0 0 12 [] [] [] ≡ refuse 13 0)
+      × (feedPut everyKind present nulls 6 0 8 (2000 ∷ 1 ∷ []) [] [] ≡ refuse 13 0)
+      × (feedPut everyKind present nulls 8 0 10 (2 ∷ 0 ∷ 0 ∷ 1 ∷ 0 ∷ []) [] [] ≡ refuse 13 0)
+  -- ---- rows events
+  -- flags; whether there is extra data, its start and length; start and length of the presence bits; whether there is a second set, its
+  -- start and length; where the images begin
+  pub rows-numbers : feedRows 31 everyKind 42
+      (0x2a ∷ 0x00 ∷ 0x00 ∷ 0x00 ∷ 0x00 ∷ 0x00 ∷ 0x03 ∷ 0x00 ∷ 0x04 ∷ 0x00 ∷ 0xaa ∷ 0xbb ∷ 0x0b ∷ 0xff ∷ 0x07 ∷ 0x01 ∷ 0x00 ∷ [])
+      ≡ ok (3 ∷ 1 ∷ 10 ∷ 2 ∷ 13 ∷ 2 ∷ 1 ∷ 15 ∷ 2 ∷ 17 ∷ [])
+  pub absent-numbers : feedRows 23 everyKind 42
+      (0x2a ∷ 0x00 ∷ 0x00 ∷ 0x00 ∷ 0x00 ∷ 0x00 ∷ 0x03 ∷ 0x00 ∷ 0x0b ∷ 0xff ∷ 0x07 ∷ [])
+      ≡ ok (3 ∷ 0 ∷ 0 ∷ 0 ∷ 9 ∷ 2 ∷ 0 ∷ 0 ∷ 0 ∷ 11 ∷ [])
+  -- under one TINYINT column, the rows 5 to 6 and nothing behind them: 1, start and length of the image, whether it stands under the second
+  -- set, the next offset and whether that is the second's; zeros at the end. The sets are asked for by start and length, the second behind
+  -- whether there is one
+  pub image-numbers : (imageFrom 1 13 0 ≡ ok (1 ∷ 13 ∷ 2 ∷ 0 ∷ 15 ∷ 1 ∷ [])) × (imageFrom 1 15 1 ≡ ok (1 ∷ 15 ∷ 2 ∷ 1 ∷ 17 ∷ 0 ∷ []))
+      × (imageFrom 1 17 0 ≡ ok (0 ∷ 0 ∷ 0 ∷ 0 ∷ 0 ∷ 0 ∷ [])) × (imageFrom 0 15 1 ≡ ok (1 ∷ 15 ∷ 2 ∷ 0 ∷ 17 ∷ 0 ∷ []))

@@ -1,0 +1,17 @@
+-- The port: all that is stated of it. Nothing stated stands outside. `port` in proofs/Port.antt proves it. Assumes nothing.
+use Rattle.promises.specs.Demand1.{Demand1}
+use Rattle.promises.specs.Demand2.{Demand2}
+use Rattle.promises.specs.Demand3.{Demand3}
+use Rattle.promises.specs.Readings.{Readings}
+use Rattle.promises.specs.RowsEvents.{RowsEvents}
+
+pub record Port : Type 1 where
+  -- the user's three demands
+  pub demand1 : Demand1
+  pub demand2 : Demand2
+  pub demand3 : Demand3
+  -- the definitions held against the paper's own numbers
+  pub readings : Readings
+  -- ---- the requests of document 02
+  -- request 1: rows events
+  pub rows-events : RowsEvents

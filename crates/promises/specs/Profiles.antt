@@ -1,0 +1,58 @@
+-- The profile record: it is valid exactly if its bytes are as document 01 has them, told byte by byte and in numbers. `profiles` in
+-- proofs/Profiles.antt proves it. Assumes nothing.
+use Prim.Native.Nat.{ℕ, _+_, _*_, _/_, _%_, _≤_, _<_}
+use mathlib.Core.Path.{_≡_}
+use mathlib.Core.Bool.{true, false}
+use mathlib.Core.List.{List, [], _∷_}
+use lib.ListN.{length, getD}
+use Rattle.wire.specs.Number.{Bytes}
+use Rattle.record.specs.Records.{recordValid}
+use Rattle.promises.specs.Refusals.{isAmong}
+
+-- a real type, and the m0 and m1 that it is accepted with: document 01's table, line by line. "No type 10, and 254 only where m0 or-ed with
+-- 0x30 is 254"
+pub data Accepted : ℕ → ℕ → ℕ → Type 0 where
+  none : (t : ℕ) → isAmong t (1 ∷ 2 ∷ 3 ∷ 7 ∷ 8 ∷ 9 ∷ 11 ∷ 12 ∷ 13 ∷ 14 ∷ []) ≡ true → Accepted t 0 0
+  float : Accepted 4 4 0
+  double : Accepted 5 8 0
+  fraction : (t m0 : ℕ) → isAmong t (17 ∷ 18 ∷ 19 ∷ []) ≡ true → m0 ≤ 6 → Accepted t m0 0
+  blob : (t m0 : ℕ) → isAmong t (242 ∷ 249 ∷ 250 ∷ 251 ∷ 252 ∷ 255 ∷ []) ≡ true → 1 ≤ m0 → m0 ≤ 4 → Accepted t m0 0
+  json : Accepted 245 4 0
+  text : (t m0 m1 : ℕ) → isAmong t (15 ∷ 253 ∷ []) ≡ true → Accepted t m0 m1
+  bit : (m0 m1 : ℕ) → m0 ≤ 7 → 1 ≤ 8 * m1 + m0 → 8 * m1 + m0 ≤ 64 → Accepted 16 m0 m1
+  decimal : (precision scale : ℕ) → 1 ≤ precision → precision ≤ 65 → scale ≤ 30 → scale ≤ precision → Accepted 246 precision scale
+  enum : (m0 m1 : ℕ) → 1 ≤ m1 → m1 ≤ 2 → Accepted 247 m0 m1
+  set : (m0 m1 : ℕ) → isAmong m1 (1 ∷ 2 ∷ 3 ∷ 4 ∷ 8 ∷ []) ≡ true → Accepted 248 m0 m1
+  char : (m0 m1 : ℕ) → isAmong m0 (0xce ∷ 0xde ∷ 0xee ∷ 0xfe ∷ []) ≡ true → Accepted 254 m0 m1
+
+-- the six bytes of a column: real type, flags, m0, m1, charset
+pub record ValidColumn (kind flags m0 m1 charset : ℕ) : Type 0 where
+  pub metadata : Accepted kind m0 m1
+  -- 1 unsigned, 2 nullable, 4 signedness known, 8 visible; the rest zero
+  pub below-16 : flags < 16
+  -- 1 only with 4
+  pub unsigned : flags % 2 ≡ 1 → flags / 4 % 2 ≡ 1
+  -- 4, and so 1, only on numeric columns
+  pub known : flags / 4 % 2 ≡ 1 → isAmong kind (1 ∷ 2 ∷ 3 ∷ 4 ∷ 5 ∷ 8 ∷ 9 ∷ 246 ∷ []) ≡ true
+  -- charset 0 on other than character, ENUM and SET columns
+  pub no-charset : isAmong kind (15 ∷ 247 ∷ 248 ∷ 252 ∷ 253 ∷ 254 ∷ []) ≡ false → charset ≡ 0
+
+abbrev pub byte : List ℕ → ℕ → ℕ
+byte r i = getD r i 0
+
+pub record ValidRecord (r : List ℕ) : Type 0 where
+  -- length of the whole record, which has nothing after it
+  pub said : byte r 0 + 256 * byte r 1 ≡ length r
+  -- kind 1
+  pub kind-low : byte r 2 ≡ 1
+  pub kind-high : byte r 3 ≡ 0
+  -- n, zero, and 6 bytes a column
+  pub zero : byte r 5 ≡ 0
+  pub whole : length r ≡ 6 + 6 * byte r 4
+  pub columns : (j : ℕ) → j < byte r 4
+      → ValidColumn (byte r (6 + 6 * j)) (byte r (7 + 6 * j)) (byte r (8 + 6 * j)) (byte r (9 + 6 * j))
+      (byte r (10 + 6 * j) + 256 * byte r (11 + 6 * j))
+
+pub record Profiles : Type 0 where
+  pub valid-so : (r : List ℕ) → Bytes r → recordValid r ≡ true → ValidRecord r
+  pub so-valid : (r : List ℕ) → Bytes r → ValidRecord r → recordValid r ≡ true
