@@ -1,6 +1,6 @@
 -- The items of a walk between two places, by any rule whose items move. Assumes nothing.
 use Prim.Native.Nat.{ℕ, _≤_, _<_}
-use mathlib.Core.Path.{_≡_, refl}
+use mathlib.Core.Path.{_≡_, refl, ap}
 use mathlib.Core.Logic.{dite, _⊎_, inl, inr, ⊎-elim}
 use mathlib.Core.List.{List, [], _∷_, _++_}
 use native.Mathlib.Decide.{decLe}
@@ -53,6 +53,11 @@ rises m none = inr (refl, refl)
 rises {A} {rule} {s} {at} {to} m (more {next = next} {a = a} f b) =
     let w = m .moves s at a next f in
     inl (⊎-elim (λ l. omega (arith, w .0, l)) (λ e. omega (arith, w .0, e .0)) (rises m b))
+
+-- so where there is one the places are apart
+pub filled : {A : Type 0} {rule : Rule A} {s : List ℕ} {at to : ℕ} {xs : List A} → Moves rule → Between rule s at to xs → 0 < length xs
+    → at < to
+filled m b h = ⊎-elim (λ l. l) (λ e. let z = ap length (e .1) in absurd (omega (arith, z, h))) (rises m b)
 
 -- the first of them, and those behind it
 pub record Parted {A : Type 0} (rule : Rule A) (s : List ℕ) (at to : ℕ) (xs : List A) : Type 0 where

@@ -227,6 +227,14 @@ not-both : {sizes : Ranks} {n : ℕ} {s before : List ℕ} {fs : List (ℕ × Pa
     → rivalOf one ≡ other → rivalOf other ≡ one → NotBoth one other (bare s fs)
 not-both t one other n r u v w a b = one-alone t n r u (first-member a) (first-member b)
 
+-- so keys with prefix stand without simple ones
+pub prefixed-alone : (sizes : Ranks) (c : FieldCursor) (s : List ℕ) (fs : List (ℕ × Part)) → keepFields sizes c s ≡ ok fs → (p : Part)
+    → firstOf 9 fs ≡ Value p → firstOf 8 fs ≡ Nothing
+unfolding rivalOf
+prefixed-alone sizes c s fs e p f =
+    absent-nothing s fs 8 (λ v m.
+    not-both (kept-fields sizes c s fs e) 8 9 (λ q. omega arith) refl refl v (lentPart s p) m (found-member s fs 9 p f))
+
 -- ---- keys that stand once
 keyed : (paired : Bool) (s : List ℕ) (fs : List (ℕ × Part)) (kind : ℕ) → onceIn paired s (firstOf kind fs) ≡ ok tt
     → Distinct (firsts (bare s fs)) → (value : List ℕ) → Member (kind, value) (bare s fs) → Distinct (walk (keyItem paired) value 0 .items)

@@ -31,9 +31,11 @@ use Rattle.map_check.specs.declared.found.Found.the-variants.{Value, Not
 use Rattle.map_check.specs.Columns.{metaBytes, declared, isAccepted, takeColumn, takeColumns}
 use Rattle.map_check.specs.Fields.{keepFields, firstOf, fieldsFrom}
 use Rattle.map_check.specs.Keys.{keysFrom, keysOnce, onceIn, keysHold}
-use Rattle.map_check.specs.Places.{Taken, TypeNotTaken, type-here, type-behind, MetadataWrong, short, not-accepted, left-over, metadata-behind, keysField, KeyRepeated, repeated}
+use Rattle.map_check.specs.Places.{Taken, TypeNotTaken, type-here, type-behind, MetadataWrong, short, not-accepted, left-over}
+use Rattle.map_check.specs.Places.{metadata-behind, keysField, KeysAre, Repeats, KeyRepeated, repeated}
 use Rattle.map_check.proofs.KeptFields.{kept-walk, nothing-not-value}
-use Rattle.map_check.proofs.Twice.{placeAt, refused-repeat}
+use Rattle.map_check.proofs.Twice.{placeAt, Repeat, refused-repeat, repeat-refused}
+use Rattle.map_check.proofs.Lined.{prefixed-alone}
 
 -- ---- columns
 -- one that is taken
@@ -154,3 +156,18 @@ key-repeated s postHeader sizes c fs w h k e =
     λ kind p v. found-at (c .numeric) (c .columns) s postHeader (suc (length s - c .at)) (c .at) h kind p (ap (firstOf kind) q ∙ v) in
     ⊎-elim (λ l. once-repeated false s postHeader (firstOf 8 fs) (found 8) w l) (λ r. once-repeated true s postHeader (firstOf 9 fs) (found 9) w (r .2))
     (after-refuses (onceIn false s (firstOf 8 fs)) (λ x. onceIn true s (firstOf 9 fs)) w e)
+
+-- ---- and the other way: the first key that repeats one is told
+once-told : (paired : Bool) (s : List ℕ) (p : Part) (q : ℕ) → Repeats paired (lentPart s p) q
+    → onceIn paired s (Value p) ≡ refuse 7 (p .start + q)
+once-told paired s p q r =
+    let items = keysFrom paired (lentPart s p) 0 in
+    let x : Repeat items (r .j) =
+    record { earlier = r .earlier; before = r .before; there = r .there; same = r .same; first = record { apart = r .first } } in
+    repeat-refused (p .start) items (r .j) x ∙ ap (λ (i : ℕ). refuse 7 (p .start + i)) (r .stands)
+
+pub key-told : (s : List ℕ) (sizes : Ranks) (c : FieldCursor) (fs : List (ℕ × Part)) (paired : Bool) (p : Part) (q : ℕ)
+    → keepFields sizes c s ≡ ok fs → KeysAre paired fs p → Repeats paired (lentPart s p) q → keysHold s fs ≡ refuse 7 (p .start + q)
+unfolding keysHold
+key-told s sizes c fs false p q k v r = rw (v, once-told false s p q r)
+key-told s sizes c fs true p q k v r = rw (prefixed-alone sizes c s fs k p v, v, once-told true s p q r)

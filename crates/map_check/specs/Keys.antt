@@ -1,4 +1,5 @@
--- "The first key index that stands twice is a 7": withPlace at the first byte of the earliest item, of field 8 or 9, that repeats an earlier one. Assumes nothing.
+-- "The first key index that stands twice is a 7": placed at the first byte of the earliest item, of field 8 or 9, that repeats an earlier
+-- one. Assumes nothing.
 use Prim.Native.Nat.{ℕ, _+_}
 use mathlib.Core.Bool.{Bool, true, false, cond}
 use mathlib.Core.List.{List, [], _∷_, _++_}

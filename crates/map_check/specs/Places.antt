@@ -8,12 +8,15 @@ use mathlib.Core.List.{List, [], _∷_}
 use lib.ListN.{length, getD, drop}
 use Rattle.wire.specs.Outcome.{ok}
 use Rattle.wire.specs.Packed.{readPacked}
+use Rattle.wire.specs.declared.part.Part.{Part}
 use Rattle.wire.specs.Parts.{part, partOf}
 use Rattle.wire.specs.Layouts.{string, Whole, CutShort, NotPacked}
 use Rattle.value.specs.Types.{familyOf, isKnown}
 use Rattle.table_map.specs.Fields.{isField}
 use Rattle.table_map.specs.Layouts.{fieldLayout, FieldAt}
+use Rattle.map_check.specs.declared.found.Found.the-variants.{Value}
 use Rattle.map_check.specs.Columns.{metaBytes, declared, isAccepted}
+use Rattle.map_check.specs.Fields.{firstOf}
 use Rattle.map_check.specs.Keys.{keysFrom}
 
 -- ---- columns: of the types, and of the metadata from the first one's on
@@ -60,6 +63,10 @@ pub data FieldWrong (s : List ℕ) (postHeader : ℕ) : ℕ → Type 0 where
 -- "8 simple key, 9 key with prefix"
 abbrev pub keysField : Bool → ℕ
 keysField paired = cond paired 9 8
+
+-- the value of that field is this part, among the fields that are kept
+abbrev pub KeysAre : Bool → List (ℕ × Part) → Part → Type 0
+KeysAre paired fs p = firstOf (keysField paired) fs ≡ Value p
 
 -- item j of a value of keys stands at p of it and repeats the column of an earlier one; no item before it does
 pub record Repeats (paired : Bool) (value : List ℕ) (p : ℕ) : Type 0 where

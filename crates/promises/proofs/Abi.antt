@@ -5,11 +5,12 @@ use mathlib.Core.Bool.{Bool, true, false, true≢false, cond}
 use mathlib.Core.List.{List, [], _∷_}
 use mathlib.Core.Option.{none, some}
 use native.Mathlib.Omega.{arith}
-use borrow.Author.Tests.{le-leb, leb-true}
-use lib.ListN.{length}
+use borrow.Author.Tests.{le-leb, lt-leb, leb-true}
+use lib.ListN.{length, getD, take}
 use lib.Dec.{leb, ltb, eqb}
 use Rattle.wire.specs.Outcome.{Outcome, ok, refused, after, why}
 use Rattle.wire.specs.Stored.{stored, store, answerOf, leftOf}
+use Rattle.wire.proofs.Stores.{stored-part}
 use Rattle.wire.proofs.Outcomes.{after-is-ok, test-is-ok, by-test, ok-not-refused, same-ok}
 use Rattle.value.specs.declared.datum.Value.the-variants.{Null}
 use Rattle.value_parts.specs.Parts.{kindOf, partsOf, padded, valueOf}
@@ -161,6 +162,16 @@ told-alone : (k : ℕ) (out : List ℕ) (answer : Outcome (List ℕ)) → Counts
 unfolding numbersLeft
 told-alone k out answer h (ns, e, l) = rw (le-leb k (length out) l, e) (all-told k out ns (h ns e) l)
 
+-- ---- what is told, where there is room for the numbers
+numbers-there : (k : ℕ) (out : List ℕ) (answer : Outcome (List ℕ)) (ns : List ℕ) → k ≤ length out → answer ≡ ok ns
+    → take (length ns) (numbersLeft k out answer) ≡ ns
+unfolding numbersLeft
+numbers-there k out answer ns l e = rw (le-leb k (length out) l, e) (stored-part out 0 ns (omega arith))
+
+place-there : (out : List ℕ) (p : ℕ) → getD (stored out 0 (p ∷ [])) 0 0 ≡ p
+unfolding stored
+place-there out p = refl
+
 pub abi : AbiCalls
 unfolding feedMap feedCheck feedNames feedName feedFirst feedStep feedStart feedPut feedRows feedImage statusOf numbersLeft bytesLeft inTable isAmong
 abi = record {
@@ -192,6 +203,10 @@ abi = record {
   names-none = λ event postHeader dialect d e f. names-asked event postHeader dialect d (ok none) e f;
   status-zero = λ k out answer ls h. (zero-answered k out answer ls h, answered-zero k out answer);
   status-table = λ k out answer ls h z. status-in-table (leb k (length out)) answer ls h z;
+  status-told = λ k out answer w l m e. rw (le-leb k (length out) m, e) (refl, place-there out (w .place));
+  no-numbers = λ k out answer l. rw (lt-leb k (length out) l) (refl, refl);
+  numbers-told = numbers-there;
+  bytes-told = λ k out buf rule ns left l e. rw (le-leb k (length out) l, e);
   numbers-kept = λ k out answer l h. numbers-left (leb k (length out)) out answer (λ u. let n = leb-true k (length out) u in omega arith) h;
   bytes-kept = λ k out buf rule h. bytes-left (leb k (length out)) buf rule h;
   map-six = λ event postHeader. said-counts 6 mapNumbers (readEvent event postHeader) (λ e. refl);

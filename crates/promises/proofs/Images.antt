@@ -1,21 +1,22 @@
 -- What a row can rely on under a valid record, from the laws of images. Assumes nothing.
-use Prim.Native.Nat.{ℕ, _-_, _^_, _≤_, _<_}
-use mathlib.Core.Path.{_≡_, refl, sym, subst}
+use Prim.Native.Nat.{ℕ, _+_, _-_, _^_, _≤_, _<_}
+use mathlib.Core.Path.{_≡_, refl, sym, ap, subst, _∙_}
 use mathlib.Core.Bool.{Bool, true, false, true≢false}
 use mathlib.Core.List.{List, [], _∷_}
 use native.Mathlib.Omega.{arith}
-use lib.ListN.{length}
-use Rattle.wire.specs.Outcome.{ok}
+use lib.ListN.{length, take, drop}
+use Rattle.wire.specs.Outcome.{Outcome, ok, refused, after}
 use Rattle.wire.specs.Number.{Bytes}
 use Rattle.wire.proofs.Inverse.{are-bytes}
-use Rattle.wire.proofs.Outcomes.{after-is-ok, by-test, both-true}
+use Rattle.wire.proofs.Outcomes.{ok-not-refused, after-is-ok, by-test, both-true}
 use Rattle.value.specs.declared.column.Column.{Column}
 use Rattle.value.specs.declared.shape.Shape.{Shape}
 use Rattle.value.specs.Columns.{shapeOf}
 use Rattle.value.specs.Data.{Datum, null, bytesIn}
 use Rattle.value.specs.Domains.{domain}
 use Rattle.value.specs.declared.datum.Value.{Value}
-use Rattle.value.specs.Reading.{readValue, placed}
+use Rattle.value.specs.Shapes.{bytesOf}
+use Rattle.value.specs.Reading.{readValue, placed, datumOf}
 use Rattle.value.proofs.Tables.{few-bytes}
 use Rattle.value_parts.specs.Parts.{topOfBits, isHeld}
 use Rattle.value_parts.proofs.Holds.{held-null}
@@ -24,7 +25,7 @@ use Rattle.record.specs.Entries.{columnOf}
 use Rattle.record.specs.Records.{countOf, entryIn, recordValid}
 use Rattle.image.specs.declared.cursor.Cursor.{Cursor}
 use Rattle.image.specs.Present.{Present, countBits, shapeAt, presentFrom, present}
-use Rattle.image.specs.Split.{Slot, slotsAt, value, stepOver, slotsLeft, stepFrom}
+use Rattle.image.specs.Split.{cursor, Slot, slotsAt, value, stepOver, slotsLeft, stepFrom}
 use Rattle.image.specs.Rows.{Row, isNull, inDomains}
 use Rattle.image.specs.WriteRow.{LentValue}
 use Rattle.image.proofs.Steps.{left-stands}
@@ -34,18 +35,19 @@ use Rattle.image.proofs.Presents.{each-from}
 use Rattle.image.proofs.Images.{every-image, only-says, no-other}
 use Rattle.image.proofs.WriteRows.{written, not-written, stopped}
 use Rattle.image.proofs.Papers.{give, nullsOf, giveRow, give-row, nulls-bytes, row-given}
+use Rattle.promises.specs.Values.{Within}
 use Rattle.promises.specs.Demand3.{RowHeld, Relied}
-use Rattle.promises.proofs.Values.{read-held}
+use Rattle.promises.proofs.Values.{read-sound, read-lent, read-held}
 use Rattle.promises.proofs.Rows.{EachSlot, each-slot}
 
 -- ---- a row on paper is one that a program has
 -- the columns of a record are columns
-abbrev OfColumn : Present → Type 0
-OfColumn c = (k : Column) × (c .shape ≡ shapeOf k)
+abbrev OfRecord : List ℕ → Present → Type 0
+OfRecord r c = c .shape ≡ shapeOf (columnOf (entryIn r (c .column)))
 
-columns : (r p : List ℕ) → Each OfColumn (present r p)
+columns : (r p : List ℕ) → Each (OfRecord r) (present r p)
 unfolding shapeAt
-columns r p = each-from OfColumn (countOf r) r p 0 (λ i a b. (columnOf (entryIn r i), refl))
+columns r p = each-from (OfRecord r) (countOf r) r p 0 (λ i a b. refl)
 
 abbrev Held : LentValue → Type 0
 Held g = (isHeld (g .value) ≡ true) × Bytes (g .lent) × (length (g .lent) < 2 ^ 32)
@@ -60,51 +62,73 @@ value-held c d h =
     let b = few-bytes c d h in
     (held-in c d (length (bytesIn d)) h (omega (arith, b .1)), are-bytes (bytesIn d) (b .0), omega (arith, b .1))
 
-one-held : (c : Present) (d : Datum) → OfColumn c → inCell c d ≡ true → Held (give d)
-one-held c d (k, e) h = go (isNull d) refl
+one-held : (r : List ℕ) (c : Present) (d : Datum) → OfRecord r c → inCell c d ≡ true → Held (give d)
+one-held r c d e h = go (isNull d) refl
   where
     go : (b : Bool) → isNull d ≡ b → Held (give d)
     go true n = subst (λ (x : Datum). Held (give x)) (sym (only-null d n)) null-held
-    go false n = value-held k d (subst (λ (x : Shape). domain x d ≡ true) e (rw n at h))
+    go false n = value-held (columnOf (entryIn r (c .column))) d (subst (λ (x : Shape). domain x d ≡ true) e (rw n at h))
 
-row-held : (cs : List Present) (ds : Row) → Each OfColumn cs → inDomains cs ds ≡ true → RowHeld (giveRow ds)
+row-held : (r : List ℕ) (cs : List Present) (ds : Row) → Each (OfRecord r) cs → inDomains cs ds ≡ true → RowHeld (giveRow ds)
 unfolding Each inDomains giveRow
-row-held [] [] u h = tt
-row-held [] (d ∷ ds) u h = absurd (true≢false (sym h))
-row-held (c ∷ cs) [] u h = absurd (true≢false (sym h))
-row-held (c ∷ cs) (d ∷ ds) u h =
+row-held r [] [] u h = tt
+row-held r [] (d ∷ ds) u h = absurd (true≢false (sym h))
+row-held r (c ∷ cs) [] u h = absurd (true≢false (sym h))
+row-held r (c ∷ cs) (d ∷ ds) u h =
     let w = both-true (inCell c d) (inDomains cs ds) h in
-    let x = one-held c d (u .0) (w .0) in
-    (x .0, x .1, x .2, row-held cs ds (u .1) (w .1))
+    let x = one-held r c d (u .0) (w .0) in
+    (x .0, x .1, x .2, row-held r cs ds (u .1) (w .1))
 
--- ---- and so is every value that a step tells
-slot-columns : (r p nulls : List ℕ) (j : ℕ) → EachSlot OfColumn (slotsAt r p nulls j)
+-- ---- a value that a step tells is one that is read, so what holds of these holds of it
+slot-columns : (r p nulls : List ℕ) (j : ℕ) → EachSlot (OfRecord r) (slotsAt r p nulls j)
 unfolding slotsAt shapeAt
 slot-columns r p nulls j =
-    each-slot OfColumn (presentFrom (countOf r - j) r p j) (countBits p j) nulls
-    (each-from OfColumn (countOf r - j) r p j (λ i a b. (columnOf (entryIn r i), refl)))
+    each-slot (OfRecord r) (presentFrom (countOf r - j) r p j) (countBits p j) nulls
+    (each-from (OfRecord r) (countOf r - j) r p j (λ i a b. refl))
 
-over-held : (is : List Slot) (im : List ℕ) (o j : ℕ) (v : Value) (next : Cursor) → EachSlot OfColumn is → Bytes im
-    → length im ≤ topOfBits 64 → stepOver is im o ≡ ok (value j v next) → isHeld v ≡ true
+told-read : (k j : ℕ) (o : Outcome (Value × ℕ)) (v : Value) (next : Cursor)
+    → after o (λ x. ok (value k (x .0) (cursor (k + 1) (x .1)))) ≡ ok (value j v next) → (k ≡ j) × (o ≡ ok (v, next .offset))
+told-read k j (ok x) v next e =
+    let same : x .0 ≡ v = cc in
+    let on : cursor (k + 1) (x .1) ≡ next = cc in
+    (cc, ap (λ (y : Value). ok (y, x .1)) same ∙ ap (λ (y : Cursor). ok (v, y .offset)) on)
+told-read k j (refused w) v next e = absurd (ok-not-refused (sym e))
+
+over-reads : (r : List ℕ) (is : List Slot) (im : List ℕ) (o j : ℕ) (v : Value) (next : Cursor) → EachSlot (OfRecord r) is
+    → stepOver is im o ≡ ok (value j v next) → readValue (shapeOf (columnOf (entryIn r j))) j im o ≡ ok (v, next .offset)
 unfolding stepOver EachSlot
-over-held [] im o j v next u y l e = let z : _≡_ {A = ℕ} 0 1 = cc in absurd (omega arith)
-over-held (i ∷ is) im o j v next u y l e =
-    let k = u .0 in
+over-reads r [] im o j v next u e = let z : _≡_ {A = ℕ} 0 1 = cc in absurd (omega arith)
+over-reads r (i ∷ is) im o j v next u e =
     by-test (i .null) _ _ (ok (value j v next)) e
     (λ t f. let z : _≡_ {A = ℕ} 0 1 = cc in absurd (omega arith))
     (λ t f.
-    let x = after-is-ok (readValue (i .present .shape) (i .present .column) im o) _ _ f in
-    let same : x .0 .0 ≡ v = cc in
-    let r = subst (λ (sh : Shape). readValue sh (i .present .column) im o ≡ ok (x .0)) (k .1) (x .1) in
-    subst (λ (w : Value). isHeld w ≡ true) same (read-held (k .0) (i .present .column) im o (x .0 .0) (x .0 .1) y l r))
+    let k = i .present .column in
+    let x = told-read k j (readValue (i .present .shape) k im o) v next f in
+    let y = subst (λ (sh : Shape). readValue sh k im o ≡ ok (v, next .offset)) (u .0) (x .1) in
+    subst (λ (m : ℕ). readValue (shapeOf (columnOf (entryIn r m))) m im o ≡ ok (v, next .offset)) (x .0) y)
+
+step-reads : (r p im : List ℕ) (c : Cursor) (j : ℕ) (v : Value) (next : Cursor) → stepFrom r p im c ≡ ok (value j v next)
+    → readValue (shapeOf (columnOf (entryIn r j))) j im (c .offset) ≡ ok (v, next .offset)
+unfolding stepFrom
+step-reads r p im c j v next e =
+    let a = after-is-ok (slotsLeft r p im c) _ _ e in
+    let s = left-stands r p im c (a .0) (a .1) in
+    over-reads r (a .0) im (c .offset) j v next (subst (EachSlot (OfRecord r)) (s .slots) (slot-columns r p im (c .column))) (a .2)
+
+pub step-sound : (r p im : List ℕ) (c : Cursor) (j : ℕ) (v : Value) (next : Cursor) → Bytes im → stepFrom r p im c ≡ ok (value j v next)
+    → (domain (shapeAt r j) (datumOf im v) ≡ true) × (c .offset ≤ next .offset) × (next .offset ≤ length im)
+    × (bytesOf (shapeAt r j) (datumOf im v) ≡ take (next .offset - c .offset) (drop (c .offset) im))
+unfolding shapeAt
+step-sound r p im c j v next y e = read-sound (columnOf (entryIn r j)) j im (c .offset) v (next .offset) y (step-reads r p im c j v next e)
+
+pub step-lent : (r p im : List ℕ) (c : Cursor) (j : ℕ) (v : Value) (next : Cursor) → Bytes im → stepFrom r p im c ≡ ok (value j v next)
+    → Within im (c .offset) (next .offset) v
+step-lent r p im c j v next y e = read-lent (columnOf (entryIn r j)) j im (c .offset) v (next .offset) y (step-reads r p im c j v next e)
 
 pub step-held : (r p im : List ℕ) (c : Cursor) (j : ℕ) (v : Value) (next : Cursor) → Bytes im → length im ≤ topOfBits 64
     → stepFrom r p im c ≡ ok (value j v next) → isHeld v ≡ true
-unfolding stepFrom
 step-held r p im c j v next y l e =
-    let a = after-is-ok (slotsLeft r p im c) _ _ e in
-    let s = left-stands r p im c (a .0) (a .1) in
-    over-held (a .0) im (c .offset) j v next (subst (EachSlot OfColumn) (s .slots) (slot-columns r p im (c .column))) y l (a .2)
+    read-held (columnOf (entryIn r j)) j im (c .offset) v (next .offset) y l (step-reads r p im c j v next e)
 
 -- ---- under every valid record
 pub relied : (r : List ℕ) → recordValid r ≡ true → Relied r
@@ -120,6 +144,6 @@ relied r v = record {
     row-given r p ds v b d,
     give-row ds,
     nulls-bytes ds,
-    row-held (present r p) ds (columns r p) d,
+    row-held r (present r p) ds (columns r p) d,
   );
 }

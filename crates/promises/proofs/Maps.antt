@@ -34,6 +34,7 @@ use Rattle.table_map.proofs.Steps.{item-read}
 use Rattle.table_map.proofs.Walks.{item-moves, whole-not-broken}
 use Rattle.table_map.proofs.Optional.{cut-read, field-read, field-moves}
 use Rattle.record.specs.Records.{recordBytes}
+use Rattle.map_check.specs.declared.declare.Declared.{Declared}
 use Rattle.map_check.specs.declared.rank.Ranks.{Ranks}
 use Rattle.map_check.specs.Columns.{metaBytes, declared, isAccepted, takeColumn, takeColumns}
 use Rattle.map_check.specs.Ranks.{sizesOf}
@@ -334,6 +335,18 @@ columns-told n d s postHeader buf e j r l h =
     let q = lent-in s postHeader e r in
     let z : 0 + j ≡ j = omega arith in
     rw (r, q .0, q .1, le-leb (length (typesIn s postHeader)) 255 l, h, z)
+
+-- and what its keys refuse
+pub keys-told : (d : Dialect) (s : List ℕ) (postHeader : ℕ) (buf : List ℕ) (e : Event) (cs : List Declared) (fs : List (ℕ × Part))
+    (w : Refusal)
+    → readEvent s postHeader ≡ ok e → length (typesIn s postHeader) ≤ 255
+    → takeColumns (typesIn s postHeader) (metadataIn s postHeader) 0 ≡ ok cs
+    → keepFields (sizesOf d cs) (fieldsAt d (typesIn s postHeader) (e .optional .start)) s ≡ ok fs → keysHold s fs ≡ refused w
+    → check d s postHeader buf ≡ refused w
+unfolding check checkMap checkEvent fewEnough
+keys-told d s postHeader buf e cs fs w r l c f h =
+    let q = lent-in s postHeader e r in
+    rw (r, q .0, q .1, le-leb (length (typesIn s postHeader)) 255 l, c, f, h)
 
 -- ---- names: of the strings up to the one asked, the first that fails
 pub string-found : {ls : List Line} (s : List ℕ) (asked : ℕ) → OneOf ls (why 14 asked)

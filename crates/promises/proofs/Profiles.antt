@@ -29,9 +29,11 @@ use Rattle.record.specs.Entries.{unsignedFlag, columnOf, flagsHold, charsetHold
 use Rattle.record.specs.Records.{countOf, entryAt, entryIn, entriesHold, headHolds, recordValid}
 use Rattle.record.proofs.Looks.{entry-bytes}
 use Rattle.record.proofs.Valid.{valid-entry}
+use Rattle.map_check.specs.declared.declare.Declared.{Declared}
+use Rattle.map_check.specs.Columns.{isReal, isAccepted}
 use Rattle.promises.specs.Refusals.{isAmong}
 use Rattle.promises.specs.Profiles.{Accepted, none, float, double, fraction, blob, json, text, bit, decimal, enum, set, char}
-use Rattle.promises.specs.Profiles.{ValidColumn, byte, ValidRecord, Profiles}
+use Rattle.promises.specs.Profiles.{ValidColumn, byte, ValidRecord, Listed, Profiles}
 
 -- ---- facts of every byte
 -- either way
@@ -358,5 +360,33 @@ so-valid r h v =
     (so-column _ _ _ _ _ (h (6 + 6 * i)) (h (8 + 6 * i)) (h (9 + 6 * i)) (v .columns i g)))) in
     rw (le-leb 6 (length r) (omega arith), eq-eqb _ _ (two r ∙ v .said), eq-eqb _ 1 k, eq-eqb _ 0 (v .zero), eq-eqb _ _ l, a)
 
+-- ---- the check's table
+or-none : (a b c : Bool) → (a || (b || (c || false))) ≡ (a || (b || c))
+or-none true b c = refl
+or-none false true c = refl
+or-none false false true = refl
+or-none false false false = refl
+
+real-so : (kind real : ℕ) → isReal kind real ≡ true → kind ≡ 254 → isAmong real (247 ∷ 248 ∷ 254 ∷ []) ≡ true
+unfolding isReal isAmong
+real-so kind real h e = or-none (eqb real 247) (eqb real 248) (eqb real 254) ∙ (rw (eq-eqb kind 254 e) at h)
+
+so-real : (kind real : ℕ) → (kind ≡ 254 → isAmong real (247 ∷ 248 ∷ 254 ∷ []) ≡ true) → isReal kind real ≡ true
+unfolding isReal isAmong
+so-real kind real h =
+    whether (eqb kind 254)
+    (λ t. rw t (sym (or-none (eqb real 247) (eqb real 248) (eqb real 254)) ∙ h (eqb-true kind 254 t)))
+    (λ t. rw t)
+
+accepted-so : (c : Declared) → c .real < 256 → c .m0 < 256 → c .m1 < 256 → isAccepted c ≡ true → Listed c
+unfolding isAccepted
+accepted-so c k a b e =
+    let x = both-true (isReal (c .kind) (c .real)) _ e in
+    (taken-in (c .real) (c .m0) (c .m1) false k a b (x .1), real-so (c .kind) (c .real) (x .0))
+
+so-accepted : (c : Declared) → c .real < 256 → c .m0 < 256 → c .m1 < 256 → Listed c → isAccepted c ≡ true
+unfolding isAccepted
+so-accepted c k a b (x, y) = rw (so-real (c .kind) (c .real) y) (taken-of (c .real) (c .m0) (c .m1) false k a b x)
+
 pub profiles : Profiles
-profiles = record { valid-so = valid-so; so-valid = so-valid }
+profiles = record { valid-so = valid-so; so-valid = so-valid; accepted-so = accepted-so; so-accepted = so-accepted }

@@ -13,12 +13,16 @@ use Rattle.value.specs.Columns.{shapeOf}
 use Rattle.value.proofs.Tables.{four-or-five}
 use Rattle.table_map.specs.Lists.{integerItem, pairItem, stringItem, groupItem}
 use Rattle.table_map.specs.Layouts.{eventLayout, pairLayout, groupLayout}
+use Rattle.map_check.specs.Ranks.{sizesOf}
+use Rattle.map_check.specs.Fields.{fieldsAt}
 use Rattle.map_check.specs.Names.{listOf, columnName}
-use Rattle.map_check.proofs.Places.{type-told, metadata-told}
-use Rattle.promises.specs.Refusals.{Line, _at_, _below_, _wherever_, OneOf, just, under, such, later, numberOf, refusalNumbers, isAmong, inTable, Only, EveryCall}
+use Rattle.map_check.proofs.Places.{type-told, metadata-told, key-told}
+use Rattle.promises.specs.Refusals.{Line, _at_, _below_, _wherever_, OneOf, just, under, such, later, numberOf, refusalNumbers}
+use Rattle.promises.specs.Refusals.{isAmong, inTable, Only, typesIn, EveryCall}
 use Rattle.promises.proofs.Only.{Listed, bytes-there, fixed, packed, long-part, Told, room}
 use Rattle.promises.proofs.Values.{temporal-read, temporal-written, column-taken, value-read, value-written, value-sized, value-made}
-use Rattle.promises.proofs.Maps.{event-read, event-written, event-sized, pair-item, group-item, stepped, field-stepped, field-cut, field-judged, checked, columns-told, string-found, names-found}
+use Rattle.promises.proofs.Maps.{event-read, event-written, event-sized, pair-item, group-item, stepped, field-stepped, field-cut}
+use Rattle.promises.proofs.Maps.{field-judged, checked, columns-told, keys-told, string-found, names-found}
 use Rattle.promises.proofs.RowsEvents.{rows-read, image-met}
 use Rattle.promises.proofs.Rows.{record-read, head-read, first-read, image-stepped, walk-ended, image-started, image-put, past-refused, null-refused}
 
@@ -119,6 +123,9 @@ refusals = record {
       (eleventh just));
   type-told = λ d event postHeader buf e j r l x. columns-told 4 d event postHeader buf e j r l (type-told x 0);
   metadata-told = λ d event postHeader buf e j r l x. columns-told 5 d event postHeader buf e j r l (metadata-told x 0);
+  key-told = λ d event postHeader buf e cs fs paired p q r l c f v x.
+      let kept = fieldsAt d (typesIn event postHeader) (e .optional .start) in
+      keys-told d event postHeader buf e cs fs _ r l c f (key-told event (sizesOf d cs) kept fs paired p q f v x);
   column-name = λ names operator c.
       only refl (string-found (listOf names operator) (c .0) just (λ p l x. second (such (l, x))) (λ p x. third (such x)));
   names-field = λ d event postHeader.

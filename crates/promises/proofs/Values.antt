@@ -2,35 +2,41 @@
 -- none are listed. Assumes nothing.
 use Prim.Native.Nat.{ℕ, _+_, _-_, _≤_, _<_}
 use mathlib.Core.Path.{_≡_, refl, sym, ap, subst, _∙_}
-use mathlib.Core.Bool.{Bool, true, false}
+use mathlib.Core.Bool.{Bool, true, false, false≢true}
 use mathlib.Core.Logic.{dite, ⊎-elim}
-use mathlib.Core.List.{List, _++_}
+use mathlib.Core.List.{List, [], _++_}
 use native.Mathlib.Decide.{decLe}
 use native.Mathlib.Omega.{arith}
-use borrow.Author.Tests.{leb-true}
+use borrow.Author.Tests.{le-leb, leb-true}
 use lib.ListN.{length, take, drop, length-drop}
 use lib.Dec.{leb, eqb}
 use lib.Seq.{length-take-le, drop-append-seam}
 use Rattle.wire.specs.declared.refusal.Refusal.{Refusal}
-use Rattle.wire.specs.Outcome.{Outcome, ok, refused, refuse, why}
+use Rattle.wire.specs.declared.part.Part.{Part}
+use Rattle.wire.specs.Outcome.{Outcome, ok, refused, refuse, why, after}
 use Rattle.wire.specs.Number.{Bytes}
+use Rattle.wire.specs.Parts.{part}
 use Rattle.wire.specs.Stored.{stored, store}
-use Rattle.wire.proofs.Outcomes.{after-is-ok, after-refuses, test-is-ok, same-ok, same-refused, ok-not-refused}
+use Rattle.wire.proofs.Outcomes.{after-is-ok, after-refuses, test-is-ok, test-refuses, same-ok, same-refused, ok-not-refused}
 use Rattle.wire.proofs.Stores.{stored-from, store-fits, store-full}
 use Rattle.wire.proofs.Inverse.{bytes-take, bytes-drop}
 use Rattle.temporal.specs.declared.kind.Kind.{Kind}
 use Rattle.temporal.specs.declared.parts.Temporal.{Temporal}
 use Rattle.temporal.specs.Domains.{domain as timedDomain}
 use Rattle.temporal.specs.Reading.{sizeOf as timedSize, fault as timedFault, bytesOf as timedBytes, readTemporal, writeTemporal}
+use Rattle.temporal.proofs.Forms.{sized as timed-sized}
 use Rattle.value.specs.declared.column.Column.{Column}
 use Rattle.value.specs.declared.datum.Value.{Value}
+use Rattle.value.specs.declared.datum.Value.the-variants.{Null, Int, Uint, Float, Double, Year, When}
 use Rattle.value.specs.declared.shape.Shape.{Shape}
+use Rattle.value.specs.declared.shape.Shape.the-variants.{Unsigned, Signed, FloatBits, DoubleBits, YearByte, Timed}
+use Rattle.value.specs.declared.shape.Shape.the-variants.{Fixed, Counted, NotTaken}
 use Rattle.value.specs.Columns.{shapeOf, isTaken}
-use Rattle.value.specs.Data.{Datum}
+use Rattle.value.specs.Data.{Datum, null, int, uint, float, double, year, when, bytes, tag, isBytes, bytesIn}
 use Rattle.value.specs.Domains.{domain}
 use Rattle.value.specs.Shapes.{bytesOf, need, decode, fault}
 use Rattle.value.specs.Reading.{taken, cut, judged, readDatum, readValue, placed, datumOf, Fails, short, range}
-use Rattle.value.specs.Storing.{isIn, storedBytes, sizeOf, writeValue}
+use Rattle.value.specs.Storing.{bytesAt, isLent, isIn, storedBytes, sizeOf, writeValue}
 use Rattle.value.proofs.Facts.{fault-bytes, taken-domain, whole, need-take}
 use Rattle.value.proofs.Laws.{back, sound, took, said-read, fails, fails-back, taken-at, taken-same}
 use Rattle.value.proofs.Tables.{sized, some-bytes, refused-number}
@@ -38,7 +44,7 @@ use Rattle.value.proofs.Writers.{is-in, writes-in, writes-out}
 use Rattle.value_parts.specs.Parts.{topOfBits, valueOf, isTaken as arePartsTaken, isHeld}
 use Rattle.value_parts.proofs.Inside.{held-in}
 use Rattle.promises.specs.Refusals.{Line, OneOf}
-use Rattle.promises.specs.Values.{NoValue, Takes, storedAs, Values}
+use Rattle.promises.specs.Values.{NoValue, Within, Takes, storedAs, Values}
 use Rattle.promises.proofs.Only.{Listed, done, stop, chain, test, room}
 
 -- ---- temporals
@@ -106,7 +112,7 @@ read-back : (c : Column) (d : Datum) (p : ℕ) (pre rest : List ℕ) → domain 
 unfolding readValue
 read-back c d p pre rest h = rw (drop-append-seam pre (bytesOf (shapeOf c) d ++ rest), back (shapeOf c) d p rest h)
 
-read-sound : (c : Column) (p : ℕ) (s : List ℕ) (at : ℕ) (v : Value) (next : ℕ) → Bytes s → readValue (shapeOf c) p s at ≡ ok (v, next)
+pub read-sound : (c : Column) (p : ℕ) (s : List ℕ) (at : ℕ) (v : Value) (next : ℕ) → Bytes s → readValue (shapeOf c) p s at ≡ ok (v, next)
     → (domain (shapeOf c) (datumOf s v) ≡ true) × (at ≤ next) × (next ≤ length s)
     × (bytesOf (shapeOf c) (datumOf s v) ≡ take (next - at) (drop at s))
 unfolding readValue
@@ -125,6 +131,59 @@ read-sound c p s at v next h e =
       omega (arith, m, t .size, t .fits, length-drop at s, some-bytes c (t .there) (drop at s)),
       rw (vv, k) (w .2),
     )
+
+-- ---- where a value's bytes stand
+-- bytes say no more of them than they are
+said-few : (sh : Shape) (b : List ℕ) → length (bytesIn (decode sh b)) ≤ length b
+unfolding decode bytesIn
+said-few (Unsigned k) b = omega arith
+said-few (Signed k) b = omega arith
+said-few FloatBits b = omega arith
+said-few DoubleBits b = omega arith
+said-few YearByte b = omega arith
+said-few (Timed k) b = omega arith
+said-few (Fixed n) b = omega arith
+said-few (Counted k) b = omega (arith, length-drop k b)
+said-few (NotTaken n) b = omega arith
+
+-- a value that is no bytes has none
+no-bytes : (v : Value) (s : List ℕ) (at next : ℕ) → bytesAt v ≡ part 0 0 → isBytes (datumOf [] v) ≡ false → Within s at next v
+unfolding isLent datumOf tag
+no-bytes v s at next a b =
+    (rw a (le-leb 0 (length s) (omega arith)), λ q e. absurd (false≢true (sym b ∙ ap (λ (x : Value). isBytes (datumOf [] x)) e)))
+
+-- and one that is bytes has the last
+placed-within : (d : Datum) (s : List ℕ) (at next : ℕ) → at + length (bytesIn d) ≤ next → next ≤ length s → Within s at next (placed next d)
+unfolding placed bytesIn isLent bytesAt datumOf tag
+placed-within null s at next l h = no-bytes Null s at next refl refl
+placed-within (int z) s at next l h = no-bytes (Int z) s at next refl refl
+placed-within (uint n) s at next l h = no-bytes (Uint n) s at next refl refl
+placed-within (float n) s at next l h = no-bytes (Float n) s at next refl refl
+placed-within (double n) s at next l h = no-bytes (Double n) s at next refl refl
+placed-within (year n) s at next l h = no-bytes (Year n) s at next refl refl
+placed-within (when t) s at next l h = no-bytes (When t) s at next refl refl
+placed-within (bytes b) s at next l h =
+    let k : at + length b ≤ next = l in
+    let x : (at ≤ next - length b) × (next - length b + length b ≡ next) = (omega (arith, k), omega (arith, k)) in (
+      le-leb (next - length b + length b) (length s) (omega (arith, k, h)),
+      λ q e. subst (λ (y : Part). (at ≤ y .start) × (y .start + y .len ≡ next)) (ap bytesAt e) x,
+    )
+
+pub read-lent : (c : Column) (p : ℕ) (s : List ℕ) (at : ℕ) (v : Value) (next : ℕ) → Bytes s → readValue (shapeOf c) p s at ≡ ok (v, next)
+    → Within s at next v
+unfolding readValue
+read-lent c p s at v next h e =
+    let x = after-is-ok (readDatum (shapeOf c) p (drop at s)) _ _ e in
+    let d = x .0 .0 in
+    let n = x .0 .1 in
+    let o = same-ok (x .2) in
+    let m : at + n ≡ next = ap (λ (y : Value × ℕ). y .1) o in
+    let t = took (shapeOf c) p (drop at s) d n (x .1) in
+    let f : length (bytesIn (decode (shapeOf c) (take n (drop at s)))) ≤ n =
+    omega (arith, said-few (shapeOf c) (take n (drop at s)), length-take-le n (drop at s) (t .fits)) in
+    let g : length (bytesIn d) ≤ n = subst (λ (y : Datum). length (bytesIn y) ≤ n) (sym (t .says)) f in
+    let b = read-sound c p s at v next h e in
+    subst (λ (y : Value × ℕ). Within s at (y .1) (y .0)) o (placed-within d s at (at + n) (omega (arith, g)) (omega (arith, m, b .2)))
 
 pub read-held : (c : Column) (p : ℕ) (s : List ℕ) (at : ℕ) (v : Value) (next : ℕ) → Bytes s → length s ≤ topOfBits 64
     → readValue (shapeOf c) p s at ≡ ok (v, next) → isHeld v ≡ true
@@ -239,10 +298,72 @@ write-read c p q lent v buf at next left e =
     let m : at + length (bytesOf sh (datumOf lent v)) ≡ next = ap (λ (y : List ℕ). at + length y) bs ∙ n in
     rw (r, back sh (datumOf lent v) q (drop (at + length (a .0)) buf) d, m)
 
+-- ---- the size
+size-told : (c : Column) (p : ℕ) (lent : List ℕ) (v : Value) (buf : List ℕ) (at next : ℕ) (left : List ℕ)
+    → writeValue (shapeOf c) p lent v buf at ≡ ok (next, left) → (n : ℕ) × (sizeOf (shapeOf c) p lent v ≡ ok n) × (next ≡ at + n)
+unfolding writeValue sizeOf store
+size-told c p lent v buf at next left e =
+    let a = after-is-ok (storedBytes (shapeOf c) p lent v) _ _ e in
+    let w = test-is-ok (leb (at + length (a .0)) (length buf)) (at + length (a .0), stored buf at (a .0)) (why 8 0) (next, left) (a .2) in
+    let n = ap (λ (o : Outcome (List ℕ)). after {B = ℕ} o (λ b. ok (length b))) (a .1) in
+    (length (a .0), n, sym (ap (λ (y : ℕ × List ℕ). y .0) (w .1)))
+
+-- the writer then stores as many bytes as the size tells
+size-store : (c : Column) (p : ℕ) (lent : List ℕ) (v : Value) (buf : List ℕ) (at n : ℕ) → sizeOf (shapeOf c) p lent v ≡ ok n
+    → (b : List ℕ) × (writeValue (shapeOf c) p lent v buf at ≡ store buf at b) × (length b ≡ n)
+unfolding writeValue sizeOf
+size-store c p lent v buf at n e =
+    let a = after-is-ok (storedBytes (shapeOf c) p lent v) _ _ e in
+    (a .0, ap (λ (o : Outcome (List ℕ)). after o (λ b. store buf at b)) (a .1), same-ok (a .2))
+
+size-room : (c : Column) (p : ℕ) (lent : List ℕ) (v : Value) (buf : List ℕ) (at n : ℕ) → sizeOf (shapeOf c) p lent v ≡ ok n
+    → (at + n ≤ length buf → (left : List ℕ) × (writeValue (shapeOf c) p lent v buf at ≡ ok (at + n, left)))
+    × (length buf < at + n → writeValue (shapeOf c) p lent v buf at ≡ refuse 8 0)
+size-room c p lent v buf at n e =
+    let a = size-store c p lent v buf at n e in
+    let b = a .0 in
+    let l = a .2 in (
+      λ h. (stored buf at b, a .1 ∙ store-fits buf b at (omega (arith, h, l)) ∙ ap (λ (m : ℕ). ok (at + m, stored buf at b)) l),
+      λ h. a .1 ∙ store-full buf b at (omega (arith, h, l)),
+    )
+
+size-refused : (c : Column) (p : ℕ) (lent : List ℕ) (v : Value) (buf : List ℕ) (at : ℕ) (w : Refusal)
+    → (sizeOf (shapeOf c) p lent v ≡ refused w → writeValue (shapeOf c) p lent v buf at ≡ refused w)
+    × (writeValue (shapeOf c) p lent v buf at ≡ refused w → (w ≡ why 8 0 → ⊥) → sizeOf (shapeOf c) p lent v ≡ refused w)
+unfolding writeValue sizeOf store
+size-refused c p lent v buf at w = (
+  λ e.
+      ⊎-elim
+      (λ (x : storedBytes (shapeOf c) p lent v ≡ refused w). rw x)
+      (λ x. absurd (ok-not-refused (x .2)))
+      (after-refuses (storedBytes (shapeOf c) p lent v) _ w e),
+  λ e k.
+      ⊎-elim
+      (λ (x : storedBytes (shapeOf c) p lent v ≡ refused w). rw x)
+      (λ x.
+      let b = x .0 in
+      absurd (k (sym (test-refuses (leb (at + length b) (length buf)) (at + length b, stored buf at b) (why 8 0) w (x .2) .1))))
+      (after-refuses (storedBytes (shapeOf c) p lent v) _ w e),
+)
+
+temporal-size : (k : Kind) (p : ℕ) (t : Temporal) (buf : List ℕ) (at : ℕ) → timedDomain k t ≡ true
+    → (length (timedBytes k t) ≡ timedSize k)
+    × (at + timedSize k ≤ length buf → writeTemporal k p buf at t ≡ ok (at + timedSize k, stored buf at (timedBytes k t)))
+    × (length buf < at + timedSize k → writeTemporal k p buf at t ≡ refuse 8 0)
+unfolding writeTemporal
+temporal-size k p t buf at d =
+    let b = timedBytes k t in
+    let l = timed-sized k t in (
+      l,
+      λ h. rw d (store-fits buf b at (omega (arith, h, l)) ∙ ap (λ (m : ℕ). ok (at + m, stored buf at b)) l),
+      λ h. rw d (store-full buf b at (omega (arith, h, l))),
+    )
+
 pub values : Values
 values = record {
   read-back = read-back;
   read-sound = read-sound;
+  read-lent = read-lent;
   read-refuses = read-refuses;
   ends-early = λ c p s at t. (
     λ e. fails-short (read-refuses c p s at (why 9 p) t e .1) refl,
@@ -262,6 +383,10 @@ values = record {
     λ h l. value-put c p lent v buf at h ∙ store-full buf (storedAs c lent v) at l,
   );
   write-read = write-read;
+  size-told = size-told;
+  size-room = size-room;
+  size-refused = size-refused;
+  temporal-size = temporal-size;
   held = held-in;
   read-held = read-held;
 }

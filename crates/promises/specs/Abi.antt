@@ -1,12 +1,13 @@
 -- Demand 1 for the calls of `feed_abi`, which programs in C make: which refusals each gives and at which places, and what that means to the caller, who sees a status, the numbers and the bytes
 -- lent. A call stands here by the answer that its contract hands to `statusOf`, `numbersLeft` and `bytesLeft`, whatever it is lent. `abi` in proofs/Abi.antt proves all of it. Assumes nothing.
-use Prim.Native.Nat.{ℕ, _≤_}
+use Prim.Native.Nat.{ℕ, _≤_, _<_}
 use mathlib.Core.Path.{_≡_}
 use mathlib.Core.Bool.{true}
 use mathlib.Core.List.{List, [], _∷_, _++_}
 use mathlib.Core.Option.{none, some}
-use lib.ListN.{length, getD, drop}
-use Rattle.wire.specs.Outcome.{Outcome, ok}
+use lib.ListN.{length, getD, take, drop}
+use Rattle.wire.specs.declared.refusal.Refusal.{Refusal}
+use Rattle.wire.specs.Outcome.{Outcome, ok, refused}
 use Rattle.wire.specs.Number.{Bytes}
 use Rattle.wire.specs.Stored.{answerOf}
 use Rattle.wire.specs.declared.part.Part.{Part}
@@ -79,10 +80,19 @@ pub record AbiCalls : Type 1 where
   -- else it is a number of document 01's table
   pub status-table : (k : ℕ) (out : List ℕ) (answer : Outcome (List ℕ)) (ls : List Line) → Only answer ls → (statusOf k out answer ≡ 0 → ⊥)
       → isAmong (statusOf k out answer) refusalNumbers ≡ true
-  -- and then the numbers are as they were, but for the first, which tells the place
+  -- that of the refusal, whose place is then the first number; without room for the numbers it is 8, and they are as they were
+  pub status-told : (k : ℕ) (out : List ℕ) (answer : Outcome (List ℕ)) (w : Refusal) → 1 ≤ k → k ≤ length out → answer ≡ refused w
+      → (statusOf k out answer ≡ w .number) × (getD (numbersLeft k out answer) 0 0 ≡ w .place)
+  pub no-numbers : (k : ℕ) (out : List ℕ) (answer : Outcome (List ℕ)) → length out < k → (statusOf k out answer ≡ 8) × (numbersLeft k out answer ≡ out)
+  -- and then the numbers are as they were, but for that first one
   pub numbers-kept : (k : ℕ) (out : List ℕ) (answer : Outcome (List ℕ)) → 1 ≤ k → (statusOf k out answer ≡ 0 → ⊥) → Touched out 0 1 (numbersLeft k out answer)
   -- and the bytes lent to a writer are as they were
   pub bytes-kept : (k : ℕ) (out buf : List ℕ) (rule : Outcome (List ℕ × List ℕ)) → (statusOf k out (answerOf rule) ≡ 0 → ⊥) → bytesLeft k out buf rule ≡ buf
+  -- where there is an answer, and room for its numbers, they stand at the start; and the bytes lent to a writer are what its rule leaves
+  pub numbers-told : (k : ℕ) (out : List ℕ) (answer : Outcome (List ℕ)) (ns : List ℕ) → k ≤ length out → answer ≡ ok ns
+      → take (length ns) (numbersLeft k out answer) ≡ ns
+  pub bytes-told : (k : ℕ) (out buf : List ℕ) (rule : Outcome (List ℕ × List ℕ)) (ns left : List ℕ) → k ≤ length out → rule ≡ ok (ns, left)
+      → bytesLeft k out buf rule ≡ left
   -- ---- how many numbers each answer has
   pub map-six : (event : List ℕ) (postHeader : ℕ) → Counts 6 (feedMap event postHeader)
   pub check-one : (event : List ℕ) (postHeader dialect : ℕ) (buf : List ℕ) → Counts 1 (answerOf (feedCheck event postHeader dialect buf))

@@ -51,7 +51,7 @@ pub record Classes : Type 0 where
   -- "Real type of 10 is 14", that of 254 is told by m0, and every other is its own
   pub not-real : bytesThat (λ t. not (eqb (realType t 0) t)) ≡ 10 ∷ 254 ∷ []
   pub real-of-10 : realType 10 0 ≡ 14
-  -- optional fields: 1 to 13, of which these have a rival (which one, `Maps` has)
+  -- optional fields: 1 to 13, of which these have a rival (which one, `WorkedMaps` has)
   pub fields : bytesThat isField ≡ 1 ∷ 2 ∷ 3 ∷ 4 ∷ 5 ∷ 6 ∷ 7 ∷ 8 ∷ 9 ∷ 10 ∷ 11 ∷ 12 ∷ 13 ∷ []
   pub rivals : bytesThat (λ k. not (eqb (rivalOf k) 0)) ≡ 2 ∷ 3 ∷ 8 ∷ 9 ∷ 10 ∷ 11 ∷ []
   -- rows events: write, update and delete of both editions; extra data in the second, and a second set for updates

@@ -11,7 +11,7 @@ use Rattle.promises.specs.Results.{Results}
 pub record Demand1 : Type 1 where
   -- which refusals each public call gives, and at which places; a refusal leaves the buffer
   pub every-call : EveryCall
-  -- each refusal listed occurs, so no list is too wide
+  -- no line of these lists is there for nothing
   pub occurs : Occurs
   -- which refusals the calls give that programs in C make, and what a refusal leaves of what they lent
   pub abi-calls : AbiCalls

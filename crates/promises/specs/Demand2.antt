@@ -1,5 +1,5 @@
--- Demand 2: "Readers and writers equal the Rust wherever it returns an answer and 01 states no difference, shown by differential runs, and are
--- proved against definitions written from MySQL's public documents." The runs are compare/rust and compare/captures; the contracts say of each
+-- Demand 2, in short: readers and writers equal the Rust wherever it returns an answer and document 01 states no difference, shown by
+-- differential runs, and are proved against definitions written from MySQL's public documents. The runs are compare/rust and compare/captures; the contracts say of each
 -- public call that it answers what its definition says. Stated here is what ties the definitions to each other and to the document's words: what
 -- is written is read back, and what is read has one stored form. `demand2` in proofs/Demand2.antt proves all of it. Assumes nothing.
 use Prim.Native.Nat.{ℕ, _+_, _≤_}
@@ -18,6 +18,7 @@ use Rattle.value.specs.declared.datum.Value.{Value}
 use Rattle.value.specs.declared.datum.Value.the-variants.{When}
 use Rattle.value.specs.Columns.{shapeOf}
 use Rattle.value.specs.Reading.{readValue}
+use Rattle.promises.specs.Packed.{Packed}
 use Rattle.promises.specs.Values.{Values}
 use Rattle.promises.specs.Events.{Events}
 
@@ -27,6 +28,8 @@ abbrev pub inRange : ℕ → ℕ → Time → Outcome (Value × ℕ)
 inRange p next t = cond (inClock 838 (t .hours) (t .minutes) (t .seconds) (t .micros)) (ok (When (Lasts t), next)) (refuse 10 p)
 
 pub record Demand2 : Type 0 where
+  -- packed integers, through reader and writer
+  pub packed : Packed
   -- one stored value of any column, through reader and writer
   pub values : Values
   -- the event's two round trips

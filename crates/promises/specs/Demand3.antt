@@ -8,27 +8,32 @@
 -- Which of them an image has: image/specs/Present. How the values of a column are stored: value/specs/Columns. Which values it can hold:
 -- value/specs/Domains. What their bytes are, and how many: value/specs/Shapes. What an image says, and when it is broken: image/specs/Rows, with
 -- `Fails` of value/specs/Reading. How a row is written: image/specs/WriteRow. `demand3` in proofs/Demand3.antt proves all of it. Assumes nothing.
-use Prim.Native.Nat.{ℕ, _^_, _≤_, _<_}
+use Prim.Native.Nat.{ℕ, _-_, _^_, _≤_, _<_}
 use mathlib.Core.Path.{_≡_}
 use mathlib.Core.Bool.{true}
 use mathlib.Core.List.{List, [], _∷_}
-use lib.ListN.{length, take}
+use lib.ListN.{length, take, drop}
 use Rattle.wire.specs.declared.refusal.Refusal.{Refusal}
 use Rattle.wire.specs.Outcome.{ok, refused, refuse}
 use Rattle.wire.specs.Number.{Bytes}
 use Rattle.wire.specs.Bits.{bytesFor}
 use Rattle.value.specs.declared.classes.Dialect.{Dialect}
+use Rattle.value.specs.declared.datum.Value.{Value}
+use Rattle.value.specs.Domains.{domain}
+use Rattle.value.specs.Shapes.{bytesOf}
+use Rattle.value.specs.Reading.{datumOf}
 use Rattle.value_parts.specs.Parts.{isHeld}
 use Rattle.record.specs.Records.{countOf, recordValid}
 use Rattle.map_check.specs.Check.{check}
 use Rattle.image.specs.declared.cursor.Cursor.{Cursor}
-use Rattle.image.specs.Present.{present}
-use Rattle.image.specs.Split.{stepFrom}
+use Rattle.image.specs.Present.{shapeAt, present}
+use Rattle.image.specs.Split.{value, stepFrom}
 use Rattle.image.specs.Walk.{Walked, onward, walkFrom, walk}
 use Rattle.image.specs.Rows.{Row, inDomains, Says, Refusals}
 use Rattle.image.specs.WriteRow.{LentValue, rowOf, Fit, writeRow, writeLeft, imageSize, Wrote, Stopped}
 use Rattle.promises.specs.Checks.{Checks}
 use Rattle.promises.specs.Names.{Named}
+use Rattle.promises.specs.Values.{Within}
 
 -- a row as a program has it: each value within the bits of its parts, and beside it bytes, fewer than 2^32
 abbrev pub RowHeld : List LentValue → Type 0
@@ -74,3 +79,10 @@ pub record Demand3 : Type 0 where
   -- exactly so: whatever goes by steps is this walk. So none that stops early does
   pub only-step-by-step : (r p im : List ℕ) (w : Cursor → Walked) → ((c : Cursor) → w c ≡ onward w im (stepFrom r p im c))
       → (c : Cursor) → w c ≡ walkFrom r p im c
+  -- a value that a step tells, from any cursor, is in its column's domain, and its stored form stands between the two cursors' offsets
+  pub step-sound : (r p im : List ℕ) (c : Cursor) (j : ℕ) (v : Value) (next : Cursor) → Bytes im → stepFrom r p im c ≡ ok (value j v next)
+      → (domain (shapeAt r j) (datumOf im v) ≡ true) × (c .offset ≤ next .offset) × (next .offset ≤ length im)
+      × (bytesOf (shapeAt r j) (datumOf im v) ≡ take (next .offset - c .offset) (drop (c .offset) im))
+  -- and if it is bytes, it tells where they are: within these, and up to their end
+  pub step-lent : (r p im : List ℕ) (c : Cursor) (j : ℕ) (v : Value) (next : Cursor) → Bytes im → stepFrom r p im c ≡ ok (value j v next)
+      → Within im (c .offset) (next .offset) v

@@ -132,7 +132,7 @@ pub record Numbers : Type 0 where
       (0x2a ∷ 0x00 ∷ 0x00 ∷ 0x00 ∷ 0x00 ∷ 0x00 ∷ 0x01 ∷ 0x00 ∷ 0x02 ∷ 0x61 ∷ 0x62 ∷ 0x00 ∷ 0x03 ∷ 0x63 ∷ 0x64 ∷ 0x65 ∷ 0x00 ∷ 0x00
       ∷ 0x00 ∷ []) 8
       ≡ ok (42 ∷ 1 ∷ 9 ∷ 2 ∷ 13 ∷ 3 ∷ [])
-  -- 0 is the document, 1 MySQL, 2 MariaDB, and there is no other
+  -- 0 is the document, 1 MySQL, 2 MariaDB, and 3 is none
   pub dialects : (dialectOf 0 ≡ ok Document) × (dialectOf 1 ≡ ok Mysql) × (dialectOf 2 ≡ ok Mariadb) × (dialectOf 3 ≡ refuse 13 0)
   -- the length of the record, which stands at the buffer's start
   pub check-numbers : feedCheck workedEvent 8 0 (replicate 24 0) ≡ ok (24 ∷ [], worked)

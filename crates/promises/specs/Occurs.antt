@@ -1,6 +1,6 @@
--- Demand 1, the other way: no list of `Refusals` and `Abi` is too wide. For each call and each refusal that is listed there are bytes that
--- give just that one, here the fewest or nearly so; where a place is told by a column or an offset, it is another than 0. `occurs` in
--- proofs/Occurs.antt computes all of it. Assumes nothing.
+-- Demand 1, the other way: no line of the lists of `Refusals` is there for nothing, nor one that `Abi` adds. For each line there are bytes
+-- that give such a refusal, here the fewest or nearly so. It does not say that each place which a line allows is told for some bytes.
+-- `occurs` in proofs/Occurs.antt computes all of it. Assumes nothing.
 use Prim.Native.Nat.{ℕ, zero, suc, _^_, _≤_}
 use mathlib.Core.Path.{_≡_}
 use mathlib.Core.Bool.{false}

@@ -7,6 +7,8 @@ use mathlib.Core.List.{List, [], _∷_}
 use lib.ListN.{length, getD}
 use Rattle.wire.specs.Number.{Bytes}
 use Rattle.record.specs.Records.{recordValid}
+use Rattle.map_check.specs.declared.declare.Declared.{Declared}
+use Rattle.map_check.specs.Columns.{isAccepted}
 use Rattle.promises.specs.Refusals.{isAmong}
 
 -- a real type, and the m0 and m1 that it is accepted with: document 01's table, line by line. "No type 10, and 254 only where m0 or-ed with
@@ -53,6 +55,13 @@ pub record ValidRecord (r : List ℕ) : Type 0 where
       → ValidColumn (byte r (6 + 6 * j)) (byte r (7 + 6 * j)) (byte r (8 + 6 * j)) (byte r (9 + 6 * j))
       (byte r (10 + 6 * j) + 256 * byte r (11 + 6 * j))
 
+-- a column of a map is accepted exactly if its real type, m0 and m1 are so listed; of 254, "247, 248 as above, or 254"
+abbrev pub Listed : Declared → Type 0
+Listed c = Accepted (c .real) (c .m0) (c .m1) × (c .kind ≡ 254 → isAmong (c .real) (247 ∷ 248 ∷ 254 ∷ []) ≡ true)
+
 pub record Profiles : Type 0 where
   pub valid-so : (r : List ℕ) → Bytes r → recordValid r ≡ true → ValidRecord r
   pub so-valid : (r : List ℕ) → Bytes r → ValidRecord r → recordValid r ≡ true
+  -- the check has the same table
+  pub accepted-so : (c : Declared) → c .real < 256 → c .m0 < 256 → c .m1 < 256 → isAccepted c ≡ true → Listed c
+  pub so-accepted : (c : Declared) → c .real < 256 → c .m0 < 256 → c .m1 < 256 → Listed c → isAccepted c ≡ true

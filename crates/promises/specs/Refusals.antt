@@ -15,7 +15,7 @@ use Rattle.wire.specs.Outcome.{Outcome, ok, refused, refuse, why}
 use Rattle.wire.specs.Packed.{readFixed, readPacked}
 use Rattle.wire.specs.Stored.{store, answerOf, leftOf}
 use Rattle.wire.specs.declared.part.Part.{Part}
-use Rattle.wire.specs.Parts.{within}
+use Rattle.wire.specs.Parts.{lentPart, within}
 use Rattle.wire.specs.Layouts.{Layout, CutShort, NotPacked}
 use Rattle.temporal.specs.declared.kind.Kind.{Kind}
 use Rattle.temporal.specs.declared.parts.Temporal.{Temporal}
@@ -37,9 +37,14 @@ use Rattle.table_map.specs.Fields.{cutField, judgeField, fieldStep}
 use Rattle.table_map.specs.Layouts.{eventLayout, pairLayout, stringsLayout, groupLayout}
 use Rattle.record.specs.Records.{countOf, recordValid, readRecord}
 use Rattle.map_check.specs.declared.rank.Place.{Place}
+use Rattle.map_check.specs.declared.declare.Declared.{Declared}
+use Rattle.map_check.specs.Columns.{takeColumns}
+use Rattle.map_check.specs.Ranks.{sizesOf}
+use Rattle.map_check.specs.Fields.{keepFields, fieldsAt}
 use Rattle.map_check.specs.Check.{check}
 use Rattle.map_check.specs.Names.{listOf, columnName, namesField}
-use Rattle.map_check.specs.Places.{TypeNotTaken, MetadataWrong, FieldCut, FieldNotPacked, FieldUnknown, FieldWrong, KeyRepeated}
+use Rattle.map_check.specs.Places.{TypeNotTaken, MetadataWrong, FieldCut, FieldNotPacked, FieldUnknown, FieldWrong}
+use Rattle.map_check.specs.Places.{KeysAre, Repeats, KeyRepeated}
 use Rattle.image.specs.declared.cursor.Cursor.{Cursor}
 use Rattle.image.specs.Present.{countBits}
 use Rattle.image.specs.Split.{Slot, slotsAt, headOf, firstCursor, stepFrom}
@@ -212,6 +217,14 @@ pub record EveryCall : Type 1 where
   pub metadata-told : (d : Dialect) (event : List ℕ) (postHeader : ℕ) (buf : List ℕ) (e : Event) (j : ℕ) → readEvent event postHeader ≡ ok e
       → length (typesIn event postHeader) ≤ 255 → MetadataWrong (typesIn event postHeader) (metadataIn event postHeader) j
       → check d event postHeader buf ≡ refuse 5 j
+  -- and the earliest key that repeats one is told at its item, in such an event, where its columns are taken, as cs, its fields are kept,
+  -- as fs, and its keys are the part p of it
+  pub key-told : (d : Dialect) (event : List ℕ) (postHeader : ℕ) (buf : List ℕ) (e : Event) (cs : List Declared) (fs : List (ℕ × Part))
+      (paired : Bool) (p : Part) (q : ℕ)
+      → readEvent event postHeader ≡ ok e → length (typesIn event postHeader) ≤ 255
+      → takeColumns (typesIn event postHeader) (metadataIn event postHeader) 0 ≡ ok cs
+      → keepFields (sizesOf d cs) (fieldsAt d (typesIn event postHeader) (e .optional .start)) event ≡ ok fs
+      → KeysAre paired fs p → Repeats paired (lentPart event p) q → check d event postHeader buf ≡ refuse 7 (p .start + q)
   -- `column_name`: the column asked, or an offset of the list that is looked at
   pub column-name : (names operator : List ℕ) (c : Place) → Only (columnName names operator c) (nameLines (listOf names operator) (c .0))
   -- `names_field`: those of the event, and of its optional fields up to the names

@@ -7,23 +7,33 @@ use mathlib.Core.Bool.{true}
 use mathlib.Core.List.{List, _++_}
 use lib.ListN.{length, take, drop}
 use Rattle.wire.specs.declared.refusal.Refusal.{Refusal}
-use Rattle.wire.specs.Outcome.{ok, refused, refuse}
+use Rattle.wire.specs.declared.part.Part.{Part}
+use Rattle.wire.specs.Outcome.{ok, refused, refuse, why}
 use Rattle.wire.specs.Number.{Bytes}
 use Rattle.wire.specs.Stored.{stored}
+use Rattle.temporal.specs.declared.kind.Kind.{Kind}
+use Rattle.temporal.specs.declared.parts.Temporal.{Temporal}
+use Rattle.temporal.specs.Domains.{domain as timedDomain}
+use Rattle.temporal.specs.Reading.{sizeOf as timedSize, bytesOf as timedBytes, writeTemporal}
 use Rattle.value.specs.declared.column.Column.{Column}
 use Rattle.value.specs.declared.datum.Value.{Value}
+use Rattle.value.specs.declared.datum.Value.the-variants.{Bytes as BytesAt}
 use Rattle.value.specs.Columns.{shapeOf, isTaken}
 use Rattle.value.specs.Data.{Datum}
 use Rattle.value.specs.Domains.{domain}
 use Rattle.value.specs.Shapes.{bytesOf, need}
 use Rattle.value.specs.Reading.{readValue, placed, datumOf, Fails}
-use Rattle.value.specs.Storing.{isLent, writeValue}
+use Rattle.value.specs.Storing.{isLent, sizeOf, writeValue}
 use Rattle.value_parts.specs.Parts.{topOfBits, isHeld}
 
 -- all bytes of a value stand at the head of t, and no value of the column's domain has these
 abbrev pub NoValue : Column → List ℕ → Type 0
 NoValue c t =
     (need (shapeOf c) t ≤ length t) × ((d : Datum) → domain (shapeOf c) d ≡ true → bytesOf (shapeOf c) d ≡ take (need (shapeOf c) t) t → ⊥)
+
+-- a value told of the bytes of s from `at` to `next`: if it is bytes, they are the last of these, and all of them are in s
+abbrev pub Within : List ℕ → ℕ → ℕ → Value → Type 0
+Within s at next v = (isLent s v ≡ true) × ((q : Part) → v ≡ BytesAt q → (at ≤ q .start) × (q .start + q .len ≡ next))
 
 -- a value is in the column's domain, and all of its bytes are lent
 abbrev pub Takes : Column → List ℕ → Value → Type 0
@@ -43,6 +53,9 @@ pub record Values : Type 0 where
   pub read-sound : (c : Column) (p : ℕ) (s : List ℕ) (at : ℕ) (v : Value) (next : ℕ) → Bytes s → readValue (shapeOf c) p s at ≡ ok (v, next)
       → (domain (shapeOf c) (datumOf s v) ≡ true) × (at ≤ next) × (next ≤ length s)
       × (bytesOf (shapeOf c) (datumOf s v) ≡ take (next - at) (drop at s))
+  -- and a value that is bytes tells where they are: within those that were read, and up to their end
+  pub read-lent : (c : Column) (p : ℕ) (s : List ℕ) (at : ℕ) (v : Value) (next : ℕ) → Bytes s → readValue (shapeOf c) p s at ≡ ok (v, next)
+      → Within s at next v
   -- an accepted column's value is refused only where its bytes end early or a part is out of range, and at the place asked for
   pub read-refuses : (c : Column) (p : ℕ) (s : List ℕ) (at : ℕ) (w : Refusal) → isTaken (shapeOf c) ≡ true
       → readValue (shapeOf c) p s at ≡ refused w → (w .place ≡ p) × Fails (shapeOf c) (drop at s) (w .number)
@@ -70,6 +83,23 @@ pub record Values : Type 0 where
   -- what was written is read back from there
   pub write-read : (c : Column) (p q : ℕ) (lent : List ℕ) (v : Value) (buf : List ℕ) (at next : ℕ) (left : List ℕ)
       → writeValue (shapeOf c) p lent v buf at ≡ ok (next, left) → readValue (shapeOf c) q left at ≡ ok (placed next (datumOf lent v), next)
+  -- ---- the size
+  -- what the writer stores is as long as the size told
+  pub size-told : (c : Column) (p : ℕ) (lent : List ℕ) (v : Value) (buf : List ℕ) (at next : ℕ) (left : List ℕ)
+      → writeValue (shapeOf c) p lent v buf at ≡ ok (next, left) → (n : ℕ) × (sizeOf (shapeOf c) p lent v ≡ ok n) × (next ≡ at + n)
+  -- a value that has a size is written where there is room for so many bytes, and up to their end; and nowhere else
+  pub size-room : (c : Column) (p : ℕ) (lent : List ℕ) (v : Value) (buf : List ℕ) (at n : ℕ) → sizeOf (shapeOf c) p lent v ≡ ok n
+      → (at + n ≤ length buf → (left : List ℕ) × (writeValue (shapeOf c) p lent v buf at ≡ ok (at + n, left)))
+      × (length buf < at + n → writeValue (shapeOf c) p lent v buf at ≡ refuse 8 0)
+  -- and a size is refused exactly as the writer refuses, but for room
+  pub size-refused : (c : Column) (p : ℕ) (lent : List ℕ) (v : Value) (buf : List ℕ) (at : ℕ) (w : Refusal)
+      → (sizeOf (shapeOf c) p lent v ≡ refused w → writeValue (shapeOf c) p lent v buf at ≡ refused w)
+      × (writeValue (shapeOf c) p lent v buf at ≡ refused w → (w ≡ why 8 0 → ⊥) → sizeOf (shapeOf c) p lent v ≡ refused w)
+  -- the size of a kind of temporals is that of each in its domain: it is written where there is room for so many bytes, and nowhere else
+  pub temporal-size : (k : Kind) (p : ℕ) (t : Temporal) (buf : List ℕ) (at : ℕ) → timedDomain k t ≡ true
+      → (length (timedBytes k t) ≡ timedSize k)
+      × (at + timedSize k ≤ length buf → writeTemporal k p buf at t ≡ ok (at + timedSize k, stored buf at (timedBytes k t)))
+      × (length buf < at + timedSize k → writeTemporal k p buf at t ≡ refuse 8 0)
   -- ---- the machine
   -- a value in a column's domain fits the machine's value, at any place that it can tell
   pub held : (c : Column) (d : Datum) (at : ℕ) → domain (shapeOf c) d ≡ true → at ≤ topOfBits 64 → isHeld (placed at d) ≡ true

@@ -1,6 +1,6 @@
 -- A walk is its steps. On paper a walk must end by its form, so it is given a number of steps, and one that runs out of them answers what it has as if the bytes had ended. That never happens:
 -- from any place of any bytes, the walk is what the step there answers, and then the walk from where that step leads. Nothing that stops early, or leaves out a refusal, is so at every place. Here for
--- the walk by every rule of items that is in use, and for the check's walk over fields; for images it is `step-by-step` in `Images`. `walks` in proofs/Walks.antt proves it. Assumes nothing.
+-- the walk by every rule of items that is in use, and for the check's walk over fields; for images it is `step-by-step` in `Demand3`. `walks` in proofs/Walks.antt proves it. Assumes nothing.
 use Prim.Native.Nat.{ℕ}
 use mathlib.Core.Path.{_≡_}
 use mathlib.Core.Bool.{Bool}

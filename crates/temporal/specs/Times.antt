@@ -1,7 +1,7 @@
 -- Times of day and spans: TIME2 (19) and TIME (11). Document 01: "19: 3 bytes less 2^23; if negative with nonzero fraction, whole part plus 1 and
 -- fraction less 256 or 65,536; with m0 5..6, 6 bytes less 2^47 as one packed number, absolute value then split at 2^24; hours are the whole part
--- over 4,096, minutes and seconds 6 bits each"; "11: decimal HHMMSS in 3 unsigned bytes". Here in sign and magnitude; `Words` proves the paper's own
--- words, over ℤ, to say the same. Assumes nothing.
+-- over 4,096, minutes and seconds 6 bits each"; "11: decimal HHMMSS in 3 unsigned bytes". Here in sign and magnitude; `Words` has the paper's own
+-- words, over ℤ, which are proved to say the same. Assumes nothing.
 use Prim.Native.Nat.{ℕ, _+_, _-_, _*_, _/_, _%_, _^_}
 use mathlib.Core.Bool.{Bool, true, false, cond}
 use lib.Dec.{leb, eqb}
