@@ -3,3 +3,15 @@ mod answer;
 mod events;
 mod maps;
 mod rows;
+
+pub use events::feed_image;
+pub use events::feed_rows;
+pub use maps::feed_check;
+pub use maps::feed_column;
+pub use maps::feed_map;
+pub use maps::feed_name;
+pub use maps::feed_names;
+pub use rows::feed_first;
+pub use rows::feed_put;
+pub use rows::feed_start;
+pub use rows::feed_step;

@@ -1,5 +1,4 @@
--- Contents, a clause for each type: they are what the walk and the check ask of a field, with keys apart. Ranks, by counting. Assumes
--- nothing.
+-- Contents, a clause for each type: they are what the walk and the check ask of a field. Ranks, by counting. Assumes nothing.
 use Prim.Native.Nat.{ℕ, suc, _+_, _≤_, _<_}
 use mathlib.Core.Path.{_≡_, refl, sym, ap, subst, _∙_}
 use mathlib.Core.Logic.{dite}
@@ -21,12 +20,12 @@ use Rattle.map_check.specs.declared.contents.Meaning.the-variants.{Chars
 use Rattle.map_check.specs.declared.rank.Ranks.{Ranks}
 use Rattle.map_check.specs.Ranks.{noRanks, ranksAfter, ranksFrom}
 use Rattle.map_check.specs.Contents.{whatever, exactly, integerHolds, keyItem, contentsFull}
-use Rattle.map_check.specs.Passes.{Member, here, later, Distinct, firsts, signed, character, choice, ofType, count, CharsetList}
+use Rattle.map_check.specs.Passes.{Member, here, later, firsts, signed, character, choice, ofType, count, CharsetList}
 use Rattle.map_check.specs.Passes.{DefaultCharsets, Contents, signedness, default-charset, column-charsets, names, set-strings}
 use Rattle.map_check.specs.Passes.{enum-strings, geometry-types, simple-key, prefix-key, default-choice, choice-charsets, visibility}
 use Rattle.map_check.specs.Passes.{dimensions}
 use Rattle.map_check.proofs.KeyItems.{key-moves}
-use Rattle.map_check.proofs.Laid.{laid-walk, list-laid, laid-list, exact-laid, laid-exact, charset-is, is-charset, default-holds}
+use Rattle.map_check.proofs.Laid.{list-laid, laid-list, exact-laid, laid-exact, charset-is, is-charset, default-holds}
 use Rattle.map_check.proofs.Laid.{holds-default, simple-laid, laid-simple, prefixed-laid, laid-prefixed}
 
 -- ---- ranks, by counting
@@ -70,13 +69,11 @@ unfolding ranksFrom
 ranks-behind d k [] c = refl
 ranks-behind d k (b ∷ before) c = ranks-behind d (ranksAfter d k b) before c
 
--- ---- what is asked of a field: by the walk, by the check, and of keys
+-- ---- what is asked of a field: by the walk, and by the check
 pub record Held (numeric columns : ℕ) (sizes : Ranks) (kind : ℕ) (value : List ℕ) : Type 0 where
   pub known : isField kind ≡ true
   pub holds : contentsHold numeric columns kind value ≡ true
   pub full : contentsFull sizes columns kind value ≡ true
-  pub simple : kind ≡ 8 → Distinct (walk (keyItem false) value 0 .items)
-  pub prefixed : kind ≡ 9 → Distinct (walk (keyItem true) value 0 .items)
 
 -- the first of a pair that stands in a list, and the pair
 pub first-member : {B : Type 0} {p : ℕ × B} {ps : List (ℕ × B)} → Member p ps → Member (p .0) (firsts ps)
@@ -97,70 +94,61 @@ said-list value e x =
     laid-exact integerItem integer-moves (integerHolds Charset) _ value (x .charsets) (x .items) (x .one-each ∙ sym e)
     (λ a m. is-charset a (x .each a m))
 
--- of a type that is not one of keys
-plain : {numeric columns : ℕ} {sizes : Ranks} {kind : ℕ} {value : List ℕ} → isField kind ≡ true
-    → contentsHold numeric columns kind value ≡ true
-    → contentsFull sizes columns kind value ≡ true → (kind ≡ 8 → ⊥) → (kind ≡ 9 → ⊥) → Held numeric columns sizes kind value
-plain k h f a b = record { known = k; holds = h; full = f; simple = λ q. absurd (a q); prefixed = λ q. absurd (b q) }
-
 pub contents-held : {d : Dialect} {cs : List Declared} {sizes : Ranks} → Sized d cs sizes → {kind : ℕ} {value : List ℕ}
     → Contents d cs kind value
     → Held (count (signed d) cs) (length cs) sizes kind value
 unfolding contentsHold contentsFull integerHolds
-contents-held z (signedness {value = value} e) =
-    plain refl (eq-eqb (length value) _ e) refl (λ q. omega arith) (λ q. omega arith)
+contents-held z (signedness {value = value} e) = record { known = refl; holds = eq-eqb (length value) _ e; full = refl }
 contents-held z (default-charset {value = value} x) =
-    plain refl (rw (x .holds .start)) (rw (z .character) (holds-default _ value x)) (λ q. omega arith) (λ q. omega arith)
-contents-held z (column-charsets {value = value} x) =
-    plain refl refl (said-list value (z .character) x) (λ q. omega arith) (λ q. omega arith)
+    record { known = refl; holds = rw (x .holds .start); full = rw (z .character) (holds-default _ value x) }
+contents-held z (column-charsets {value = value} x) = record { known = refl; holds = refl; full = said-list value (z .character) x }
 contents-held z (names {value = value} items b n) =
-    plain refl refl
-    (laid-exact stringItem string-moves whatever _ value items b n (λ a m. refl))
-    (λ q. omega arith) (λ q. omega arith)
+    record { known = refl; holds = refl; full = laid-exact stringItem string-moves whatever _ value items b n (λ a m. refl) }
 contents-held z (set-strings {value = value} items b n) =
-    plain refl refl
-    (laid-exact groupItem group-moves whatever _ value items b (n ∙ sym (z .set)) (λ a m. refl))
-    (λ q. omega arith) (λ q. omega arith)
-contents-held z (enum-strings {value = value} items b n) =
-    plain refl refl
-    (laid-exact groupItem group-moves whatever _ value items b (n ∙ sym (z .enumeration)) (λ a m. refl))
-    (λ q. omega arith) (λ q. omega arith)
-contents-held z (geometry-types {value = value} items b n h) =
-    plain refl refl
-    (laid-exact integerItem integer-moves (integerHolds GeometryType) _ value items b (n ∙ sym (z .geometry)) (λ a m. le-leb a 7 (h a m)))
-    (λ q. omega arith) (λ q. omega arith)
-contents-held {d} {cs} z (simple-key {value = value} keys b h u) =
-    let l = laid-simple b in
     record {
       known = refl;
       holds = refl;
-      full = laid-list (keyItem false) (key-moves false) (λ k. ltb k (length cs)) value keys l (λ a m. lt-ltb a _ (h a m));
-      simple = λ q. rw (laid-walk (keyItem false) (key-moves false) l refl) u;
-      prefixed = λ q. absurd (omega arith);
+      full = laid-exact groupItem group-moves whatever _ value items b (n ∙ sym (z .set)) (λ a m. refl);
     }
-contents-held {d} {cs} z (prefix-key {value = value} keys b h u) =
-    let l = laid-prefixed b in
+contents-held z (enum-strings {value = value} items b n) =
+    record {
+      known = refl;
+      holds = refl;
+      full = laid-exact groupItem group-moves whatever _ value items b (n ∙ sym (z .enumeration)) (λ a m. refl);
+    }
+contents-held z (geometry-types {value = value} items b n h) =
     record {
       known = refl;
       holds = refl;
       full =
-          laid-list (keyItem true) (key-moves true) (λ k. ltb k (length cs)) value (firsts keys) l
+          laid-exact integerItem integer-moves (integerHolds GeometryType) _ value items b (n ∙ sym (z .geometry)) (λ a m. le-leb a 7 (h a m));
+    }
+contents-held {d} {cs} z (simple-key {value = value} keys b h) =
+    record {
+      known = refl;
+      holds = refl;
+      full = laid-list (keyItem false) (key-moves false) (λ k. ltb k (length cs)) value keys (laid-simple b) (λ a m. lt-ltb a _ (h a m));
+    }
+contents-held {d} {cs} z (prefix-key {value = value} keys b h) =
+    record {
+      known = refl;
+      holds = refl;
+      full =
+          laid-list (keyItem true) (key-moves true) (λ k. ltb k (length cs)) value (firsts keys) (laid-prefixed b)
           (λ a m.
           let y = pair-member keys a m in
           lt-ltb a _ (subst (λ (x : ℕ). x < length cs) (y .2) (h (y .0) (y .1))));
-      simple = λ q. absurd (omega arith);
-      prefixed = λ q. rw (laid-walk (keyItem true) (key-moves true) l refl) u;
     }
 contents-held z (default-choice {value = value} x) =
-    plain refl (rw (x .holds .start)) (rw (z .choice) (holds-default _ value x)) (λ q. omega arith) (λ q. omega arith)
-contents-held z (choice-charsets {value = value} x) =
-    plain refl refl (said-list value (z .choice) x) (λ q. omega arith) (λ q. omega arith)
-contents-held z (visibility {value = value} e) =
-    plain refl (eq-eqb (length value) _ e) refl (λ q. omega arith) (λ q. omega arith)
+    record { known = refl; holds = rw (x .holds .start); full = rw (z .choice) (holds-default _ value x) }
+contents-held z (choice-charsets {value = value} x) = record { known = refl; holds = refl; full = said-list value (z .choice) x }
+contents-held z (visibility {value = value} e) = record { known = refl; holds = eq-eqb (length value) _ e; full = refl }
 contents-held z (dimensions {value = value} items b n) =
-    plain refl refl
-    (laid-exact integerItem integer-moves (integerHolds Dimension) _ value items b (n ∙ sym (z .vector)) (λ a m. refl))
-    (λ q. omega arith) (λ q. omega arith)
+    record {
+      known = refl;
+      holds = refl;
+      full = laid-exact integerItem integer-moves (integerHolds Dimension) _ value items b (n ∙ sym (z .vector)) (λ a m. refl);
+    }
 
 -- ---- and the other way: of a known type there is a clause
 least : (P : ℕ → Type 0) (k n : ℕ) → k ≤ n → P k → (suc k ≤ n → P n) → P n
@@ -225,14 +213,13 @@ held-contents {d} {cs} {sizes} z kind value h =
     f₈ : Clause d cs sizes value 8
     f₈ x =
         let y = list-laid (keyItem false) (key-moves false) (λ k. ltb k (length cs)) value (x .full) in
-        simple-key _ (simple-laid (y .0)) (λ a m. ltb-true a _ (y .1 a m)) (x .simple refl)
+        simple-key _ (simple-laid (y .0)) (λ a m. ltb-true a _ (y .1 a m))
 
     f₉ : Clause d cs sizes value 9
     f₉ x =
         let y = list-laid (keyItem true) (key-moves true) (λ k. ltb k (length cs)) value (x .full) in
         let w = prefixed-laid (y .0) in
         prefix-key (w .0) (w .2) (λ p m. ltb-true (p .0) _ (y .1 (p .0) (subst (Member (p .0)) (w .1) (first-member m))))
-        (subst Distinct (sym (w .1)) (x .prefixed refl))
 
     f₁₀ : Clause d cs sizes value 10
     f₁₀ x = default-choice (subst (λ (n : ℕ). DefaultCharsets n value) (z .choice) (default-holds _ value (x .full)))

@@ -28,7 +28,7 @@ not-end : {A : Type 0} (o : Outcome (A × ℕ)) → after o (λ x. ok (item (x .
 not-end (ok x) e = let z : _≡_ {A = ℕ} 0 1 = cc in omega arith
 not-end (refused w) e = ok-not-refused (sym e)
 
-end-there : {A : Type 0} (rule : Rule A) (s : List ℕ) (at : ℕ) → step rule s at ≡ ok end → at ≡ length s
+pub end-there : {A : Type 0} (rule : Rule A) (s : List ℕ) (at : ℕ) → step rule s at ≡ ok end → at ≡ length s
 unfolding step
 end-there rule s at e =
     by-test (eqb at (length s)) _ _ _ e (λ t f. eqb-true at (length s) t)

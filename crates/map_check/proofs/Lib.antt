@@ -21,6 +21,7 @@ pub mod NameLooks
 pub mod Naming
 pub mod Views
 pub mod Places
+pub mod Refused
 pub mod Links
 mod Laid
 mod Filled

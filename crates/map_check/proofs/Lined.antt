@@ -21,7 +21,7 @@ use Rattle.value.specs.Types.{familyOf, isKnown}
 use Rattle.table_map.specs.declared.field.Fields.{Fields as FieldCursor}
 use Rattle.table_map.specs.Parts.{longPart}
 use Rattle.table_map.specs.Lists.{Rule, walk}
-use Rattle.table_map.specs.Fields.{cutField, judgeField, fieldItem}
+use Rattle.table_map.specs.Fields.{isField, contentsHold, cutField, judgeField, fieldItem}
 use Rattle.table_map.proofs.Chains.{long-named}
 use Rattle.table_map.proofs.Steps.{step-end}
 use Rattle.table_map.proofs.Optional.{value-lent, field-read, field-moves}
@@ -201,7 +201,7 @@ kept-new {sizes} {n} {s} (more-kept before g gs known t rest) k (here q) b =
     true≢false (sym (member-stood b) ∙ ap (λ (x : ℕ). stood x before) q ∙ fits sizes n s before g t .first)
 kept-new (more-kept before g gs known t rest) k (later m) b = kept-new rest k m (later b)
 
-kept-distinct : {sizes : Ranks} {n : ℕ} {s before : List ℕ} {fs : List (ℕ × Part)} → Kept sizes n s before fs
+pub kept-distinct : {sizes : Ranks} {n : ℕ} {s before : List ℕ} {fs : List (ℕ × Part)} → Kept sizes n s before fs
     → Distinct (firsts (bare s fs))
 unfolding Distinct
 kept-distinct (none-kept before) = tt
@@ -252,6 +252,10 @@ keys-once paired s fs kind h = go (firstOf kind fs) refl
     go (Value p) e = distinct-once paired (p .start) (lentPart s p) (h (lentPart s p) (found-member s fs kind p e))
     go Nothing e = refl
 
+pub bare-member : (s : List ℕ) {f : ℕ × Part} {fs : List (ℕ × Part)} → Member f fs → Member (f .0, lentPart s (f .1)) (bare s fs)
+bare-member s (here q) = here (ap (λ (x : ℕ × Part). (x .0, lentPart s (x .1))) q)
+bare-member s (later m) = later (bare-member s m)
+
 -- ---- what fields are that are kept, with keys that stand once
 pub record Stood (sizes : Ranks) (c : FieldCursor) (s : List ℕ) (fs : List Field) : Type 0 where
   pub fields-are : FieldsAre s (c .at) fs
@@ -260,6 +264,8 @@ pub record Stood (sizes : Ranks) (c : FieldCursor) (s : List ℕ) (fs : List Fie
   pub not-10-11 : NotBoth 10 11 fs
   pub not-8-9 : NotBoth 8 9 fs
   pub held : Each (λ (f : Field). Held (c .numeric) (c .columns) sizes (f .0) (f .1)) fs
+  pub simple : (value : List ℕ) → Member (8, value) fs → Distinct (walk (keyItem false) value 0 .items)
+  pub prefixed : (value : List ℕ) → Member (9, value) fs → Distinct (walk (keyItem true) value 0 .items)
 
 kept-laid : (sizes : Ranks) (c : FieldCursor) (s : List ℕ) (fs : List (ℕ × Part)) → keepFields sizes c s ≡ ok fs
     → Between (fieldItem (c .numeric) (c .columns)) s (c .at) (length s) fs
@@ -267,10 +273,6 @@ kept-laid sizes c s fs e =
     let w = kept-walk sizes c s fs e in
     subst (Between (fieldItem (c .numeric) (c .columns)) s (c .at) (length s)) (w .0)
     (whole-laid (fieldItem (c .numeric) (c .columns)) (field-moves (c .numeric) (c .columns)) s (c .at) (ap isWhole (w .1)))
-
-bare-member : (s : List ℕ) {f : ℕ × Part} {fs : List (ℕ × Part)} → Member f fs → Member (f .0, lentPart s (f .1)) (bare s fs)
-bare-member s (here q) = here (ap (λ (x : ℕ × Part). (x .0, lentPart s (x .1))) q)
-bare-member s (later m) = later (bare-member s m)
 
 pub kept-stood : (sizes : Ranks) (c : FieldCursor) (s : List ℕ) (fs : List (ℕ × Part)) → keepFields sizes c s ≡ ok fs
     → keysHold s fs ≡ ok tt
@@ -281,8 +283,6 @@ kept-stood sizes c s fs e k =
     let t = kept-fields sizes c s fs e in
     let d = kept-distinct t in
     let x = after-is-ok (onceIn false s (firstOf 8 fs)) (λ u. onceIn true s (firstOf 9 fs)) tt k in
-    let at-kind : (f : ℕ × Part) → Member f fs → (k : ℕ) → f .0 ≡ k → Member (k, lentPart s (f .1)) (bare s fs) =
-    λ f m k q. subst (λ (j : ℕ). Member (j, lentPart s (f .1)) (bare s fs)) q (bare-member s m) in
     let held : Each (λ (f : ℕ × Part). Held (c .numeric) (c .columns) sizes (f .0) (lentPart s (f .1))) fs =
     λ f m.
     let i = item-at b m in
@@ -291,8 +291,6 @@ kept-stood sizes c s fs e k =
       known = r .known;
       holds = rw (value-lent s (i .0 + 1) (f .1) (i .1) (r .value)) (r .holds);
       full = kept-full t f m;
-      simple = λ q. keyed false s fs 8 (x .1) d (lentPart s (f .1)) (at-kind f m 8 q);
-      prefixed = λ q. keyed true s fs 9 (x .2) d (lentPart s (f .1)) (at-kind f m 9 q);
     } in
     record {
       fields-are = laid-fields (c .numeric) (c .columns) b refl;
@@ -301,6 +299,8 @@ kept-stood sizes c s fs e k =
       not-10-11 = not-both t 10 11 (λ q. omega arith) refl refl;
       not-8-9 = not-both t 8 9 (λ q. omega arith) refl refl;
       held = bare-each (λ (f : Field). Held (c .numeric) (c .columns) sizes (f .0) (f .1)) s fs held;
+      simple = keyed false s fs 8 (x .1) d;
+      prefixed = keyed true s fs 9 (x .2) d;
     }
 
 -- ---- and the other way: such fields are kept
@@ -360,15 +360,15 @@ not-stood k before n = go (stood k before) refl
     go false e = refl
 
 -- the field at a place
-field-there : (numeric columns : ℕ) (sizes : Ranks) (s : List ℕ) (at len start : ℕ) → readPacked s (at + 1) ≡ ok (len, start)
-    → start + len ≤ length s
-    → Held numeric columns sizes (getD s at 0) (take len (drop start s))
+pub field-there : (numeric columns : ℕ) (s : List ℕ) (at len start : ℕ) → readPacked s (at + 1) ≡ ok (len, start)
+    → start + len ≤ length s → isField (getD s at 0) ≡ true
+    → contentsHold numeric columns (getD s at 0) (take len (drop start s)) ≡ true
     → fieldItem numeric columns s at ≡ ok ((getD s at 0, part start len), start + len)
 unfolding fieldItem cutField judgeField longPart
-field-there numeric columns sizes s at len start r h x =
+field-there numeric columns s at len start r h known holds =
     let m = read-moves s (at + 1) len start r in
     let l : at + 1 ≤ length s = omega (arith, m .0, m .1) in
-    rw (within-fits s at 1 at l, r, within-fits s start len (at + 1) h, x .known, lent-is s (part start len) h, x .holds)
+    rw (within-fits s at 1 at l, r, within-fits s start len (at + 1) h, known, lent-is s (part start len) h, holds)
 
 kept-all : (sizes : Ranks) (c : FieldCursor) {s : List ℕ} {at : ℕ} {fs : List Field} → FieldsAre s at fs → (m : ℕ) → length s - at < m
     → (before : List ℕ)
@@ -384,7 +384,7 @@ kept-all sizes c {s} {at} (a-field {fs = fs} len start r w rest) (suc m) l befor
     let x = h (kind, value) (here refl) in
     let v = read-moves s (at + 1) len start r in
     let e = item-stepped (fieldItem (c .numeric) (c .columns)) s at (kind, p) (start + len) (omega (arith, v .0, v .1))
-    (field-there (c .numeric) (c .columns) sizes s at len start r w x) in
+    (field-there (c .numeric) (c .columns) s at len start r w (x .known) (x .holds)) in
     let q : lentPart s p ≡ value = lent-is s p w in
     let n : stood kind before ≡ false = not-stood kind before (k .new kind (here refl)) in
     let o : stood (rivalOf kind) before ≡ false = not-stood (rivalOf kind) before (k .alone (rivalOf kind) kind (here refl) refl) in
@@ -402,7 +402,6 @@ stood-kept sizes c s fs x =
     let y =
     kept-all sizes c (x .fields-are) (suc (length s - c .at)) (omega arith) [] k (x .once)
     (apart fs (x .not-2-3) (x .not-10-11) (x .not-8-9) h) (x .held) in
-    let held = subst (Each (λ (f : Field). Held (c .numeric) (c .columns) sizes (f .0) (f .1))) (sym (y .2)) (x .held) in
-    let once₈ = keys-once false s (y .0) 8 (λ v m. held (8, v) m .simple refl) in
-    let once₉ = keys-once true s (y .0) 9 (λ v m. held (9, v) m .prefixed refl) in
+    let once₈ = keys-once false s (y .0) 8 (λ v m. x .simple v (subst (Member (8, v)) (y .2) m)) in
+    let once₉ = keys-once true s (y .0) 9 (λ v m. x .prefixed v (subst (Member (9, v)) (y .2) m)) in
     (y .0, y .1, rw (once₈, once₉), y .2)

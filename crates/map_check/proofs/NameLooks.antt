@@ -131,6 +131,17 @@ names-broken w v e = go (firstOf 4 (w .items)) (w .how) e
     go Nothing whole e = absurd (ok-not-refused e)
     go Nothing (broken r) e = ap broken (same-refused e)
 
+-- and before it no names were met
+pub names-unmet : (w : Walked (ℕ × Part)) (v : Refusal) → namesIn w ≡ refused v → firstOf 4 (w .items) ≡ Nothing
+names-unmet w v e = go (firstOf 4 (w .items)) (w .how) e
+  where
+    go : (f : Found) (how : Ended) → orEnded f how ≡ refused v → f ≡ Nothing
+    go (Value p) how e = absurd (ok-not-refused e)
+    go Nothing how e = refl
+
+pub same-broken : {v w : Refusal} → broken v ≡ broken w → v ≡ w
+same-broken e = cc
+
 -- the names of a map, from what the code did
 pub names-of-map : (d : Dialect) (s : List ℕ) (postHeader : ℕ) (e : Event) (types : List ℕ) (c : FieldCursor) (o : Outcome (Option Part))
     → readEvent s postHeader ≡ ok e → types ≡ lentPart s (e .types) → c ≡ fieldsAt d types (e .optional .start) → o ≡ namesIn (walkFields c s)

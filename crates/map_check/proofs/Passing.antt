@@ -1,33 +1,40 @@
 -- The check accepts the maps that pass, and no others, with the entries that their columns and fields say. Assumes nothing.
 use Prim.Native.Nat.{ℕ}
 use mathlib.Core.Path.{_≡_, refl, sym, ap, subst, _∙_}
+use mathlib.Core.Bool.{true, false}
 use mathlib.Core.List.{List, []}
 use lib.ListN.{length}
+use lib.Dec.{ltb}
 use Rattle.wire.specs.Outcome.{ok}
 use Rattle.wire.specs.Parts.{lentPart}
 use Rattle.value.specs.declared.classes.Dialect.{Dialect}
 use Rattle.table_map.specs.declared.event.Event.{Event}
 use Rattle.table_map.specs.declared.field.Fields.{Fields as FieldCursor}
+use Rattle.table_map.specs.Lists.{Walked, walk}
 use Rattle.record.specs.declared.entry.Entry.{Entry}
 use Rattle.map_check.specs.declared.declare.Declared.{Declared}
 use Rattle.map_check.specs.Columns.{takeColumns}
 use Rattle.map_check.specs.Ranks.{ranksFrom, sizesOf}
+use Rattle.map_check.specs.declared.rank.Ranks.{Ranks}
+use Rattle.map_check.specs.Contents.{keyItem, contentsFull}
 use Rattle.map_check.specs.Fields.{fieldsAt}
 use Rattle.map_check.specs.Check.{entriesOf, checkEvent}
-use Rattle.map_check.specs.Passes.{Each, signed, count, Field, Contents, EntriesAre, Passes}
+use Rattle.map_check.specs.Passes.{Member, Each, Distinct, signed, count, Field, Contents, KeysAre, simple-keys, prefix-keys, EntriesAre, Passes}
 use Rattle.map_check.proofs.Declares.{taken-all, declared-length}
 use Rattle.map_check.proofs.Counts.{sizes-signs}
+use Rattle.map_check.proofs.KeyItems.{key-moves}
+use Rattle.map_check.proofs.Laid.{laid-walk, list-laid, simple-laid, laid-simple, prefixed-laid, laid-prefixed}
 use Rattle.map_check.proofs.Filled.{sized, Held, contents-held, held-contents}
 use Rattle.map_check.proofs.Lined.{columns-taken, taken-columns, bare, Stood, kept-stood, stood-kept}
 use Rattle.map_check.proofs.Entered.{Known, entries-given, entries-said}
 use Rattle.map_check.proofs.Relied.{Chain, chained, unchained, classes}
 
 -- ---- the walk counts columns as they are counted here
-record Counted (d : Dialect) (cs : List Declared) (c : FieldCursor) : Type 0 where
-  numeric : c .numeric ≡ count (signed d) cs
-  columns : c .columns ≡ length cs
+pub record Counted (d : Dialect) (cs : List Declared) (c : FieldCursor) : Type 0 where
+  pub numeric : c .numeric ≡ count (signed d) cs
+  pub columns : c .columns ≡ length cs
 
-counted : (d : Dialect) (types meta : List ℕ) (at : ℕ) (cs : List Declared) → takeColumns types meta 0 ≡ ok cs
+pub counted : (d : Dialect) (types meta : List ℕ) (at : ℕ) (cs : List Declared) → takeColumns types meta 0 ≡ ok cs
     → Counted d cs (fieldsAt d types at)
 counted d types meta at cs e = record {
   numeric = sym (sizes-signs d types meta 0 cs e) ∙ sized d cs .sign;
@@ -46,6 +53,33 @@ full {d} {cs} {c} n h f m =
     held-contents (sized d cs) (f .0) (f .1)
     (subst (λ (k : ℕ). Held (count (signed d) cs) k (sizesOf d cs) (f .0) (f .1)) (n .columns)
     (subst (λ (k : ℕ). Held k (c .columns) (sizesOf d cs) (f .0) (f .1)) (n .numeric) (h f m)))
+
+-- ---- the keys of a field, as they are said and as the check reads them
+keys-said : {sizes : Ranks} {c : FieldCursor} {s : List ℕ} {fs : List Field} → Stood sizes c s fs
+    → (kind : ℕ) (value keys : List ℕ) → Member (kind, value) fs → KeysAre kind value keys → Distinct keys
+keys-said x kind value keys m (simple-keys b) =
+    subst Distinct (ap (λ (w : Walked ℕ). w .items) (laid-walk (keyItem false) (key-moves false) (laid-simple b) refl)) (x .simple value m)
+keys-said x kind value keys m (prefix-keys b) =
+    subst Distinct (ap (λ (w : Walked ℕ). w .items) (laid-walk (keyItem true) (key-moves true) (laid-prefixed b) refl)) (x .prefixed value m)
+
+simple-read : {d : Dialect} {cs : List Declared} {fs : List Field} → Each (λ (f : Field). Contents d cs (f .0) (f .1)) fs
+    → ((kind : ℕ) (value keys : List ℕ) → Member (kind, value) fs → KeysAre kind value keys → Distinct keys)
+    → (value : List ℕ) → Member (8, value) fs → Distinct (walk (keyItem false) value 0 .items)
+unfolding ranksFrom contentsFull
+simple-read {d} {cs} h once value m =
+    let f = contents-held (sized d cs) (h (8, value) m) .full in
+    let y = list-laid (keyItem false) (key-moves false) (λ k. ltb k (length cs)) value f in
+    once 8 value _ m (simple-keys (simple-laid (y .0)))
+
+prefixed-read : {d : Dialect} {cs : List Declared} {fs : List Field} → Each (λ (f : Field). Contents d cs (f .0) (f .1)) fs
+    → ((kind : ℕ) (value keys : List ℕ) → Member (kind, value) fs → KeysAre kind value keys → Distinct keys)
+    → (value : List ℕ) → Member (9, value) fs → Distinct (walk (keyItem true) value 0 .items)
+unfolding ranksFrom contentsFull
+prefixed-read {d} {cs} h once value m =
+    let f = contents-held (sized d cs) (h (9, value) m) .full in
+    let y = list-laid (keyItem true) (key-moves true) (λ k. ltb k (length cs)) value f in
+    let w = prefixed-laid (y .0) in
+    subst Distinct (w .1) (once 9 value _ m (prefix-keys (w .2)))
 
 -- ---- what is accepted passes
 known : {d : Dialect} {s : List ℕ} {e : Event} {es : List Entry} (p : Chain d s e es)
@@ -74,6 +108,7 @@ passed d s e es h =
       not-10-11 = x .not-10-11;
       not-8-9 = x .not-8-9;
       contents = full (counted d types meta (e .optional .start) (p .columns) (p .taken)) (x .held);
+      keys-once = keys-said x;
       entries-are =
           subst (EntriesAre d (lentPart s (e .bits)) (bare s (p .fields)) [] (p .columns)) (sym (p .said))
           (entries-given d (known p x) (p .columns) []);
@@ -94,6 +129,8 @@ passes {d} {s} {e} {es} p =
       not-10-11 = p .not-10-11;
       not-8-9 = p .not-8-9;
       held = held (counted d types meta (e .optional .start) (p .columns) t) (p .contents);
+      simple = simple-read (p .contents) (p .keys-once);
+      prefixed = prefixed-read (p .contents) (p .keys-once);
     } in
     let y = stood-kept (sizesOf d (p .columns)) c s (p .fields) x in
     let k : Chain d s e (entriesOf d s e (p .columns) (y .0)) =

@@ -152,17 +152,22 @@ pub data Contents (d : Dialect) (cs : List Declared) : ℕ → List ℕ → Type
       → Contents d cs 6 value
   geometry-types : {value : List ℕ} (items : List ℕ) → ItemsAre integerItem value items → length items ≡ count (ofType 255) cs
       → Each (λ (v : ℕ). v ≤ 7) items → Contents d cs 7 value
-  -- "Keys below n", and none stands twice
-  simple-key : {value : List ℕ} (keys : List ℕ) → ItemsAre integerItem value keys → Each (λ (k : ℕ). k < length cs) keys → Distinct keys
+  -- "Keys below n"
+  simple-key : {value : List ℕ} (keys : List ℕ) → ItemsAre integerItem value keys → Each (λ (k : ℕ). k < length cs) keys
       → Contents d cs 8 value
   prefix-key : {value : List ℕ} (keys : List (ℕ × ℕ)) → ItemsAre pairItem value keys → Each (λ (k : ℕ × ℕ). k .0 < length cs) keys
-      → Distinct (firsts keys) → Contents d cs 9 value
+      → Contents d cs 9 value
   default-choice : {value : List ℕ} → DefaultCharsets (count choice cs) value → Contents d cs 10 value
   choice-charsets : {value : List ℕ} → CharsetList (count choice cs) value → Contents d cs 11 value
   -- "12 ceil(n/8)"
   visibility : {value : List ℕ} → length value ≡ bytesFor (length cs) → Contents d cs 12 value
   dimensions : {value : List ℕ} (items : List ℕ) → ItemsAre integerItem value items → length items ≡ count (ofType 242) cs
       → Contents d cs 13 value
+
+-- the key indexes of a field 8 or 9: its items, or the first of each of its pairs
+pub data KeysAre : ℕ → List ℕ → List ℕ → Type 0 where
+  simple-keys : {value keys : List ℕ} → ItemsAre integerItem value keys → KeysAre 8 value keys
+  prefix-keys : {value : List ℕ} {keys : List (ℕ × ℕ)} → ItemsAre pairItem value keys → KeysAre 9 value (firsts keys)
 
 -- ---- entries: "real type; flags; m0; m1; charset (pair, list or default), 0 if none given"
 -- the charset of rank r in a class, by the two fields that may tell it
@@ -230,4 +235,6 @@ pub record Passes (d : Dialect) (s : List ℕ) (e : Event) (es : List Entry) : T
   pub not-10-11 : NotBoth 10 11 fields
   pub not-8-9 : NotBoth 8 9 fields
   pub contents : Each (λ (f : Field). Contents d columns (f .0) (f .1)) fields
+  -- no "key index that stands twice"
+  pub keys-once : (kind : ℕ) (value keys : List ℕ) → Member (kind, value) fields → KeysAre kind value keys → Distinct keys
   pub entries-are : EntriesAre d (lentPart s (e .bits)) fields [] columns es

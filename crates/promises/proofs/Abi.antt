@@ -8,10 +8,12 @@ use native.Mathlib.Omega.{arith}
 use borrow.Author.Tests.{le-leb, lt-leb, leb-true}
 use lib.ListN.{length, getD, take}
 use lib.Dec.{leb, ltb, eqb}
-use Rattle.wire.specs.Outcome.{Outcome, ok, refused, after, why}
+use Rattle.wire.specs.declared.refusal.Refusal.{Refusal}
+use Rattle.wire.specs.Outcome.{Outcome, ok, refused, refuse, after, why}
 use Rattle.wire.specs.Stored.{stored, store, answerOf, leftOf}
 use Rattle.wire.proofs.Stores.{stored-part}
 use Rattle.wire.proofs.Outcomes.{after-is-ok, test-is-ok, by-test, ok-not-refused, same-ok}
+use Rattle.value.specs.declared.classes.Dialect.{Dialect}
 use Rattle.value.specs.declared.datum.Value.the-variants.{Null}
 use Rattle.value_parts.specs.Parts.{kindOf, partsOf, padded, valueOf}
 use Rattle.wire.specs.Parts.{part}
@@ -29,7 +31,7 @@ use Rattle.feed_abi.specs.Answers.{numberOf, toldOf, statusOf, numbersLeft, byt
 use Rattle.feed_abi.specs.Calls.{said, saidWith, lengthNumbers, partNumbers, mapNumbers, namesGiven, givenNumbers, cursorNumbers, stepNumbers, toldNumbers, rowsNumbers, imageNumbers, dialectOf, secondAsked, setsAsked, imagesAt, feedMap, feedCheck, feedColumn, feedNames, feedName, feedFirst, feedStep, feedStart, feedPut, feedRows, feedImage}
 use Rattle.feed_abi.proofs.Tells.{names-asked}
 use Rattle.feed_abi.proofs.Backs.{told-back, null-back}
-use Rattle.promises.specs.Refusals.{Line, OneOf, just, later, refusalNumbers, isAmong, inTable, Only}
+use Rattle.promises.specs.Refusals.{Line, OneOf, just, later, refusalNumbers, isAmong, inTable, Only, checkLines, namesLines}
 use Rattle.promises.specs.Buffers.{Touched}
 use Rattle.promises.specs.Abi.{Answered, Counts, AbiCalls}
 use Rattle.promises.proofs.Only.{Listed, done, stop, chain, test}
@@ -55,12 +57,12 @@ wider : {A : Type 0} {l : Line} {ls : List Line} (o : Outcome A) → Listed ls o
 wider o h w e = later (h w e)
 
 -- ---- what is told before the rule is asked
-dialect-asked : {ls : List Line} (d : ℕ) → OneOf ls (why 13 0) → Listed ls (dialectOf d)
+no-dialect : (d : ℕ) (w : Refusal) → dialectOf d ≡ refused w → dialectOf d ≡ refuse 13 0
 unfolding dialectOf
-dialect-asked d thirteen =
-    test (eqb d 0) (λ u. done _)
-    (λ u. test (eqb d 1) (λ u. done _)
-    (λ u. test (eqb d 2) (λ u. done _) (λ u. stop thirteen)))
+no-dialect d w e =
+    by-test (eqb d 0) _ _ _ e (λ t x. absurd (ok-not-refused x))
+    (λ t₀ e₁. by-test (eqb d 1) _ _ _ e₁ (λ t x. absurd (ok-not-refused x))
+    (λ t₁ e₂. by-test (eqb d 2) _ _ _ e₂ (λ t x. absurd (ok-not-refused x)) (λ t₂ x. rw (t₀, t₁, t₂))))
 
 column-told : {ls : List Line} (r : List ℕ) (j : ℕ) → OneOf ls (why 11 0) → OneOf ls (why 14 j) → Listed ls (feedColumn r j)
 unfolding feedColumn
@@ -176,16 +178,19 @@ pub abi : AbiCalls
 unfolding feedMap feedCheck feedNames feedName feedFirst feedStep feedStart feedPut feedRows feedImage statusOf numbersLeft bytesLeft inTable isAmong
 abi = record {
   feed-map = λ event postHeader. only refl (in-numbers mapNumbers (readEvent event postHeader) (refusals .read-event event postHeader));
-  feed-check = λ event postHeader dialect buf.
+  feed-check = λ event postHeader dialect buf d e.
       only refl
-      (answered _
-      (chain (dialectOf dialect) _ (dialect-asked dialect just)
-      (λ d u. wider _ (left-too lengthNumbers (check d event postHeader buf) (refusals .check-map d event postHeader buf)))));
+      (answered _ (subst (λ (o : Outcome Dialect). Listed (checkLines d event postHeader)
+      (after o (λ d. saidWith lengthNumbers (check d event postHeader buf)))) (sym e)
+      (left-too lengthNumbers (check d event postHeader buf) (refusals .check-map d event postHeader buf))));
+  check-no-dialect = λ event postHeader dialect buf w e. rw (no-dialect dialect w e);
   feed-column = λ r column. only refl (column-told r column just (second just));
-  feed-names = λ event postHeader dialect.
+  feed-names = λ event postHeader dialect d e.
       only refl
-      (chain (dialectOf dialect) _ (dialect-asked dialect just)
-      (λ d u. wider _ (in-numbers (λ f. givenNumbers (namesGiven f)) (namesField d event postHeader) (refusals .names-field d event postHeader))));
+      (subst (λ (o : Outcome Dialect). Listed (namesLines d event postHeader)
+      (after o (λ d. said (λ f. givenNumbers (namesGiven f)) (namesField d event postHeader)))) (sym e)
+      (in-numbers (λ f. givenNumbers (namesGiven f)) (namesField d event postHeader) (refusals .names-field d event postHeader)));
+  names-no-dialect = λ event postHeader dialect w e. rw (no-dialect dialect w e);
   feed-name = λ names operator column. only refl (in-numbers partNumbers (columnName names operator (place column)) (refusals .column-name names operator (place column)));
   feed-first = λ r p. only refl (in-numbers cursorNumbers (firstCursor r p) (refusals .first-cursor r p));
   feed-step = λ r p im column offset. only refl (in-numbers toldNumbers (stepFrom r p im (cursor column offset)) (refusals .step-image r p im (cursor column offset)));

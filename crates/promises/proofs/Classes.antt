@@ -26,6 +26,7 @@ classes =
       vectors = refl;
       not-real = refl;
       real-of-10 = refl;
+      family-of-10 = refl;
       fields = refl;
       rivals = refl;
       codes = refl;

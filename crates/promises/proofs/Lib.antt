@@ -1,5 +1,6 @@
 -- The laws of the crate, file for file as in specs/; `Port` proves all of it. Besides, of demand 1: `Only`, how a refusal is one of those listed, with
 -- packed integers and stores; `Maps`, events, lists and fields, the check, names; `Rows`, records and row images.
+pub mod Calls
 pub mod Only
 pub mod Packed
 pub mod Values

@@ -1,51 +1,49 @@
 -- The refusals of events, lists and fields, of the check and of names. Assumes nothing.
-use Prim.Native.Nat.{ℕ, zero, suc, _+_, _-_, _^_, _≤_, _<_}
-use mathlib.Core.Path.{_≡_, refl, sym, ap, subst, subst₂, _∙_}
+use Prim.Native.Nat.{ℕ, zero, suc, _+_, _^_, _≤_, _<_}
+use mathlib.Core.Path.{_≡_, refl, sym, ap, subst}
 use mathlib.Core.Bool.{true, false}
 use mathlib.Core.List.{List, [], _∷_}
 use native.Mathlib.Omega.{arith}
-use borrow.Author.Tests.{le-leb, leb-true, leb-false, ltb-true, ltb-false, eqb-false}
-use lib.ListN.{length, getD, drop}
+use borrow.Author.Tests.{leb-true, leb-false, ltb-true, ltb-false, eqb-false}
+use lib.ListN.{length, drop}
 use lib.Dec.{leb, ltb, eqb}
+use Rattle.wire.specs.Number.{Bytes}
 use Rattle.wire.specs.Bits.{bytesFor}
 use Rattle.wire.specs.declared.refusal.Refusal.{Refusal}
-use Rattle.wire.specs.Outcome.{Outcome, ok, refused, refuse, why}
+use Rattle.wire.specs.Outcome.{Outcome, ok, refused, why}
 use Rattle.wire.specs.Packed.{readPacked}
 use Rattle.wire.specs.declared.part.Part.{Part}
 use Rattle.wire.specs.Parts.{lentPart, within}
-use Rattle.wire.specs.Layouts.{bytes, named, string, all-bytes, all-integer, Cut, Unpacked, Layout, _then_, counting, whatever, Starts, here, behind, CutShort, cut-at, NotPacked, unpacked-at}
-use Rattle.wire.proofs.Outcomes.{after-is-ok, same-ok}
-use Rattle.wire.proofs.Parts.{within-ok, lent-is}
+use Rattle.wire.specs.Layouts.{bytes, named, string, all-integer, Cut, Unpacked, Layout, _then_, counting, whatever, Starts, here, behind, CutShort, cut-at, NotPacked, unpacked-at}
+use Rattle.wire.proofs.Outcomes.{after-is-ok, test-is-ok, same-ok}
+use Rattle.wire.proofs.Parts.{within-ok}
 use Rattle.wire.proofs.Layouts.{bytes-whole}
 use Rattle.value.specs.declared.classes.Dialect.{Dialect}
 use Rattle.value.specs.Types.{familyOf, isKnown}
-use Rattle.table_map.specs.declared.event.Event.{Event}
 use Rattle.table_map.specs.declared.field.Fields.{Fields}
 use Rattle.table_map.specs.Parts.{shortPart, longPart}
-use Rattle.table_map.specs.Events.{idBytes, readNames, readColumns, readEvent, partIn}
+use Rattle.table_map.specs.Events.{idBytes, readNames, readColumns, readEvent}
 use Rattle.table_map.specs.Writes.{Parts, isEvent, eventBytes, writeEvent, eventSize}
-use Rattle.table_map.specs.Lists.{Rule, Stepped, end, item, step, broken, onward, walkSteps, pairItem, stringItem, strings, groupItem}
+use Rattle.table_map.specs.Lists.{Rule, Stepped, end, item, step, pairItem, stringItem, strings, groupItem}
 use Rattle.table_map.specs.Fields.{isField, contentsHold, cutField, judgeField, fieldItem, fieldStep}
-use Rattle.table_map.specs.Layouts.{eventLayout, fieldLayout, pairLayout, stringsLayout, groupLayout, FieldAt, first, next}
+use Rattle.table_map.specs.Layouts.{eventLayout, pairLayout, stringsLayout, groupLayout}
 use Rattle.table_map.proofs.Chains.{each-within}
 use Rattle.table_map.proofs.Layouts.{name-whole, string-whole}
 use Rattle.table_map.proofs.Items.{long-moves}
 use Rattle.table_map.proofs.Steps.{item-read}
-use Rattle.table_map.proofs.Walks.{item-moves, whole-not-broken}
-use Rattle.table_map.proofs.Optional.{cut-read, field-read, field-moves}
-use Rattle.record.specs.Records.{recordBytes}
-use Rattle.map_check.specs.declared.declare.Declared.{Declared}
-use Rattle.map_check.specs.declared.rank.Ranks.{Ranks}
+use Rattle.record.specs.Records.{mostColumns, recordBytes}
 use Rattle.map_check.specs.Columns.{metaBytes, declared, isAccepted, takeColumn, takeColumns}
 use Rattle.map_check.specs.Ranks.{sizesOf}
-use Rattle.map_check.specs.Fields.{standsBehind, keep, keepSteps, keepFields, fieldsAt, walkFields}
+use Rattle.map_check.specs.Fields.{keepFields, fieldsAt}
 use Rattle.map_check.specs.Keys.{keysHold}
 use Rattle.map_check.specs.Check.{fewEnough, checkEvent, checkMap, check}
 use Rattle.map_check.specs.Names.{met, stringAt, namesField}
-use Rattle.map_check.specs.Places.{TypeNotTaken, type-here, type-behind, MetadataWrong, short, not-accepted, left-over, metadata-behind, FieldCut, cut-in, FieldNotPacked, unpacked-in, FieldUnknown, unknown, FieldWrong, wrong, KeyRepeated}
-use Rattle.map_check.proofs.NameLooks.{names-broken}
-use Rattle.map_check.proofs.Places.{column-taken, key-repeated}
-use Rattle.promises.specs.Refusals.{Line, OneOf, typesIn, metadataIn}
+use Rattle.map_check.specs.Places.{TooMany, too-many, TypeNotTaken, type-here, type-behind, MetadataWrong, short, not-accepted, left-over}
+use Rattle.map_check.specs.Places.{metadata-behind, InColumns, in-columns, cut, unpacked, unknown, faulty, InFields, in-fields, KeyRepeated}
+use Rattle.map_check.specs.Places.{BeforeNames, before-names}
+use Rattle.map_check.proofs.Places.{column-taken}
+use Rattle.map_check.proofs.Refused.{names-refuses, many-told, type-refused, metadata-refused, fields-told, fields-refuse, keys-told, keys-refuse}
+use Rattle.promises.specs.Refusals.{Line, OneOf, just, under, such, later, mapLines}
 use Rattle.promises.proofs.Only.{Listed, done, stop, hand, chain, test, bytes-there, long-part, Told, then-told, count-told, bytes-laid, named-laid, integer-laid, string-laid, count-laid, room}
 
 -- ---- the event, part by part
@@ -209,144 +207,97 @@ columns-taken {ls} (kind ∷ types) meta p four five =
     (λ j x. subst (λ (q : ℕ). OneOf ls (why 5 q)) (y j) (five (suc j) (metadata-behind t x))))
     (λ cs f. done _))
 
--- the types and the metadata of an event that was read, as the check is lent them
-lent-in : (s : List ℕ) (postHeader : ℕ) (e : Event) → readEvent s postHeader ≡ ok e
-    → (lentPart s (e .types) ≡ typesIn s postHeader) × (lentPart s (e .metadata) ≡ metadataIn s postHeader)
-lent-in s postHeader e r =
-    let b = each-within s postHeader e r in (
-      lent-is s (e .types) (b .types) ∙ sym (ap (λ (x : Outcome Event). partIn (λ e. e .types) s x) r),
-      lent-is s (e .metadata) (b .metadata) ∙ sym (ap (λ (x : Outcome Event). partIn (λ e. e .metadata) s x) r),
-    )
+-- a field that is refused, by its number
+in-fields-told : {ls : List Line} (d : Dialect) (s : List ℕ) (postHeader : ℕ)
+    → ((p : ℕ) → InFields d s postHeader 1 p → OneOf ls (why 1 p)) → ((p : ℕ) → InFields d s postHeader 2 p → OneOf ls (why 2 p))
+    → ((p : ℕ) → InFields d s postHeader 6 p → OneOf ls (why 6 p)) → ((p : ℕ) → InFields d s postHeader 7 p → OneOf ls (why 7 p))
+    → {number p : ℕ} → InFields d s postHeader number p → OneOf ls (why number p)
+in-fields-told d s postHeader one two six seven (in-fields x (cut {o} u l c)) = one (o + 1) (in-fields x (cut u l c))
+in-fields-told d s postHeader one two six seven (in-fields x (unpacked {o} u l c)) = two (o + 1) (in-fields x (unpacked u l c))
+in-fields-told d s postHeader one two six seven (in-fields x (unknown {o} u c k)) = six o (in-fields x (unknown u c k))
+in-fields-told d s postHeader one two six seven (in-fields x (faulty {o} u k r h f)) = seven o (in-fields x (faulty u k r h f))
 
--- the fields, from an offset on
-module _ {ls : List Line} (s : List ℕ) (postHeader : ℕ) (one : (p : ℕ) → FieldCut s postHeader p → OneOf ls (why 1 p))
-    (two : (p : ℕ) → FieldNotPacked s postHeader p → OneOf ls (why 2 p)) (six : (p : ℕ) → FieldUnknown s postHeader p → OneOf ls (why 6 p))
-    (seven : (p : ℕ) → FieldWrong s postHeader p → OneOf ls (why 7 p)) where
-  -- a step over a field that stands behind whole ones
-  field-met : (c : Fields) (o : ℕ) → o ≤ length s → (o < length s → FieldAt s postHeader o)
-      → Listed ls (step (fieldItem (c .numeric) (c .columns)) s o)
-  field-met c o h a =
-      stepped (fieldItem (c .numeric) (c .columns)) s o (λ l. absurd (omega arith))
-      (λ l. field-item (c .numeric) (c .columns) s o (λ n. absurd (omega arith)) (λ x. one (o + 1) (cut-in (a l) (cut-at (behind-type l) x)))
-      (λ x. two (o + 1) (unpacked-in (a l) (unpacked-at (behind-type l) x)))
-      (λ f q e u. let r = cut-read s o f q e in six o (unknown (a l) (string-whole s (o + 1) (f .1, q) (r .1)) (ap isField (r .0) ∙ u)))
-      (λ f q e u. let r = cut-read s o f q e in seven o (wrong (a l) (string-whole s (o + 1) (f .1, q) (r .1)) (ap isField (r .0) ∙ u))))
-    where
-      -- its length stands behind its type byte
-      behind-type : o < length s → Starts s fieldLayout o string (o + 1)
-      behind-type l = behind (all-bytes {k = 1} {p = o} (omega arith)) here
+before-names-told : {ls : List Line} (d : Dialect) (s : List ℕ) (postHeader : ℕ)
+    → ((p : ℕ) → BeforeNames d s postHeader 1 p → OneOf ls (why 1 p)) → ((p : ℕ) → BeforeNames d s postHeader 2 p → OneOf ls (why 2 p))
+    → ((p : ℕ) → BeforeNames d s postHeader 6 p → OneOf ls (why 6 p)) → ((p : ℕ) → BeforeNames d s postHeader 7 p → OneOf ls (why 7 p))
+    → {number p : ℕ} → BeforeNames d s postHeader number p → OneOf ls (why number p)
+before-names-told d s postHeader one two six seven (before-names r (cut {o} u l c)) = one (o + 1) (before-names r (cut u l c))
+before-names-told d s postHeader one two six seven (before-names r (unpacked {o} u l c)) = two (o + 1) (before-names r (unpacked u l c))
+before-names-told d s postHeader one two six seven (before-names r (unknown {o} u c k)) = six o (before-names r (unknown u c k))
+before-names-told d s postHeader one two six seven (before-names r (faulty {o} u k i h f)) = seven o (before-names r (faulty u k i h f))
 
-  -- and where the next one stands
-  field-next : (c : Fields) (o : ℕ) → (o < length s → FieldAt s postHeader o) → (f : ℕ × Part) (q : ℕ)
-      → step (fieldItem (c .numeric) (c .columns)) s o ≡ ok (item f q) → (q ≤ length s) × (q < length s → FieldAt s postHeader q)
-  field-next c o a f q e =
-      let rule = fieldItem (c .numeric) (c .columns) in
-      let i = item-read rule s o f q e in
-      let r = field-read (c .numeric) (c .columns) s o f q (i .1) in
-      let k : isField (getD s o 0) ≡ true = ap isField (r .kind) ∙ r .known in
-      (item-moves rule (field-moves (c .numeric) (c .columns)) s o f q e .1, λ n. next (a (i .0)) k (string-whole s (o + 1) (f .1, q) (r .value)) n)
+pub names-found : {ls : List Line} (d : Dialect) (s : List ℕ) (postHeader : ℕ) → Told ls s (eventLayout postHeader) 0
+    → ((p : ℕ) → BeforeNames d s postHeader 1 p → OneOf ls (why 1 p)) → ((p : ℕ) → BeforeNames d s postHeader 2 p → OneOf ls (why 2 p))
+    → ((p : ℕ) → BeforeNames d s postHeader 6 p → OneOf ls (why 6 p)) → ((p : ℕ) → BeforeNames d s postHeader 7 p → OneOf ls (why 7 p))
+    → Listed ls (namesField d s postHeader)
+names-found {ls} d s postHeader told one two six seven =
+    chain (readEvent s postHeader) _ (event-read s postHeader told) (λ e r w q.
+    let c = fieldsAt d (lentPart s (e .types)) (e .optional .start) in
+    let x = names-refuses c s w (omega (arith, each-within s postHeader e r .optional)) q in
+    subst (OneOf ls) (sym (x .2)) (before-names-told d s postHeader one two six seven (before-names r (x .3))))
 
-  fields-kept : (m : ℕ) (sizes : Ranks) (c : Fields) (before : List ℕ) (o : ℕ) → o ≤ length s → (o < length s → FieldAt s postHeader o)
-      → Listed ls (keepSteps m sizes c s before o)
-  unfolding keepSteps
-  fields-kept zero sizes c before o h a = done _
-  fields-kept (suc m) sizes c before o h a = go (λ kind q l b. fields-kept m sizes c (kind ∷ before) q l b) (step rule s o) refl
-    where
-      rule : Rule (ℕ × Part)
-      rule = fieldItem (c .numeric) (c .columns)
-
-      go : ((kind q : ℕ) → q ≤ length s → (q < length s → FieldAt s postHeader q) → Listed ls (keepSteps m sizes c s (kind ∷ before) q))
-          → (x : Outcome (Stepped (ℕ × Part) ℕ)) → step rule s o ≡ x
-          → Listed ls (keep (λ kind q. keepSteps m sizes c s (kind ∷ before) q) (standsBehind sizes (c .columns) s before) o x)
-      go again (ok end) e = done _
-      go again (ok (item f q)) e =
-          let i = item-read rule s o f q e in
-          let r = field-read (c .numeric) (c .columns) s o f q (i .1) in
-          let k : isField (getD s o 0) ≡ true = ap isField (r .kind) ∙ r .known in
-          let n = field-next c o a f q e in
-          test (standsBehind sizes (c .columns) s before f)
-          (λ u. chain (keepSteps m sizes c s (f .0 ∷ before) q) _ (again (f .0) q (n .0) (n .1)) (λ fs j. done _))
-          (λ u. stop (seven o (wrong (a (i .0)) (string-whole s (o + 1) (f .1, q) (r .value)) k)))
-      go again (refused w) e = hand (step rule s o) w (field-met c o h a) e
-
-  -- a walk over them that breaks off
-  fields-broken : (m : ℕ) (c : Fields) (o : ℕ) → o ≤ length s → (o < length s → FieldAt s postHeader o) → (w : Refusal)
-      → walkSteps m (fieldItem (c .numeric) (c .columns)) s o .how ≡ broken w → OneOf ls w
-  unfolding walkSteps
-  fields-broken zero c o h a w e = absurd (whole-not-broken e)
-  fields-broken (suc m) c o h a w e = go (λ q l b x. fields-broken m c q l b w x) (step rule s o) refl e
-    where
-      rule : Rule (ℕ × Part)
-      rule = fieldItem (c .numeric) (c .columns)
-
-      go : ((q : ℕ) → q ≤ length s → (q < length s → FieldAt s postHeader q) → walkSteps m rule s q .how ≡ broken w → OneOf ls w)
-          → (x : Outcome (Stepped (ℕ × Part) ℕ)) → step rule s o ≡ x → onward (walkSteps m rule s) x .how ≡ broken w → OneOf ls w
-      go again (ok end) i b = absurd (whole-not-broken b)
-      go again (ok (item f q)) i b = let n = field-next c o a f q i in again q (n .0) (n .1) b
-      go again (refused v) i b =
-          let x : v ≡ w = cc in
-          subst (OneOf ls) x (field-met c o h a v i)
-
-  pub names-found : (d : Dialect) → Told ls s (eventLayout postHeader) 0 → Listed ls (namesField d s postHeader)
-  names-found d told =
-      chain (readEvent s postHeader) _ (event-read s postHeader told) (λ e r.
-      let start = e .optional .start in
-      let c = fieldsAt d (lentPart s (e .types)) start in
-      λ w q.
-      fields-broken (suc (length s - start)) c start (omega (arith, each-within s postHeader e r .optional)) (λ l. first r l) w
-      (names-broken (walkFields c s) w q))
-
-  pub checked : (d : Dialect) (buf : List ℕ) → Told ls s (eventLayout postHeader) 0 → OneOf ls (why 3 0)
-      → ((j : ℕ) → TypeNotTaken (typesIn s postHeader) (metadataIn s postHeader) j → OneOf ls (why 4 j))
-      → ((j : ℕ) → MetadataWrong (typesIn s postHeader) (metadataIn s postHeader) j → OneOf ls (why 5 j))
-      → ((p : ℕ) → KeyRepeated s postHeader p → OneOf ls (why 7 p)) → OneOf ls (why 8 0) → Listed ls (check d s postHeader buf)
-  unfolding check checkMap checkEvent fewEnough
-  checked d buf told three four five again eight =
-      chain (checkMap d s postHeader) _
-      (chain (readEvent s postHeader) _ (event-read s postHeader told) (λ e r.
-      let types = lentPart s (e .types) in
-      let meta = lentPart s (e .metadata) in
-      let q = lent-in s postHeader e r in
-      let z : (j : ℕ) → j ≡ 0 + j = λ j. omega arith in
-      let start = e .optional .start in
-      chain (fewEnough types) _ (test (leb (length types) 255) (λ u. done _) (λ u. stop three)) (λ few f.
-      chain (takeColumns types meta 0) _
-      (columns-taken types meta 0
-      (λ j x. subst (λ (p : ℕ). OneOf ls (why 4 p)) (z j) (four j (subst₂ (λ (a b : List ℕ). TypeNotTaken a b j) (q .0) (q .1) x)))
-      (λ j x. subst (λ (p : ℕ). OneOf ls (why 5 p)) (z j) (five j (subst₂ (λ (a b : List ℕ). MetadataWrong a b j) (q .0) (q .1) x))))
-      (λ cs g.
-      let c = fieldsAt d types start in
-      chain (keepFields (sizesOf d cs) c s) _
-      (fields-kept (suc (length s - start)) (sizesOf d cs) c [] start (omega (arith, each-within s postHeader e r .optional)) (λ l. first r l))
-      (λ fs i.
-      chain (keysHold s fs) _
-      (λ w j.
-      let x = key-repeated s postHeader (sizesOf d cs) c fs w (λ l. first r l) i j in
-      subst (OneOf ls) (sym (x .1)) (again (x .0) (x .2)))
-      (λ o j. done _))))))
-      (λ es e. room buf 0 (recordBytes es) eight)
-
--- and what its columns refuse, it refuses
-pub columns-told : (n : ℕ) (d : Dialect) (s : List ℕ) (postHeader : ℕ) (buf : List ℕ) (e : Event) (j : ℕ) → readEvent s postHeader ≡ ok e
-    → length (typesIn s postHeader) ≤ 255
-    → takeColumns (typesIn s postHeader) (metadataIn s postHeader) 0 ≡ refuse n (0 + j) → check d s postHeader buf ≡ refuse n j
+pub checked : {ls : List Line} (d : Dialect) (s : List ℕ) (postHeader : ℕ) (buf : List ℕ) → Told ls s (eventLayout postHeader) 0
+    → ((p : ℕ) → TooMany s postHeader p → OneOf ls (why 3 p))
+    → ((j : ℕ) → InColumns TypeNotTaken s postHeader j → OneOf ls (why 4 j))
+    → ((j : ℕ) → InColumns MetadataWrong s postHeader j → OneOf ls (why 5 j))
+    → ((p : ℕ) → InFields d s postHeader 1 p → OneOf ls (why 1 p)) → ((p : ℕ) → InFields d s postHeader 2 p → OneOf ls (why 2 p))
+    → ((p : ℕ) → InFields d s postHeader 6 p → OneOf ls (why 6 p)) → ((p : ℕ) → InFields d s postHeader 7 p → OneOf ls (why 7 p))
+    → ((p : ℕ) → KeyRepeated d s postHeader p → OneOf ls (why 7 p)) → OneOf ls (why 8 0) → Listed ls (check d s postHeader buf)
 unfolding check checkMap checkEvent fewEnough
-columns-told n d s postHeader buf e j r l h =
-    let q = lent-in s postHeader e r in
-    let z : 0 + j ≡ j = omega arith in
-    rw (r, q .0, q .1, le-leb (length (typesIn s postHeader)) 255 l, h, z)
+checked {ls} d s postHeader buf told three four five one two six seven again eight =
+    chain (checkMap d s postHeader) _
+    (chain (readEvent s postHeader) _ (event-read s postHeader told) (λ e r.
+    let types = lentPart s (e .types) in
+    let meta = lentPart s (e .metadata) in
+    let z : (j : ℕ) → j ≡ 0 + j = λ j. omega arith in
+    chain (fewEnough types) _
+    (test (leb (length types) mostColumns) (λ u. done _) (λ u. stop (three 0 (too-many r (leb-false (length types) mostColumns u)))))
+    (λ few f.
+    let l = leb-true (length types) mostColumns (test-is-ok (leb (length types) mostColumns) tt (why 3 0) few f .0) in
+    chain (takeColumns types meta 0) _
+    (columns-taken types meta 0
+    (λ j x. subst (λ (p : ℕ). OneOf ls (why 4 p)) (z j) (four j (in-columns r l x)))
+    (λ j x. subst (λ (p : ℕ). OneOf ls (why 5 p)) (z j) (five j (in-columns r l x))))
+    (λ cs g.
+    chain (keepFields (sizesOf d cs) (fieldsAt d types (e .optional .start)) s) _
+    (λ w i.
+    let x = fields-refuse d s postHeader e cs w r l g i in
+    subst (OneOf ls) (sym (x .2)) (in-fields-told d s postHeader one two six seven (x .3)))
+    (λ fs i.
+    chain (keysHold s fs) _
+    (λ w j.
+    let x = keys-refuse d s postHeader e cs fs w r l g i j in
+    subst (OneOf ls) (sym (x .1)) (again (x .0) (x .2)))
+    (λ o j. done _))))))
+    (λ es e. room buf 0 (recordBytes es) eight)
 
--- and what its keys refuse
-pub keys-told : (d : Dialect) (s : List ℕ) (postHeader : ℕ) (buf : List ℕ) (e : Event) (cs : List Declared) (fs : List (ℕ × Part))
-    (w : Refusal)
-    → readEvent s postHeader ≡ ok e → length (typesIn s postHeader) ≤ 255
-    → takeColumns (typesIn s postHeader) (metadataIn s postHeader) 0 ≡ ok cs
-    → keepFields (sizesOf d cs) (fieldsAt d (typesIn s postHeader) (e .optional .start)) s ≡ ok fs → keysHold s fs ≡ refused w
+-- and the other way: what is refused so, by the event or of the map, whatever the room
+pub event-refused : (d : Dialect) (s : List ℕ) (postHeader : ℕ) (buf : List ℕ) (w : Refusal) → readEvent s postHeader ≡ refused w
     → check d s postHeader buf ≡ refused w
-unfolding check checkMap checkEvent fewEnough
-keys-told d s postHeader buf e cs fs w r l c f h =
-    let q = lent-in s postHeader e r in
-    rw (r, q .0, q .1, le-leb (length (typesIn s postHeader)) 255 l, c, f, h)
+unfolding check checkMap
+event-refused d s postHeader buf w e = rw e
+
+no-line : {ls : List Line} {w : Refusal} → OneOf ls w → ls ≡ [] → ⊥
+no-line just e = let z = ap length e in omega arith
+no-line (under h) e = let z = ap length e in omega arith
+no-line (such h) e = let z = ap length e in omega arith
+no-line (later o) e = let z = ap length e in omega arith
+
+pub map-refused : (d : Dialect) (s : List ℕ) (postHeader : ℕ) (buf : List ℕ) (w : Refusal) → Bytes s → OneOf (mapLines d s postHeader) w
+    → check d s postHeader buf ≡ refused w
+unfolding check
+map-refused d s postHeader buf w b o = rw (go o)
+  where
+    go : {w : Refusal} → OneOf (mapLines d s postHeader) w → checkMap d s postHeader ≡ refused w
+    go (such x) = many-told d x
+    go (later (such x)) = type-refused d x
+    go (later (later (such x))) = metadata-refused d x
+    go (later (later (later (such x)))) = fields-told b x
+    go (later (later (later (later (such x))))) = fields-told b x
+    go (later (later (later (later (later (such x)))))) = fields-told b x
+    go (later (later (later (later (later (later (such x))))))) = fields-told b x
+    go (later (later (later (later (later (later (later (such x)))))))) = keys-told x
+    go (later (later (later (later (later (later (later (later o)))))))) = absurd (no-line o refl)
 
 -- ---- names: of the strings up to the one asked, the first that fails
 pub string-found : {ls : List Line} (s : List ℕ) (asked : ℕ) → OneOf ls (why 14 asked)

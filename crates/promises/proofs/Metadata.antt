@@ -1,5 +1,6 @@
 -- Metadata: the tables computed, and the bits of 254. Assumes nothing.
 use mathlib.Core.Path.{refl}
+use Rattle.value.specs.Types.{familyOf, metadataBytes}
 use Rattle.value.specs.Columns.{declaredLength, shapeOf, isTaken}
 use Rattle.value.specs.Shapes.{need}
 use Rattle.value.specs.Reading.{readValue}
@@ -8,7 +9,7 @@ use Rattle.value.proofs.Bits.{real-or, real-small, real-digit, length-xor, xor-
 use Rattle.map_check.specs.Columns.{takeColumns}
 use Rattle.promises.specs.Tables.{Each, done, _and_, IsStored}
 use Rattle.promises.specs.Metadata.{OneByte, oneByte, Firsts, firsts, Seconds, seconds, values, Metadata}
-use Rattle.promises.specs.Metadata.{DecimalTakes, decimals, Declares, declaredLengths}
+use Rattle.promises.specs.Metadata.{DecimalTakes, decimals, BitTakes, bits, Declares, declaredLengths}
 
 one-byte : Each OneByte oneByte
 unfolding oneByte takeColumns
@@ -51,14 +52,23 @@ declared-lengths : Each Declares declaredLengths
 unfolding declaredLengths declaredLength
 declared-lengths = refl and refl and refl and refl and refl and refl and refl and refl and refl and done
 
+bit-sizes : Each BitTakes bits
+unfolding bits shapeOf need
+bit-sizes =
+    refl and refl and refl and refl and refl and refl and refl and refl and refl and refl and refl and refl and refl and refl
+    and refl and refl and done
+
 pub metadata : Metadata
-unfolding takeColumns shapeOf isTaken writeValue
+unfolding takeColumns shapeOf isTaken writeValue declaredLength familyOf metadataBytes
 metadata =
     record {
       types-taken = refl;
       types-0 = refl;
       types-1 = refl;
       types-2 = refl;
+      bytes-1 = refl;
+      bytes-2 = refl;
+      bytes-0 = refl;
       one-byte = one-byte;
       first-bytes = first-bytes;
       second-bytes = second-bytes;
@@ -72,7 +82,9 @@ metadata =
       other-size = refl;
       not-lent = refl;
       decimal-sizes = decimal-sizes;
+      bit-sizes = bit-sizes;
       declared-lengths = declared-lengths;
+      declared-types = refl;
       real-type = real-or;
       real-digits = λ m0 h. record { small = real-small m0 h; each = λ j l. real-digit m0 j h l };
       declared-length = length-xor;

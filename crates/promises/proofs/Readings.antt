@@ -1,12 +1,15 @@
 -- The worked readings, computed, and the other tables. Assumes nothing.
 use mathlib.Core.Path.{refl}
+use Rattle.wire.specs.Bits.{bitLsb0, bitMsb0}
 use Rattle.wire.specs.Packed.{readPacked, packedBytes}
 use Rattle.temporal.specs.Ranges.{clockFault, dayFault}
 use Rattle.temporal.specs.Reading.{readTemporal}
 use Rattle.value.specs.Columns.{shapeOf}
 use Rattle.table_map.specs.Fields.{countSignBits}
 use Rattle.record.specs.Records.{recordBytes}
+use Rattle.table_map.specs.Events.{readEvent}
 use Rattle.map_check.specs.Check.{checkMap}
+use Rattle.map_check.specs.Names.{columnName}
 use Rattle.image.specs.Walk.{walk}
 use Rattle.rows_event.specs.Events.{readRows}
 use Rattle.rows_event.specs.Images.{met, walkSteps}
@@ -41,7 +44,7 @@ rows-refused : Each RowsRefused rowsRefusals
 unfolding rowsRefusals readRows
 rows-refused =
     refl and refl and refl and refl and refl and refl and refl and refl and refl and refl and refl and refl and refl and refl
-    and done
+    and refl and done
 
 rows-read : Each RowsHold rowsTable
 unfolding rowsTable clockFault readRows met walkSteps
@@ -49,7 +52,7 @@ rows-read =
     refl and refl and refl and done
 
 pub readings : Readings
-unfolding met walkSteps
+unfolding met walkSteps readRows readEvent columnName bitLsb0 bitMsb0
 readings =
     record {
       marked = marked;
@@ -58,6 +61,11 @@ readings =
       images = images;
       rows-read = rows-read;
       rows-refused = rows-refused;
+      record-first = refl;
+      no-part = refl;
+      no-name = refl;
+      no-second = refl;
+      bits-past = (refl, refl);
       none-left = refl;
       left-over = refl;
       temporals = temporals;

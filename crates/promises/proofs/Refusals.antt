@@ -13,16 +13,13 @@ use Rattle.value.specs.Columns.{shapeOf}
 use Rattle.value.proofs.Tables.{four-or-five}
 use Rattle.table_map.specs.Lists.{integerItem, pairItem, stringItem, groupItem}
 use Rattle.table_map.specs.Layouts.{eventLayout, pairLayout, groupLayout}
-use Rattle.map_check.specs.Ranks.{sizesOf}
-use Rattle.map_check.specs.Fields.{fieldsAt}
 use Rattle.map_check.specs.Names.{listOf, columnName}
-use Rattle.map_check.proofs.Places.{type-told, metadata-told, key-told}
 use Rattle.promises.specs.Refusals.{Line, _at_, _below_, _wherever_, OneOf, just, under, such, later, numberOf, refusalNumbers}
-use Rattle.promises.specs.Refusals.{isAmong, inTable, Only, typesIn, EveryCall}
+use Rattle.promises.specs.Refusals.{isAmong, inTable, Only, EveryCall}
 use Rattle.promises.proofs.Only.{Listed, bytes-there, fixed, packed, long-part, Told, room}
 use Rattle.promises.proofs.Values.{temporal-read, temporal-written, column-taken, value-read, value-written, value-sized, value-made}
 use Rattle.promises.proofs.Maps.{event-read, event-written, event-sized, pair-item, group-item, stepped, field-stepped, field-cut}
-use Rattle.promises.proofs.Maps.{field-judged, checked, columns-told, keys-told, string-found, names-found}
+use Rattle.promises.proofs.Maps.{field-judged, checked, event-refused, map-refused, string-found, names-found}
 use Rattle.promises.proofs.RowsEvents.{rows-read, image-met}
 use Rattle.promises.proofs.Rows.{record-read, head-read, first-read, image-stepped, walk-ended, image-started, image-put, past-refused, null-refused}
 
@@ -118,20 +115,17 @@ refusals = record {
   read-record = λ r. only refl (record-read r just);
   check-map = λ d event postHeader buf.
       only refl
-      (checked event postHeader (λ p x. sixth (such x)) (λ p x. seventh (such x)) (λ p x. eighth (such x)) (λ p x. ninth (such x)) d buf
-      (laid-told event (eventLayout postHeader) 0) (third just) (λ j x. fourth (such x)) (λ j x. fifth (such x)) (λ p x. tenth (such x))
-      (eleventh just));
-  type-told = λ d event postHeader buf e j r l x. columns-told 4 d event postHeader buf e j r l (type-told x 0);
-  metadata-told = λ d event postHeader buf e j r l x. columns-told 5 d event postHeader buf e j r l (metadata-told x 0);
-  key-told = λ d event postHeader buf e cs fs paired p q r l c f v x.
-      let kept = fieldsAt d (typesIn event postHeader) (e .optional .start) in
-      keys-told d event postHeader buf e cs fs _ r l c f (key-told event (sizesOf d cs) kept fs paired p q f v x);
+      (checked d event postHeader buf (laid-told event (eventLayout postHeader) 0) (λ p x. third (such x)) (λ j x. fourth (such x))
+      (λ j x. fifth (such x)) (λ p x. sixth (such x)) (λ p x. seventh (such x)) (λ p x. eighth (such x)) (λ p x. ninth (such x))
+      (λ p x. tenth (such x)) (eleventh just));
+  event-told = event-refused;
+  map-told = map-refused;
   column-name = λ names operator c.
       only refl (string-found (listOf names operator) (c .0) just (λ p l x. second (such (l, x))) (λ p x. third (such x)));
   names-field = λ d event postHeader.
       only refl
-      (names-found event postHeader (λ p x. third (such x)) (λ p x. fourth (such x)) (λ p x. fifth (such x)) (λ p x. sixth (such x)) d
-      (record { cut = λ p x. such x; unpacked = λ p x. second (such x) }));
+      (names-found d event postHeader (record { cut = λ p x. such x; unpacked = λ p x. second (such x) }) (λ p x. third (such x))
+      (λ p x. fourth (such x)) (λ p x. fifth (such x)) (λ p x. sixth (such x)));
   read-head = λ r p. only refl (head-read just (second just) r p);
   first-cursor = λ r p. only refl (first-read just (second just) r p);
   step-image = λ r p im c.

@@ -7,7 +7,7 @@ use mathlib.Core.List.{List, [], _∷_, _++_}
 use mathlib.Core.Option.{none, some}
 use lib.ListN.{length, getD, take, drop}
 use Rattle.wire.specs.declared.refusal.Refusal.{Refusal}
-use Rattle.wire.specs.Outcome.{Outcome, ok, refused}
+use Rattle.wire.specs.Outcome.{Outcome, ok, refused, refuse}
 use Rattle.wire.specs.Number.{Bytes}
 use Rattle.wire.specs.Stored.{answerOf}
 use Rattle.wire.specs.declared.part.Part.{Part}
@@ -40,14 +40,18 @@ pub record AbiCalls : Type 1 where
   -- ---- maps
   -- `feed_map`: as `read_event`
   pub feed-map : (event : List ℕ) (postHeader : ℕ) → Only (feedMap event postHeader) (eventLines event postHeader)
-  -- `feed_check`: 13 for a number that is no dialect; else as `check`
-  pub feed-check : (event : List ℕ) (postHeader dialect : ℕ) (buf : List ℕ)
-      → Only (answerOf (feedCheck event postHeader dialect buf)) (13 at 0 ∷ checkLines event postHeader)
+  -- `feed_check`: as `check`; 13 for a number that is no dialect
+  pub feed-check : (event : List ℕ) (postHeader dialect : ℕ) (buf : List ℕ) (d : Dialect) → dialectOf dialect ≡ ok d
+      → Only (answerOf (feedCheck event postHeader dialect buf)) (checkLines d event postHeader)
+  pub check-no-dialect : (event : List ℕ) (postHeader dialect : ℕ) (buf : List ℕ) (w : Refusal) → dialectOf dialect ≡ refused w
+      → answerOf (feedCheck event postHeader dialect buf) ≡ refuse 13 0
   -- `feed_column`: 14 at the column asked
   pub feed-column : (r : List ℕ) (column : ℕ) → Only (feedColumn r column) (11 at 0 ∷ 14 at column ∷ [])
-  -- `feed_names`: 13 for a number that is no dialect; else as `names_field`
-  pub feed-names : (event : List ℕ) (postHeader dialect : ℕ)
-      → Only (feedNames event postHeader dialect) (13 at 0 ∷ namesLines event postHeader)
+  -- `feed_names`: as `names_field`; 13 for a number that is no dialect
+  pub feed-names : (event : List ℕ) (postHeader dialect : ℕ) (d : Dialect) → dialectOf dialect ≡ ok d
+      → Only (feedNames event postHeader dialect) (namesLines d event postHeader)
+  pub names-no-dialect : (event : List ℕ) (postHeader dialect : ℕ) (w : Refusal) → dialectOf dialect ≡ refused w
+      → feedNames event postHeader dialect ≡ refuse 13 0
   -- `feed_name`: as `column_name`
   pub feed-name : (names operator : List ℕ) (column : ℕ) → Only (feedName names operator column) (nameLines (listOf names operator) column)
   -- ---- rows; r is the record, p the presence bits

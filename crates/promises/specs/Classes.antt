@@ -7,6 +7,7 @@ use mathlib.Core.List.{List, [], _∷_}
 use lib.Dec.{eqb}
 use Rattle.wire.specs.Outcome.{ok, refuse, after}
 use Rattle.value.specs.declared.classes.Dialect.the-variants.{Document, Mysql, Mariadb}
+use Rattle.value.specs.declared.types.Family.the-variants.{Date}
 use Rattle.value.specs.Types.{familyOf, isNumeric, realType}
 use Rattle.value.specs.Classes.{hasSignBit, isCharacter, hasCharset, isEnumOrSet}
 use Rattle.table_map.specs.Fields.{isField}
@@ -51,6 +52,8 @@ pub record Classes : Type 0 where
   -- "Real type of 10 is 14", that of 254 is told by m0, and every other is its own
   pub not-real : bytesThat (λ t. not (eqb (realType t 0) t)) ≡ 10 ∷ 254 ∷ []
   pub real-of-10 : realType 10 0 ≡ 14
+  -- and it is a date, as 14 is
+  pub family-of-10 : familyOf 10 ≡ Date
   -- optional fields: 1 to 13, of which these have a rival (which one, `WorkedMaps` has)
   pub fields : bytesThat isField ≡ 1 ∷ 2 ∷ 3 ∷ 4 ∷ 5 ∷ 6 ∷ 7 ∷ 8 ∷ 9 ∷ 10 ∷ 11 ∷ 12 ∷ 13 ∷ []
   pub rivals : bytesThat (λ k. not (eqb (rivalOf k) 0)) ≡ 2 ∷ 3 ∷ 8 ∷ 9 ∷ 10 ∷ 11 ∷ []

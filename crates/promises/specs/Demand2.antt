@@ -1,7 +1,12 @@
--- Demand 2, in short: readers and writers equal the Rust wherever it returns an answer and document 01 states no difference, shown by
--- differential runs, and are proved against definitions written from MySQL's public documents. The runs are compare/rust and compare/captures; the contracts say of each
--- public call that it answers what its definition says. Stated here is what ties the definitions to each other and to the document's words: what
--- is written is read back, and what is read has one stored form. `demand2` in proofs/Demand2.antt proves all of it. Assumes nothing.
+-- Demand 2, sentence by sentence, and the line that says it.
+-- "Readers and writers equal the Rust wherever it returns an answer and document 01 states no difference, shown by differential runs": no
+-- statement can say it of a program that is not ours. `compare/rust` runs both on the same lines and lists every difference; its last line
+-- must be `0 differences that are not listed`.
+-- "and are proved against definitions from MySQL's public documents": `calls` of demand 1 says of each call's code that it answers what its
+-- definition says. Stated here is what ties the definitions to each other and to the document's words: what is written is read back, what is
+-- read has one stored form, and TIME2 is as the document words it. `Readings` holds them against its numbers.
+-- "Where those and the Rust part ways, the case is written in docs/DIFFERENCES.md": `compare/rust` and `compare/captures` fail at a case that
+-- is not. `demand2` in proofs/Demand2.antt proves all of it. Assumes nothing.
 use Prim.Native.Nat.{ℕ, _+_, _≤_}
 use mathlib.Core.Path.{_≡_}
 use mathlib.Core.Bool.{false, cond}

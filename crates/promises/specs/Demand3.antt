@@ -1,8 +1,11 @@
--- Demand 3: "What the map check passes, a row can rely on. Under an accepted map's record and presence bits of its length, every image either
--- yields one answer per present column, in order, each NULL or inside its column's domain, and laid end to end over the bytes reported used, or
--- it is refused exactly where 01's split runs out of bytes or meets a temporal part out of range, the earlier deciding. No other refusal occurs.
--- Every row inside the domains is read back from the image our writer makes of it, given room." What a row can rely on under a record is
--- `Relied`; that it may is `relied` and `relied-on` in `Demand3`.
+-- Demand 3, sentence by sentence, and the line that says it.
+-- "What the map check passes, a row can rely on": `checks`, `named` and `relied-on`.
+-- "Under an accepted map's record and presence bits of its length, every image either yields one answer per present column, in order, each
+-- NULL or inside its column's domain, and laid end to end over the bytes reported used, or it is refused exactly where 01's split runs out of
+-- bytes or meets a temporal part out of range, the earlier deciding": `walked` and `exactly`; that the walk is the library's steps,
+-- `step-by-step` and `only-step-by-step`; of single steps, `step-sound` and `step-lent`.
+-- "No other refusal occurs": `no-other-refusal`.
+-- "Every row inside the domains is read back from the image our writer makes of it, given room": `row-written`, `row-refused`, `every-row`.
 --
 -- The definitions that carry it, in the order in which to read them. What a valid record is, and how many columns it has: record/specs/Records.
 -- Which of them an image has: image/specs/Present. How the values of a column are stored: value/specs/Columns. Which values it can hold:

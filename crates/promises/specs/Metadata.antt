@@ -13,7 +13,7 @@ use Rattle.wire.specs.Outcome.{refuse}
 use Rattle.wire.specs.Bits.{digit}
 use Rattle.wire.specs.Parts.{part}
 use Rattle.value.specs.declared.datum.Value.the-variants.{Null, Int, Uint, Float, Double, Year, Bytes}
-use Rattle.value.specs.Types.{realType}
+use Rattle.value.specs.Types.{familyOf, metadataBytes, realType}
 use Rattle.value.specs.Columns.{declaredLength, shapeOf, isTaken}
 use Rattle.value.specs.Shapes.{need}
 use Rattle.value.specs.Storing.{writeValue}
@@ -304,6 +304,30 @@ decimals =
     ∷ (65, 30, 30)
     ∷ []
 
+-- BIT: m0, m1 and the bytes that its bits take, at both ends of every byte
+abbrev pub BitTakes : ℕ × ℕ × ℕ → Type 0
+BitTakes r = need (shapeOf (column 16 (r .0) (r .1))) [] ≡ r .2
+
+unfoldable pub bits : List (ℕ × ℕ × ℕ)
+bits =
+    (1, 0, 1)
+    ∷ (0, 1, 1)
+    ∷ (1, 1, 2)
+    ∷ (0, 2, 2)
+    ∷ (1, 2, 3)
+    ∷ (0, 3, 3)
+    ∷ (1, 3, 4)
+    ∷ (0, 4, 4)
+    ∷ (1, 4, 5)
+    ∷ (0, 5, 5)
+    ∷ (1, 5, 6)
+    ∷ (0, 6, 6)
+    ∷ (1, 6, 7)
+    ∷ (0, 7, 7)
+    ∷ (1, 7, 8)
+    ∷ (0, 8, 8)
+    ∷ []
+
 -- declared lengths of strings: type, m0, m1 and the length in bytes; of other types 0
 abbrev pub Declares : ℕ × ℕ × ℕ × ℕ → Type 0
 Declares r = declaredLength (r .0) (r .1) (r .2) ≡ r .3
@@ -344,6 +368,10 @@ pub record Metadata : Type 0 where
       ≡ 4 ∷ 5 ∷ 17 ∷ 18 ∷ 19 ∷ 242 ∷ 245 ∷ 249 ∷ 250 ∷ 251 ∷ 252 ∷ 255 ∷ []
   -- two
   pub types-2 : bytesThat (λ t. accepts t (1 ∷ 1 ∷ []) || accepts t (0xfe ∷ 1 ∷ [])) ≡ 15 ∷ 16 ∷ 246 ∷ 247 ∷ 248 ∷ 253 ∷ 254 ∷ []
+  -- how many there are, whatever they are; of an unknown type none
+  pub bytes-1 : bytesThat (λ t. eqb (metadataBytes (familyOf t)) 1) ≡ 4 ∷ 5 ∷ 17 ∷ 18 ∷ 19 ∷ 242 ∷ 245 ∷ 249 ∷ 250 ∷ 251 ∷ 252 ∷ 255 ∷ []
+  pub bytes-2 : bytesThat (λ t. eqb (metadataBytes (familyOf t)) 2) ≡ 15 ∷ 16 ∷ 246 ∷ 247 ∷ 248 ∷ 253 ∷ 254 ∷ []
+  pub bytes-0 : length (bytesThat (λ t. eqb (metadataBytes (familyOf t)) 0)) ≡ 237
   pub one-byte : Each OneByte oneByte
   pub first-bytes : Each Firsts firsts
   pub second-bytes : Each Seconds seconds
@@ -361,7 +389,10 @@ pub record Metadata : Type 0 where
   pub other-size : writeValue (shapeOf (column 248 248 2)) 0 (0x01 ∷ []) (Bytes (part 0 1)) (replicate 2 0) 0 ≡ refuse 13 0
   pub not-lent : writeValue (shapeOf (column 252 1 0)) 0 (replicate 2 0) (Bytes (part 1 2)) (replicate 3 0) 0 ≡ refuse 13 0
   pub decimal-sizes : Each DecimalTakes decimals
+  pub bit-sizes : Each BitTakes bits
   pub declared-lengths : Each Declares declaredLengths
+  -- the types that declare one
+  pub declared-types : bytesThat (λ t. not (eqb (declaredLength t 1 1) 0)) ≡ 15 ∷ 253 ∷ 254 ∷ []
   -- ---- 254
   -- "m0 or-ed with 0x30": by the `|` of the language; so digits 4 and 5 are set, and the others are as they were
   pub real-type : (m0 : ℕ) → m0 < 256 → realType 254 m0 ≡ bitOr m0 0x30

@@ -106,11 +106,13 @@ puts =
 abbrev pub update : List ℕ
 update = 0x2a ∷ 0x00 ∷ 0x00 ∷ 0x00 ∷ 0x00 ∷ 0x00 ∷ 0x01 ∷ 0x00 ∷ 0x02 ∷ 0x00 ∷ 0x01 ∷ 0x01 ∷ 0x01 ∷ 0xfe ∷ 0x05 ∷ 0xfe ∷ 0x06 ∷ []
 
+-- the record of that column
+abbrev pub tinyRecord : List ℕ
+tinyRecord = 0x0c ∷ 0x00 ∷ 0x01 ∷ 0x00 ∷ 0x01 ∷ 0x00 ∷ 0x01 ∷ 0x08 ∷ 0x00 ∷ 0x00 ∷ 0x00 ∷ 0x00 ∷ []
+
 -- a step over its images, with a second set or none, from an offset, of the first set or the second
 abbrev pub imageFrom : ℕ → ℕ → ℕ → Outcome (List ℕ)
-imageFrom hasSecond offset second =
-    feedImage (0x0c ∷ 0x00 ∷ 0x01 ∷ 0x00 ∷ 0x01 ∷ 0x00 ∷ 0x01 ∷ 0x08 ∷ 0x00 ∷ 0x00 ∷ 0x00 ∷ 0x00 ∷ [])
-    update 11 1 hasSecond 12 1 offset second
+imageFrom hasSecond offset second = feedImage tinyRecord update 11 1 hasSecond 12 1 offset second
 
 -- an event of one INT column, with these optional bytes
 abbrev pub oneColumn : List ℕ → List ℕ
@@ -158,6 +160,16 @@ pub record Numbers : Type 0 where
   pub step-absent : feedStep worked (0x06 ∷ []) (0x02 ∷ 0x00 ∷ []) 2 2 ≡ ok (1 ∷ 2 ∷ 3 ∷ 2 ∷ 0 ∷ 0 ∷ 0 ∷ 0 ∷ 0 ∷ 0 ∷ 0 ∷ [])
   -- an offset past the image is 9 at the cursor's column; a value for NULL and NULL for a value are 13 at the column found
   pub step-past : feedStep worked (0x07 ∷ []) workedImage 2 10 ≡ refuse 9 2
+  -- "Image calls test 11, 12, 14, then 9", and 9 for null bits that are not whole before 9 for an offset
+  pub step-order : (feedStep worked [] [] 4 10 ≡ refuse 12 0)
+      × (feedStep worked (0x07 ∷ []) [] 4 10 ≡ refuse 14 4)
+      × (feedStep worked (0x07 ∷ []) [] 2 10 ≡ refuse 9 0)
+  -- "writers 11, 12, 14, 13, 8"
+  pub start-order : feedStart worked (0x07 ∷ []) (0x00 ∷ 0x00 ∷ []) [] ≡ refuse 12 0
+  pub put-order : (feedPut worked (0x07 ∷ []) [] 4 0 1 [] [] [] ≡ refuse 12 0)
+      × (feedPut worked (0x07 ∷ []) (0x00 ∷ []) 4 0 1 [] [] [] ≡ refuse 14 4)
+  -- NULL takes no bytes, and still its offset must be in the buffer
+  pub put-past : feedPut everyKind present nulls 10 2 1 [] [] (0 ∷ []) ≡ refuse 8 0
   pub put-null : feedPut worked (0x05 ∷ []) (0x00 ∷ []) 1 0 1 [] [] [] ≡ refuse 13 2
   pub put-value : feedPut worked (0x05 ∷ []) (0x02 ∷ []) 1 0 3 (200 ∷ []) [] [] ≡ refuse 13 2
   pub put-numbers : Each PutStores puts
@@ -172,6 +184,9 @@ pub record Numbers : Type 0 where
   pub rows-numbers : feedRows 31 everyKind 42
       (0x2a ∷ 0x00 ∷ 0x00 ∷ 0x00 ∷ 0x00 ∷ 0x00 ∷ 0x03 ∷ 0x00 ∷ 0x04 ∷ 0x00 ∷ 0xaa ∷ 0xbb ∷ 0x0b ∷ 0xff ∷ 0x07 ∷ 0x01 ∷ 0x00 ∷ [])
       ≡ ok (3 ∷ 1 ∷ 10 ∷ 2 ∷ 13 ∷ 2 ∷ 1 ∷ 15 ∷ 2 ∷ 17 ∷ [])
+  pub flags-numbers : feedRows 23 everyKind 42
+      (0x2a ∷ 0x00 ∷ 0x00 ∷ 0x00 ∷ 0x00 ∷ 0x00 ∷ 0x03 ∷ 0x02 ∷ 0x0b ∷ 0xff ∷ 0x07 ∷ [])
+      ≡ ok (515 ∷ 0 ∷ 0 ∷ 0 ∷ 9 ∷ 2 ∷ 0 ∷ 0 ∷ 0 ∷ 11 ∷ [])
   pub absent-numbers : feedRows 23 everyKind 42
       (0x2a ∷ 0x00 ∷ 0x00 ∷ 0x00 ∷ 0x00 ∷ 0x00 ∷ 0x03 ∷ 0x00 ∷ 0x0b ∷ 0xff ∷ 0x07 ∷ [])
       ≡ ok (3 ∷ 0 ∷ 0 ∷ 0 ∷ 9 ∷ 2 ∷ 0 ∷ 0 ∷ 0 ∷ 11 ∷ [])
@@ -180,3 +195,7 @@ pub record Numbers : Type 0 where
   -- whether there is one
   pub image-numbers : (imageFrom 1 13 0 ≡ ok (1 ∷ 13 ∷ 2 ∷ 0 ∷ 15 ∷ 1 ∷ [])) × (imageFrom 1 15 1 ≡ ok (1 ∷ 15 ∷ 2 ∷ 1 ∷ 17 ∷ 0 ∷ []))
       × (imageFrom 1 17 0 ≡ ok (0 ∷ 0 ∷ 0 ∷ 0 ∷ 0 ∷ 0 ∷ [])) × (imageFrom 0 15 1 ≡ ok (1 ∷ 15 ∷ 2 ∷ 0 ∷ 17 ∷ 0 ∷ []))
+  -- any other number than 0 says yes
+  pub image-flags : (imageFrom 2 13 0 ≡ ok (1 ∷ 13 ∷ 2 ∷ 0 ∷ 15 ∷ 1 ∷ [])) × (imageFrom 2 15 2 ≡ ok (1 ∷ 15 ∷ 2 ∷ 1 ∷ 17 ∷ 0 ∷ []))
+  -- a set that runs past the event has no bytes
+  pub image-set-past : feedImage tinyRecord update 16 2 0 0 0 13 0 ≡ refuse 12 0

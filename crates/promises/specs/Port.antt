@@ -5,7 +5,7 @@ use Rattle.promises.specs.Demand3.{Demand3}
 use Rattle.promises.specs.Readings.{Readings}
 use Rattle.promises.specs.RowsEvents.{RowsEvents}
 
-pub record Port : Type 1 where
+pub record Port : Type 2 where
   -- the user's three demands
   pub demand1 : Demand1
   pub demand2 : Demand2

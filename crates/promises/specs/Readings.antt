@@ -8,6 +8,7 @@ use mathlib.Core.Path.{_≡_}
 use lib.IntN.{negsuc}
 use lib.ListN.{length}
 use Rattle.wire.specs.Outcome.{Outcome, ok, refused, refuse, after}
+use Rattle.wire.specs.Bits.{bitLsb0, bitMsb0}
 use Rattle.wire.specs.Packed.{readPacked, packedBytes}
 use Rattle.wire.specs.Parts.{part}
 use Rattle.temporal.specs.declared.kind.Kind.{Kind}
@@ -20,13 +21,16 @@ use Rattle.value.specs.Columns.{charLength, shapeOf}
 use Rattle.value.specs.declared.classes.Dialect.the-variants.{Document}
 use Rattle.value.specs.Data.{Datum, null, int, uint, when}
 use Rattle.record.specs.Records.{recordBytes}
+use Rattle.table_map.specs.Events.{readEvent, partIn}
+use Rattle.map_check.specs.Ranks.{place}
 use Rattle.map_check.specs.Check.{checkMap}
+use Rattle.map_check.specs.Names.{columnName, nameIn}
 use Rattle.image.specs.Walk.{walk as walkImage}
 use Rattle.rows_event.specs.declared.parts.Extra.the-variants.{Absent, Data}
 use Rattle.rows_event.specs.declared.parts.Second.the-variants.{Absent as Absent₁, Bits}
 use Rattle.rows_event.specs.declared.event.Rows.{Rows}
 use Rattle.rows_event.specs.Events.{readRows}
-use Rattle.rows_event.specs.Images.{Met, imagesOf}
+use Rattle.rows_event.specs.Images.{setOf, Met, imagesOf}
 use Rattle.promises.specs.Tables.{Each, both, column, worked, workedEvent, workedImage, workedAnswers}
 use Rattle.promises.specs.Temporals.{Temporals}
 use Rattle.promises.specs.Metadata.{Metadata}
@@ -209,6 +213,7 @@ rowsRefusals =
     ∷ rowsRefusal 32 42 (rowsBody (0x01 ∷ 0x00 ∷ [])) 15 8
     -- another table, another count, and both; a cut event is told as cut
     ∷ rowsRefusal 23 43 (rowsBody (0x03 ∷ 0x07 ∷ [])) 16 0
+    ∷ rowsRefusal 23 42 (0x2a ∷ 0x00 ∷ 0x00 ∷ 0x00 ∷ 0x00 ∷ 0x01 ∷ 0x01 ∷ 0x00 ∷ 0x03 ∷ 0x07 ∷ []) 16 0
     ∷ rowsRefusal 30 42 (rowsBody (0x02 ∷ 0x00 ∷ 0x04 ∷ 0x07 ∷ [])) 16 10
     ∷ rowsRefusal 23 43 (rowsBody (0x04 ∷ 0x07 ∷ [])) 16 0
     ∷ rowsRefusal 23 43 (rowsBody (0x04 ∷ [])) 1 9
@@ -230,6 +235,14 @@ pub record Readings : Type 0 where
   -- rows events, request 1
   pub rows-read : Each RowsHold rowsTable
   pub rows-refused : Each RowsRefused rowsRefusals
+  -- "11, then 16 for another code"
+  pub record-first : readRows 26 [] 42 [] ≡ refuse 11 0
+  -- "a call per part, empty where refused": a part of an event, a name, and a second set where there is none
+  pub no-part : partIn (λ e. e .database) (0x2a ∷ []) (readEvent (0x2a ∷ []) 8) ≡ []
+  pub no-name : nameIn (0x01 ∷ 0x61 ∷ []) (columnName (0x01 ∷ 0x61 ∷ []) [] (place 1)) ≡ []
+  pub no-second : setOf noColumns (rowsBody (0x03 ∷ 0xf8 ∷ [])) true ≡ []
+  -- a bit past the bytes is not set, whichever way they run
+  pub bits-past : (bitLsb0 (0xff ∷ []) 8 ≡ false) × (bitMsb0 (0xff ∷ []) 8 ≡ false)
   -- where no set has a column, nothing is covered by no image, and any byte is left over: 9 at 0. Spare bits are no columns
   pub none-left : imagesOf worked noColumns (rowsBody (0x03 ∷ 0xf8 ∷ [])) ≡ record { images = []; how = ok tt }
   pub left-over : imagesOf worked noColumns (rowsBody (0x03 ∷ 0xf8 ∷ 0x00 ∷ [])) ≡ record { images = []; how = refuse 9 0 }

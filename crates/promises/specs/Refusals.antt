@@ -1,7 +1,7 @@
--- Demand 1: "Every public call ends with an answer for all input, hostile counts and short metadata included. A refusal is a number and a place from document 01's table, and lent buffers
--- then hold what they held." That every call ends is no statement here: the checker accepts no function that might not, and no public one has a condition on its input. Stated is, for every
--- public call that can refuse, which refusals it gives and at which places; that their numbers are those of the table; and that a refusal leaves the buffer. A call stands here by the
--- definition that its contract equals, whatever it is lent. `refusals` in proofs/Refusals.antt proves all of it. Assumes nothing.
+-- Demand 1: "A refusal is a number and a place from document 01's table, and lent buffers then hold what they held." For every public call that
+-- can refuse: which refusals it gives and at which places; that their numbers are those of the table; and that a refusal leaves the buffer. A
+-- call stands here by the definition that its contract equals, whatever it is lent. `refusals` in proofs/Refusals.antt proves all of it.
+-- Assumes nothing.
 use Prim.Native.Nat.{ℕ, suc, _+_, _≤_, _<_}
 use mathlib.Core.Path.{_≡_}
 use mathlib.Core.Bool.{Bool, true, false, _&&_, _||_}
@@ -10,12 +10,13 @@ use mathlib.Core.List.{List, [], _∷_, _++_}
 use lib.ListN.{length}
 use lib.Dec.{eqb}
 use Rattle.wire.specs.declared.refusal.Refusal.{Refusal}
+use Rattle.wire.specs.Number.{Bytes}
 use Rattle.wire.specs.Bits.{bytesFor}
-use Rattle.wire.specs.Outcome.{Outcome, ok, refused, refuse, why}
+use Rattle.wire.specs.Outcome.{Outcome, refused, refuse, why}
 use Rattle.wire.specs.Packed.{readFixed, readPacked}
 use Rattle.wire.specs.Stored.{store, answerOf, leftOf}
 use Rattle.wire.specs.declared.part.Part.{Part}
-use Rattle.wire.specs.Parts.{lentPart, within}
+use Rattle.wire.specs.Parts.{within}
 use Rattle.wire.specs.Layouts.{Layout, CutShort, NotPacked}
 use Rattle.temporal.specs.declared.kind.Kind.{Kind}
 use Rattle.temporal.specs.declared.parts.Temporal.{Temporal}
@@ -28,23 +29,17 @@ use Rattle.value.specs.Columns.{shapeOf}
 use Rattle.value.specs.Reading.{readValue, datumOf}
 use Rattle.value.specs.Storing.{writeValue, sizeOf}
 use Rattle.value_parts.specs.Parts.{valueOf}
-use Rattle.table_map.specs.declared.event.Event.{Event}
 use Rattle.table_map.specs.declared.field.Fields.{Fields}
-use Rattle.table_map.specs.Events.{readEvent, partIn}
+use Rattle.table_map.specs.Events.{readEvent}
 use Rattle.table_map.specs.Writes.{Parts, writeEvent, eventSize}
 use Rattle.table_map.specs.Lists.{step, integerItem, pairItem, stringItem, groupItem, defaultCharset}
 use Rattle.table_map.specs.Fields.{cutField, judgeField, fieldStep}
 use Rattle.table_map.specs.Layouts.{eventLayout, pairLayout, stringsLayout, groupLayout}
 use Rattle.record.specs.Records.{countOf, recordValid, readRecord}
 use Rattle.map_check.specs.declared.rank.Place.{Place}
-use Rattle.map_check.specs.declared.declare.Declared.{Declared}
-use Rattle.map_check.specs.Columns.{takeColumns}
-use Rattle.map_check.specs.Ranks.{sizesOf}
-use Rattle.map_check.specs.Fields.{keepFields, fieldsAt}
 use Rattle.map_check.specs.Check.{check}
 use Rattle.map_check.specs.Names.{listOf, columnName, namesField}
-use Rattle.map_check.specs.Places.{TypeNotTaken, MetadataWrong, FieldCut, FieldNotPacked, FieldUnknown, FieldWrong}
-use Rattle.map_check.specs.Places.{KeysAre, Repeats, KeyRepeated}
+use Rattle.map_check.specs.Places.{TooMany, TypeNotTaken, MetadataWrong, InColumns, InFields, KeyRepeated, BeforeNames}
 use Rattle.image.specs.declared.cursor.Cursor.{Cursor}
 use Rattle.image.specs.Present.{countBits}
 use Rattle.image.specs.Split.{Slot, slotsAt, headOf, firstCursor, stepFrom}
@@ -107,36 +102,32 @@ laidOut s l p = 1 wherever CutShort s l p ∷ 2 wherever NotPacked s l p ∷ []
 abbrev pub eventLines : List ℕ → ℕ → List Line
 eventLines event postHeader = laidOut event (eventLayout postHeader) 0
 
--- the type bytes and the metadata of an event, none where it is refused
-abbrev pub typesIn : List ℕ → ℕ → List ℕ
-typesIn event postHeader = partIn (λ e. e .types) event (readEvent event postHeader)
+-- of a map whose event is read: how many columns, each column, each optional field, keys. No two of these are of one map, as each stands
+-- behind what was passed before it
+abbrev pub mapLines : Dialect → List ℕ → ℕ → List Line
+mapLines d event postHeader =
+    3 wherever TooMany event postHeader
+    ∷ 4 wherever InColumns TypeNotTaken event postHeader
+    ∷ 5 wherever InColumns MetadataWrong event postHeader
+    ∷ 1 wherever InFields d event postHeader 1
+    ∷ 2 wherever InFields d event postHeader 2
+    ∷ 6 wherever InFields d event postHeader 6
+    ∷ 7 wherever InFields d event postHeader 7
+    ∷ 7 wherever KeyRepeated d event postHeader
+    ∷ []
 
-abbrev pub metadataIn : List ℕ → ℕ → List ℕ
-metadataIn event postHeader = partIn (λ e. e .metadata) event (readEvent event postHeader)
-
--- of the check: those of the event; 3; then those of its columns, its optional fields and its keys; and room
-abbrev pub checkLines : List ℕ → ℕ → List Line
-checkLines event postHeader =
-    eventLines event postHeader
-    ++ (3 at 0
-    ∷ 4 wherever TypeNotTaken (typesIn event postHeader) (metadataIn event postHeader)
-    ∷ 5 wherever MetadataWrong (typesIn event postHeader) (metadataIn event postHeader)
-    ∷ 1 wherever FieldCut event postHeader
-    ∷ 2 wherever FieldNotPacked event postHeader
-    ∷ 6 wherever FieldUnknown event postHeader
-    ∷ 7 wherever FieldWrong event postHeader
-    ∷ 7 wherever KeyRepeated event postHeader
-    ∷ 8 at 0
-    ∷ [])
+-- of the check: those of the event, those of the map, and room
+abbrev pub checkLines : Dialect → List ℕ → ℕ → List Line
+checkLines d event postHeader = eventLines event postHeader ++ (mapLines d event postHeader ++ (8 at 0 ∷ []))
 
 -- of the names field: those of the event, and of its optional fields up to the names
-abbrev pub namesLines : List ℕ → ℕ → List Line
-namesLines event postHeader =
+abbrev pub namesLines : Dialect → List ℕ → ℕ → List Line
+namesLines d event postHeader =
     eventLines event postHeader
-    ++ (1 wherever FieldCut event postHeader
-    ∷ 2 wherever FieldNotPacked event postHeader
-    ∷ 6 wherever FieldUnknown event postHeader
-    ∷ 7 wherever FieldWrong event postHeader
+    ++ (1 wherever BeforeNames d event postHeader 1
+    ∷ 2 wherever BeforeNames d event postHeader 2
+    ∷ 6 wherever BeforeNames d event postHeader 6
+    ∷ 7 wherever BeforeNames d event postHeader 7
     ∷ [])
 
 -- of a column's name in a list: 14 at the column; 1 and 2 at the first of the strings up to its own that fails, which starts within the
@@ -209,26 +200,16 @@ pub record EveryCall : Type 1 where
   -- ---- `map_check`. `name_part` hands back an empty part where there is a refusal
   -- `check`: 1, 2, 6 and 7 at offsets of the event, 4 and 5 at columns
   pub check-map : (d : Dialect) (event : List ℕ) (postHeader : ℕ) (buf : List ℕ)
-      → Only (check d event postHeader buf) (checkLines event postHeader)
-  -- and the first column that is not taken is told, in an event that was read and has at most 255; so metadata left over is 5 at n
-  pub type-told : (d : Dialect) (event : List ℕ) (postHeader : ℕ) (buf : List ℕ) (e : Event) (j : ℕ) → readEvent event postHeader ≡ ok e
-      → length (typesIn event postHeader) ≤ 255 → TypeNotTaken (typesIn event postHeader) (metadataIn event postHeader) j
-      → check d event postHeader buf ≡ refuse 4 j
-  pub metadata-told : (d : Dialect) (event : List ℕ) (postHeader : ℕ) (buf : List ℕ) (e : Event) (j : ℕ) → readEvent event postHeader ≡ ok e
-      → length (typesIn event postHeader) ≤ 255 → MetadataWrong (typesIn event postHeader) (metadataIn event postHeader) j
-      → check d event postHeader buf ≡ refuse 5 j
-  -- and the earliest key that repeats one is told at its item, in such an event, where its columns are taken, as cs, its fields are kept,
-  -- as fs, and its keys are the part p of it
-  pub key-told : (d : Dialect) (event : List ℕ) (postHeader : ℕ) (buf : List ℕ) (e : Event) (cs : List Declared) (fs : List (ℕ × Part))
-      (paired : Bool) (p : Part) (q : ℕ)
-      → readEvent event postHeader ≡ ok e → length (typesIn event postHeader) ≤ 255
-      → takeColumns (typesIn event postHeader) (metadataIn event postHeader) 0 ≡ ok cs
-      → keepFields (sizesOf d cs) (fieldsAt d (typesIn event postHeader) (e .optional .start)) event ≡ ok fs
-      → KeysAre paired fs p → Repeats paired (lentPart event p) q → check d event postHeader buf ≡ refuse 7 (p .start + q)
+      → Only (check d event postHeader buf) (checkLines d event postHeader)
+  -- and it gives them whenever they are so, in 01's order: first what reading the event refuses, then that of the map. For room see `Checks`
+  pub event-told : (d : Dialect) (event : List ℕ) (postHeader : ℕ) (buf : List ℕ) (w : Refusal) → readEvent event postHeader ≡ refused w
+      → check d event postHeader buf ≡ refused w
+  pub map-told : (d : Dialect) (event : List ℕ) (postHeader : ℕ) (buf : List ℕ) (w : Refusal) → Bytes event
+      → OneOf (mapLines d event postHeader) w → check d event postHeader buf ≡ refused w
   -- `column_name`: the column asked, or an offset of the list that is looked at
   pub column-name : (names operator : List ℕ) (c : Place) → Only (columnName names operator c) (nameLines (listOf names operator) (c .0))
   -- `names_field`: those of the event, and of its optional fields up to the names
-  pub names-field : (d : Dialect) (event : List ℕ) (postHeader : ℕ) → Only (namesField d event postHeader) (namesLines event postHeader)
+  pub names-field : (d : Dialect) (event : List ℕ) (postHeader : ℕ) → Only (namesField d event postHeader) (namesLines d event postHeader)
   -- ---- `image`; r is the record, p the presence bits. `count_bits` and `first_set` refuse nothing
   -- `read_head`, `first_cursor`
   pub read-head : (r p : List ℕ) → Only (headOf r p) (11 at 0 ∷ 12 at 0 ∷ [])

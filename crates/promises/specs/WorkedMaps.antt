@@ -3,16 +3,17 @@
 use Prim.Native.Nat.{ℕ, _+_}
 use mathlib.Core.Path.{_≡_}
 use mathlib.Core.List.{List, [], _∷_, _++_}
+use lib.Dec.{eqb}
 use lib.ListN.{length, take, replicate}
 use Rattle.wire.specs.Outcome.{ok, refuse}
 use Rattle.wire.specs.Parts.{part}
 use Rattle.value.specs.declared.classes.Dialect.{Dialect}
 use Rattle.value.specs.declared.classes.Dialect.the-variants.{Document, Mysql, Mariadb}
-use Rattle.table_map.specs.Events.{readEvent}
+use Rattle.table_map.specs.Events.{idBytes, readEvent}
 use Rattle.table_map.specs.Writes.{Parts, parts, writeEvent, eventSize}
 use Rattle.table_map.specs.Fields.{fieldItem}
 use Rattle.map_check.specs.Check.{check}
-use Rattle.promises.specs.Tables.{Each, worked, workedEvent}
+use Rattle.promises.specs.Tables.{Each, bytesThat, worked, workedEvent}
 
 -- ---- accepted maps
 -- a dialect, a post-header length, an event and its record
@@ -386,6 +387,21 @@ pub record WorkedMaps : Type 0 where
         metadata = part 19 2;
         bits = part 21 1;
         optional = part 22 3;
+      })
+  -- "4 bytes if the post-header length is 6, else 6 bytes", and with 4 the id is these alone
+  pub id-four : bytesThat (λ p. eqb (idBytes p) 4) ≡ 6 ∷ []
+  pub id-six : length (bytesThat (λ p. eqb (idBytes p) 6)) ≡ 255
+  pub event-four : readEvent
+      (0x2a ∷ 0x00 ∷ 0x00 ∷ 0x00 ∷ 0x01 ∷ 0x02 ∷ 0x01 ∷ 0x74 ∷ 0x00 ∷ 0x01 ∷ 0x72 ∷ 0x00 ∷ 0x01 ∷ 0x03 ∷ 0x00 ∷ 0x02 ∷ []) 6
+      ≡ ok (record {
+        id = 42;
+        flags = 513;
+        database = part 7 1;
+        table = part 10 1;
+        types = part 13 1;
+        metadata = part 15 0;
+        bits = part 15 1;
+        optional = part 16 0;
       })
   pub event-written : writeEvent workedParts (replicate 25 0) ≡ ok (25, workedEvent)
   pub event-room : writeEvent workedParts (replicate 24 0) ≡ refuse 8 0

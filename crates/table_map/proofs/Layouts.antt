@@ -4,15 +4,17 @@ use mathlib.Core.Path.{_≡_, sym, subst}
 use mathlib.Core.Logic.{⊎-elim}
 use mathlib.Core.List.{List}
 use native.Mathlib.Omega.{arith}
-use lib.ListN.{getD}
+use borrow.Author.Tests.{lt-leb}
+use lib.ListN.{length, getD}
 use Rattle.wire.specs.declared.refusal.Refusal.{Refusal}
 use Rattle.wire.specs.declared.part.Part.{Part}
-use Rattle.wire.specs.Outcome.{ok, refused, why}
+use Rattle.wire.specs.Outcome.{ok, refused, refuse, why}
+use Rattle.wire.specs.Number.{Bytes}
 use Rattle.wire.specs.Packed.{readPacked}
 use Rattle.wire.specs.Parts.{within}
 use Rattle.wire.specs.Layouts.{named, string, Whole, all-named, all-string, Cut, few-named, few-length, few-string, Unpacked, bad-length}
 use Rattle.wire.proofs.Outcomes.{after-refuses, ok-not-refused}
-use Rattle.wire.proofs.Forms.{Refuses, short, none, read-refuses}
+use Rattle.wire.proofs.Forms.{Refuses, short, none, read-refuses, cut-told as integer-cut, none-told as integer-none}
 use Rattle.wire.proofs.Parts.{within-ok, within-refuses}
 use Rattle.table_map.specs.Parts.{shortPart, longPart}
 use Rattle.table_map.proofs.Chains.{named as name-read, long-named}
@@ -62,3 +64,13 @@ string-refuses s p w e =
     (λ b. absurd (ok-not-refused (b .2)))
     (after-refuses (within s (a .0 .1) (a .0 .0) p) _ w (a .2)))
     (after-refuses (readPacked s p) _ w e)
+
+-- and the other way, of bytes
+pub cut-told : {s : List ℕ} {p : ℕ} → Cut s string p → longPart s p ≡ refuse 1 p
+unfolding longPart within
+cut-told (few-length c) = rw (integer-cut c)
+cut-told {s} {p} (few-string {n = n} {q = q} e h) = rw (e, lt-leb (q + n) (length s) h)
+
+pub unpacked-told : {s : List ℕ} {p : ℕ} → Bytes s → Unpacked s string p → longPart s p ≡ refuse 2 p
+unfolding longPart
+unpacked-told {s} {p} b (bad-length c) = rw (integer-none (b p) c)

@@ -2,7 +2,8 @@
 -- shortest, and the only one of its length. Assumes nothing.
 use Prim.Native.Nat.{ℕ, suc, _+_, _-_, _^_, _≤_, _<_}
 use mathlib.Core.Path.{_≡_, refl, sym, subst, _∙_}
-use mathlib.Core.Logic.{dite, inl, inr}
+use mathlib.Core.Bool.{Bool, true, false, cond}
+use mathlib.Core.Logic.{dite, _⊎_, inl, inr}
 use mathlib.Core.List.{List, [], _∷_, _++_}
 use native.Mathlib.Numerals.{add-one}
 use native.Mathlib.Decide.{decLe, decLt}
@@ -12,7 +13,7 @@ use lib.ListN.{length, take, drop, getD, length-append, length-drop}
 use lib.Seq.{length-take-le, drop-append-add, drop-cons, getD-append-seam, take-at}
 use lib.Dec.{leb, eqb}
 use Rattle.wire.specs.declared.refusal.Refusal.{Refusal}
-use Rattle.wire.specs.Outcome.{ok, refused, why}
+use Rattle.wire.specs.Outcome.{ok, refused, refuse, why}
 use Rattle.wire.specs.Number.{Bytes, leValue, leBytes}
 use Rattle.wire.specs.Packed.{packedBytes, readPacked, formOf, longForm}
 use Rattle.wire.specs.Layouts.{Precedes, two as two′, three as three′, eight as eight′, IntegerCut, no-byte, few-behind, IntegerRefused}
@@ -251,3 +252,27 @@ read-refuses s at w e =
     by-test (leb (length s) at) _ _ _ e
     (λ t e₁. subst (Refuses s at) (same-refused e₁) (short (no-byte (leb-true (length s) at t))))
     (λ t e₁. form-refuses s at (getD s at 0) w (leb-false (length s) at t) refl e₁)
+
+-- ---- and the other way: an integer that ends early is told so, and so is one whose first byte is 251 or 255
+precedes-form : (s : List ℕ) (at b : ℕ) {k : ℕ} → Precedes b k → formOf s at b ≡ longForm s at k
+unfolding formOf
+precedes-form s at b two′ = refl
+precedes-form s at b three′ = refl
+precedes-form s at b eight′ = refl
+
+pub cut-told : {s : List ℕ} {at : ℕ} → IntegerCut s at → readPacked s at ≡ refuse 1 at
+unfolding readPacked longForm
+cut-told {s} {at} (no-byte h) = rw (le-leb (length s) at h)
+cut-told {s} {at} (few-behind {k} p h) = go (leb (length s) at)
+  where
+    go : (t : Bool) → cond t (refuse 1 at) (formOf s at (getD s at 0)) ≡ refuse 1 at
+    go true = refl
+    go false = precedes-form s at (getD s at 0) p ∙ rw (lt-leb (at + 1 + k) (length s) h)
+
+pub none-told : {s : List ℕ} {at : ℕ} → getD s at 0 < 256 → IntegerRefused s at → readPacked s at ≡ refuse 2 at
+unfolding readPacked formOf
+none-told {s} {at} b x = go (x .first b)
+  where
+    go : (getD s at 0 ≡ 251) ⊎ (getD s at 0 ≡ 255) → cond (leb (length s) at) (refuse 1 at) (formOf s at (getD s at 0)) ≡ refuse 2 at
+    go (inl e) = rw (lt-leb (length s) at (x .there), e)
+    go (inr e) = rw (lt-leb (length s) at (x .there), e)
