@@ -71,7 +71,7 @@ enum {
                                   event's column count stands */
 };
 
-/* Kinds of values, with their parts in order. feed_step answers them, feed_put takes all but FEED_END. */
+/* Kinds of values (sorts, in the crates), with their parts in order. feed_step answers them, feed_put takes all but FEED_END. */
 enum {
     FEED_END = 0,      /* no value: the image is at its end */
     FEED_NULL = 1,     /* (no part) */
@@ -117,7 +117,7 @@ enum {
     FEED_CURSOR_COLUMN = 0, /* feed_first, feed_start, feed_put */
     FEED_CURSOR_OFFSET = 1,
 
-    FEED_STEP_KIND = 0, /* feed_step */
+    FEED_STEP_KIND = 0, /* feed_step: the number of the value's sort, as above */
     FEED_STEP_COLUMN = 1,
     FEED_STEP_NEXT_COLUMN = 2,
     FEED_STEP_NEXT_OFFSET = 3,

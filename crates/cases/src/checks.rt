@@ -12,7 +12,7 @@ use crate::words::post_header;
 use crate::words::text;
 use map_check::NameRead;
 use map_check::NamesRead;
-use map_check::Place;
+use map_check::TablePlace;
 use record::RecordRead;
 use value::Dialect;
 
@@ -48,7 +48,7 @@ pub(crate) fn record_of(line: &[u8], args: &[u64]) -> Turn {
 
 // `name NAMES OPERATOR COLUMN`
 pub(crate) fn name(line: &[u8], args: &[u64]) -> Turn {
-    let column = Place(index(args, 3));
+    let column = TablePlace(index(args, 3));
     match map_check::column_name(text(line, args, 1), text(line, args, 2), column) {
         NameRead::Name(_) => plain(OWN),
         NameRead::Refused(refusal) => refused(refusal),
@@ -57,7 +57,7 @@ pub(crate) fn name(line: &[u8], args: &[u64]) -> Turn {
 
 // The name that such a line asks for, by the call that hands out its bytes.
 pub(crate) fn name_asked<'a>(line: &'a [u8], args: &[u64]) -> &'a [u8] {
-    let column = Place(index(args, 3));
+    let column = TablePlace(index(args, 3));
     map_check::name_part(text(line, args, 1), text(line, args, 2), column)
 }
 

@@ -18,6 +18,6 @@ pub(crate) fn packed(line: &[u8], args: &[u64]) -> Turn {
 
 // `pack VALUE ROOM`
 pub(crate) fn pack(args: &[u64], room: &mut [u8]) -> Turn {
-    let answer = wire::write_packed(room, 0, number(args, 1));
+    let answer = wire::write_packed(number(args, 1), room, 0);
     written(room, answer)
 }

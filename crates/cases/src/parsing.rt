@@ -17,7 +17,7 @@ use crate::values::parse_value;
 use crate::words::count;
 use crate::words::place_of;
 use crate::words::set_slot;
-use value_parts::kind::BYTES;
+use value_parts::sort::BYTES;
 
 // The dialects and the kinds of lists: their words are the numbers of their rows.
 const DIALECTS: [u8; 23] = *b"document\nmysql\nmariadb\n";
@@ -115,8 +115,8 @@ fn bytes_slot(read: Slot) -> Slot {
 fn plain_slot(value: Numbers) -> Slot {
     let p = value.parts;
     Slot {
-        is_good: value.kind != 0,
-        numbers: [value.kind, p[0], p[1], p[2], p[3], p[4], p[5], p[6]],
+        is_good: value.sort != 0,
+        numbers: [value.sort, p[0], p[1], p[2], p[3], p[4], p[5], p[6]],
     }
 }
 

@@ -78,8 +78,8 @@ pub(crate) fn holding(mut turn: Turn, inner: usize, parts: [u64; 7]) -> Turn {
 
 // The same turn with a value.
 pub(crate) fn valued(turn: Turn, value: Value) -> Turn {
-    let kind = value_parts::kind_of(value) as usize;
-    holding(turn, kind, value_parts::parts_of(value))
+    let sort = value_parts::sort_of(value) as usize;
+    holding(turn, sort, value_parts::parts_of(value))
 }
 
 // Four numbers at most; the others are not printed.

@@ -37,15 +37,15 @@ pub(crate) const FORMS: [u8; 124] = *b"\n\
     H\n\
     N@N\n";
 
-// A value in numbers: its kind and parts, or kind 0 where a word is none.
+// A value in numbers: its sort and parts, or sort 0 where a word is none.
 pub(crate) struct Numbers {
-    pub(crate) kind: u64,
+    pub(crate) sort: u64,
     pub(crate) parts: [u64; 7],
 }
 
 fn no_value() -> Numbers {
     Numbers {
-        kind: 0,
+        sort: 0,
         parts: [0, 0, 0, 0, 0, 0, 0],
     }
 }
@@ -62,7 +62,7 @@ fn parse_part(letter: u8, s: &[u8]) -> Decimal {
 
 // The parts that stand in `s`, a colon before each, by the letters of a form, which have colons before
 // them too.
-fn parse_parts(kind: u64, letters: &[u8], s: &[u8]) -> Numbers {
+fn parse_parts(sort: u64, letters: &[u8], s: &[u8]) -> Numbers {
     let mut parts = [0u64; 7];
     let mut at: usize = 0;
     let mut i: usize = 0;
@@ -82,13 +82,13 @@ fn parse_parts(kind: u64, letters: &[u8], s: &[u8]) -> Numbers {
     if at != s.len() {
         return no_value();
     }
-    Numbers { kind, parts }
+    Numbers { sort, parts }
 }
 
-// The value, if its parts fit its kind.
+// The value, if its parts fit its sort.
 fn judged(value: Numbers) -> Numbers {
     let parts = value.parts;
-    let Made::Value(_) = value_parts::value_of(value.kind, &parts) else {
+    let Made::Value(_) = value_parts::value_of(value.sort, &parts) else {
         return no_value();
     };
     value

@@ -1,12 +1,12 @@
 // The words of a line as numbers. Each has a slot of eight: a number is the first of them; a byte
-// string is its start and its length in the line, in which it was decoded; a value is its kind and its
+// string is its start and its length in the line, in which it was decoded; a value is its sort and its
 // seven parts. Slot 0 is the line's own. All readers are total: a word that is not there is 0, or has
 // no bytes.
 use value::Column;
 use value::Dialect;
 use value::Value;
 use value_parts::Made;
-use value_parts::kind::BYTES;
+use value_parts::sort::BYTES;
 use wire::Part;
 
 // How many numbers a slot has.
@@ -108,8 +108,8 @@ pub(crate) fn place(start: u64, len: u64) -> Part {
     }
 }
 
-fn value_place(kind: u64, start: u64, len: u64) -> Part {
-    if kind == BYTES {
+fn value_place(sort: u64, start: u64, len: u64) -> Part {
+    if sort == BYTES {
         return place(start, len);
     }
     place(0, 0)
@@ -124,8 +124,8 @@ pub(crate) fn text<'a>(line: &'a [u8], args: &[u64], word: usize) -> &'a [u8] {
 // A word that is a value; the line is what lends it its bytes.
 pub(crate) fn value(args: &[u64], word: usize) -> Value {
     let numbers = slot(args, word);
-    let kind = nth(numbers, 0);
-    let Made::Value(value) = value_parts::value_of(kind, behind_first(numbers)) else {
+    let sort = nth(numbers, 0);
+    let Made::Value(value) = value_parts::value_of(sort, behind_first(numbers)) else {
         return Value::Null;
     };
     value
@@ -160,7 +160,7 @@ pub(crate) fn dialect(args: &[u64], word: usize) -> Dialect {
 // `TYPE M0 M1 UNSIGNED`, the first words of a line
 pub(crate) fn column(args: &[u64]) -> Column {
     Column {
-        kind: byte(args, 1),
+        real: byte(args, 1),
         m0: byte(args, 2),
         m1: byte(args, 3),
         unsigned: number(args, 4) == 1,

@@ -18,10 +18,11 @@ use Rattle.map_check.specs.Names.{namesField}
 use Rattle.rows_event.specs.declared.parts.Second.{Second}
 use Rattle.rows_event.specs.declared.event.Rows.{Rows}
 use Rattle.rows_event.specs.declared.images.Images.{Images}
-use Rattle.rows_event.specs.Images.{Told as Told₁, nextImage}
-use Rattle.feed_abi.specs.Answers.{numberOf, toldOf, statusOf, numbersLeft, bytesLeft}
-use Rattle.image.specs.Split.{Told}
-use Rattle.feed_abi.specs.Calls.{said, saidWith, entryNumbers, namesGiven, givenNumbers, toldNumbers, Held, setsAsked, dialectOf, feedColumn, feedNames}
+use Rattle.rows_event.specs.Images.{ImageStepped as Told₁, nextImage}
+use Rattle.feed_abi.specs.Answers.{answerNumber, answerNumbers, statusOf, numbersLeft, bytesLeft}
+use Rattle.image.specs.Split.{ColumnStepped}
+use Rattle.feed_abi.specs.Calls.{said, saidWith, entryNumbers, namesGiven, givenNumbers, toldNumbers, Held, setsAsked, dialectOf}
+use Rattle.feed_abi.specs.Calls.{feedColumn, feedNames}
 
 -- the status s and the numbers x that a call leaves
 abbrev pub Tells : ℕ → List ℕ → Outcome (List ℕ) → ℕ → List ℕ → Type 0
@@ -41,35 +42,42 @@ unfolding statusOf numbersLeft bytesLeft
 no-bytes k out buf o h = rw (lt-leb k (length out) h) (refl, (refl, refl))
 
 -- ---- with room: an answer, or a refusal
-pub tells-ok : (k : ℕ) (out : List ℕ) (o : Outcome (List ℕ)) (ns : List ℕ) (s : ℕ) (x : List ℕ) → k ≤ length out → o ≡ ok ns → s ≡ 0 → x ≡ stored out 0 ns → Tells k out o s x
+pub tells-ok : (k : ℕ) (out : List ℕ) (o : Outcome (List ℕ)) (ns : List ℕ) (s : ℕ) (x : List ℕ) → k ≤ length out → o ≡ ok ns → s ≡ 0
+    → x ≡ stored ns out 0 → Tells k out o s x
 unfolding statusOf numbersLeft
 tells-ok k out o ns s x h e p q = rw (le-leb k (length out) h, e) (p, q)
 
-pub tells-refused : (k : ℕ) (out : List ℕ) (o : Outcome (List ℕ)) (r : Refusal) (s : ℕ) (x : List ℕ) → k ≤ length out → o ≡ refused r → s ≡ r .number
-    → x ≡ stored out 0 (r .place ∷ []) → Tells k out o s x
+pub tells-refused : (k : ℕ) (out : List ℕ) (o : Outcome (List ℕ)) (r : Refusal) (s : ℕ) (x : List ℕ) → k ≤ length out → o ≡ refused r
+    → s ≡ r .number
+    → x ≡ stored (r .place ∷ []) out 0 → Tells k out o s x
 unfolding statusOf numbersLeft
 tells-refused k out o r s x h e p q = rw (le-leb k (length out) h, e) (p, q)
 
 -- of a call whose answer is said in numbers
-pub said-ok : {A : Type 0} (k : ℕ) (out : List ℕ) (f : A → List ℕ) (o : Outcome A) (a : A) (s : ℕ) (x : List ℕ) → k ≤ length out → o ≡ ok a → s ≡ 0 → x ≡ stored out 0 (f a)
+pub said-ok : {A : Type 0} (k : ℕ) (out : List ℕ) (f : A → List ℕ) (o : Outcome A) (a : A) (s : ℕ) (x : List ℕ) → k ≤ length out → o ≡ ok a
+    → s ≡ 0 → x ≡ stored (f a) out 0
     → Tells k out (said f o) s x
 said-ok k out f o a s x h e p q = tells-ok k out (said f o) (f a) s x h (rw e) p q
 
-pub said-refused : {A : Type 0} (k : ℕ) (out : List ℕ) (f : A → List ℕ) (o : Outcome A) (r : Refusal) (s : ℕ) (x : List ℕ) → k ≤ length out → o ≡ refused r → s ≡ r .number
-    → x ≡ stored out 0 (r .place ∷ []) → Tells k out (said f o) s x
+pub said-refused : {A : Type 0} (k : ℕ) (out : List ℕ) (f : A → List ℕ) (o : Outcome A) (r : Refusal) (s : ℕ) (x : List ℕ) → k ≤ length out
+    → o ≡ refused r → s ≡ r .number
+    → x ≡ stored (r .place ∷ []) out 0 → Tells k out (said f o) s x
 said-refused k out f o r s x h e p q = tells-refused k out (said f o) r s x h (rw e) p q
 
 -- ---- a writer w, whose answer is said in numbers
-pub wrote-ok : {A : Type 0} (k : ℕ) (out buf : List ℕ) (f : A → List ℕ) (w : Outcome (A × List ℕ)) (o : Outcome (List ℕ × List ℕ)) (a : A) (s : ℕ) (x b : List ℕ) → k ≤ length out
-    → o ≡ saidWith f w → answerOf w ≡ ok a → s ≡ 0 → x ≡ stored out 0 (f a) → b ≡ leftOf buf w → Leaves k out buf o s x b
+pub wrote-ok : {A : Type 0} (k : ℕ) (out buf : List ℕ) (f : A → List ℕ) (w : Outcome (A × List ℕ)) (o : Outcome (List ℕ × List ℕ)) (a : A)
+    (s : ℕ) (x b : List ℕ) → k ≤ length out
+    → o ≡ saidWith f w → answerOf w ≡ ok a → s ≡ 0 → x ≡ stored (f a) out 0 → b ≡ leftOf buf w → Leaves k out buf o s x b
 unfolding statusOf numbersLeft bytesLeft
 wrote-ok k out buf f (ok y) o a s x b h d e p q u =
     let z : y .0 ≡ a = same-ok e in
     rw (le-leb k (length out) h, d, z) (p, (q, u))
 wrote-ok k out buf f (refused r) o a s x b h d e p q u = absurd (ok-not-refused (sym e))
 
-pub wrote-refused : {A : Type 0} (k : ℕ) (out buf : List ℕ) (f : A → List ℕ) (w : Outcome (A × List ℕ)) (o : Outcome (List ℕ × List ℕ)) (r : Refusal) (s : ℕ) (x b : List ℕ)
-    → k ≤ length out → o ≡ saidWith f w → answerOf w ≡ refused r → s ≡ r .number → x ≡ stored out 0 (r .place ∷ []) → b ≡ leftOf buf w → Leaves k out buf o s x b
+pub wrote-refused : {A : Type 0} (k : ℕ) (out buf : List ℕ) (f : A → List ℕ) (w : Outcome (A × List ℕ)) (o : Outcome (List ℕ × List ℕ))
+    (r : Refusal) (s : ℕ) (x b : List ℕ)
+    → k ≤ length out → o ≡ saidWith f w → answerOf w ≡ refused r → s ≡ r .number → x ≡ stored (r .place ∷ []) out 0 → b ≡ leftOf buf w
+    → Leaves k out buf o s x b
 unfolding statusOf numbersLeft bytesLeft
 wrote-refused k out buf f (ok y) o r s x b h d e p q u = absurd (ok-not-refused e)
 wrote-refused k out buf f (refused v) o r s x b h d e p q u =
@@ -77,14 +85,17 @@ wrote-refused k out buf f (refused v) o r s x b h d e p q u =
     rw (le-leb k (length out) h, d, z) (p, (q, u))
 
 -- either way
-pub wrote-told : {A : Type 0} (k : ℕ) (out buf : List ℕ) (f : A → List ℕ) (w : Outcome (A × List ℕ)) (o : Outcome (List ℕ × List ℕ)) (a : Outcome A) (s : ℕ) (x b : List ℕ)
-    → k ≤ length out → o ≡ saidWith f w → a ≡ answerOf w → s ≡ numberOf (said f a) → x ≡ stored out 0 (toldOf (said f a)) → b ≡ leftOf buf w → Leaves k out buf o s x b
+pub wrote-told : {A : Type 0} (k : ℕ) (out buf : List ℕ) (f : A → List ℕ) (w : Outcome (A × List ℕ)) (o : Outcome (List ℕ × List ℕ))
+    (a : Outcome A) (s : ℕ) (x b : List ℕ)
+    → k ≤ length out → o ≡ saidWith f w → a ≡ answerOf w → s ≡ answerNumber (said f a) → x ≡ stored (answerNumbers (said f a)) out 0
+    → b ≡ leftOf buf w → Leaves k out buf o s x b
 wrote-told k out buf f w o (ok y) s x b h d e p q u = wrote-ok k out buf f w o y s x b h d (sym e) p q u
 wrote-told k out buf f w o (refused r) s x b h d e p q u = wrote-refused k out buf f w o r s x b h d (sym e) p q u
 
 -- a refusal before the writer was called
-pub not-called : (k : ℕ) (out buf : List ℕ) (o : Outcome (List ℕ × List ℕ)) (r : Refusal) (s : ℕ) (x : List ℕ) → k ≤ length out → o ≡ refused r → s ≡ r .number
-    → x ≡ stored out 0 (r .place ∷ []) → Leaves k out buf o s x buf
+pub not-called : (k : ℕ) (out buf : List ℕ) (o : Outcome (List ℕ × List ℕ)) (r : Refusal) (s : ℕ) (x : List ℕ) → k ≤ length out
+    → o ≡ refused r → s ≡ r .number
+    → x ≡ stored (r .place ∷ []) out 0 → Leaves k out buf o s x buf
 unfolding statusOf numbersLeft bytesLeft
 not-called k out buf o r s x h e p q = rw (le-leb k (length out) h, e) (p, (q, refl))
 
@@ -102,7 +113,8 @@ unfolding feedColumn
 column-at r j n e h = rw (e, lt-ltb j n h)
 
 -- ---- the names of a map, asked in the dialect of a number
-pub names-asked : (event : List ℕ) (postHeader n : ℕ) (d : Dialect) (o : Outcome (Option Part)) → dialectOf n ≡ ok d → namesField d event postHeader ≡ o
+pub names-asked : (event : List ℕ) (postHeader n : ℕ) (d : Dialect) (o : Outcome (Option Part)) → dialectOf n ≡ ok d
+    → namesField d event postHeader ≡ o
     → feedNames event postHeader n ≡ said (λ f. givenNumbers (namesGiven f)) o
 unfolding feedNames
 names-asked event postHeader n d o e g =
@@ -114,31 +126,36 @@ unfolding feedNames
 no-dialect event postHeader n r e = rw e
 
 -- ---- a step, which says too that a value told is one that the machine can hold
-abbrev Steps : List ℕ → Outcome Told → ℕ → List ℕ → Type 0
+abbrev Steps : List ℕ → Outcome ColumnStepped → ℕ → List ℕ → Type 0
 Steps out o s x = (s ≡ statusOf 11 out (said toldNumbers o)) × ((x ≡ numbersLeft 11 out (said toldNumbers o)) × (s ≡ 0 → Held o))
 
-pub no-step : (out : List ℕ) (o : Outcome Told) → length out < 11 → Steps out o 8 out
+pub no-step : (out : List ℕ) (o : Outcome ColumnStepped) → length out < 11 → Steps out o 8 out
 no-step out o h =
     let t = no-numbers 11 out (said toldNumbers o) h in
     (t .0, (t .1, λ e. absurd (omega arith)))
 
-pub step-ok : (out : List ℕ) (o : Outcome Told) (a : Told) (s : ℕ) (x : List ℕ) → 11 ≤ length out → o ≡ ok a → s ≡ 0 → x ≡ stored out 0 (toldNumbers a) → Held (ok a) → Steps out o s x
+pub step-ok : (out : List ℕ) (o : Outcome ColumnStepped) (a : ColumnStepped) (s : ℕ) (x : List ℕ) → 11 ≤ length out → o ≡ ok a → s ≡ 0
+    → x ≡ stored (toldNumbers a) out 0 → Held (ok a) → Steps out o s x
 step-ok out o a s x h e p q u =
     let t = said-ok 11 out toldNumbers o a s x h e p q in
     (t .0, (t .1, λ z. subst Held (sym e) u))
 
-pub step-refused : (out : List ℕ) (o : Outcome Told) (r : Refusal) (s : ℕ) (x : List ℕ) → 11 ≤ length out → o ≡ refused r → s ≡ r .number → x ≡ stored out 0 (r .place ∷ []) → Steps out o s x
+pub step-refused : (out : List ℕ) (o : Outcome ColumnStepped) (r : Refusal) (s : ℕ) (x : List ℕ) → 11 ≤ length out → o ≡ refused r
+    → s ≡ r .number → x ≡ stored (r .place ∷ []) out 0 → Steps out o s x
 step-refused out o r s x h e p q =
     let t = said-refused 11 out toldNumbers o r s x h e p q in
     (t .0, (t .1, λ z. subst Held (sym e) tt))
 
 -- ---- four numbers, and the parts behind them
-pub head-then : (out x y head ps : List ℕ) → length head ≡ 4 → 4 ≤ length out → x ≡ stored out 0 head → y ≡ stored x 4 ps → y ≡ stored out 0 (head ++ ps)
+pub head-then : (out x y head ps : List ℕ) → length head ≡ 4 → 4 ≤ length out → x ≡ stored head out 0 → y ≡ stored ps x 4
+    → y ≡ stored (head ++ ps) out 0
 head-then out x y head ps e h p q =
     let n : 0 + length head ≡ 4 = omega arith in
-    q ∙ ap (λ (d : List ℕ). stored d 4 ps) p ∙ subst (λ (k : ℕ). stored (stored out 0 head) k ps ≡ stored out 0 (head ++ ps)) n (stored-stored out 0 head ps (omega arith))
+    q ∙ ap (λ (d : List ℕ). stored ps d 4) p
+    ∙ subst (λ (k : ℕ). stored ps (stored head out 0) k ≡ stored (head ++ ps) out 0) n (stored-stored out 0 head ps (omega arith))
 
 -- ---- a step over images: what the code's step answered is the rule's answer under the sets that were asked for
-pub image-asked : (r s : List ℕ) (before : Part) (second after : Second) (w : Rows) (c : Images) (o : Outcome Told₁) → w ≡ setsAsked before second → second ≡ after
+pub image-asked : (r s : List ℕ) (before : Part) (second after : Second) (w : Rows) (c : Images) (o : Outcome Told₁)
+    → w ≡ setsAsked before second → second ≡ after
     → o ≡ nextImage r w s c → nextImage r (setsAsked before after) s c ≡ o
 image-asked r s before second after w c o e d h = sym (h ∙ ap (λ (x : Rows). nextImage r x s c) (e ∙ ap (setsAsked before) d))

@@ -8,22 +8,22 @@ use Rattle.wire.specs.Outcome.{Outcome, ok, refused}
 use Rattle.wire.specs.Stored.{stored, leftOf}
 
 -- 0 for an answer, else the number of the refusal
-abbrev pub numberOf : Outcome (List ℕ) → ℕ
-numberOf (ok ns) = 0
-numberOf (refused r) = r .number
+abbrev pub answerNumber : Outcome (List ℕ) → ℕ
+answerNumber (ok ns) = 0
+answerNumber (refused r) = r .number
 
 -- the numbers that are told: those of the answer, or the place of the refusal
-abbrev pub toldOf : Outcome (List ℕ) → List ℕ
-toldOf (ok ns) = ns
-toldOf (refused r) = r .place ∷ []
+abbrev pub answerNumbers : Outcome (List ℕ) → List ℕ
+answerNumbers (ok ns) = ns
+answerNumbers (refused r) = r .place ∷ []
 
 -- ---- out is the buffer of numbers, and k how many the call's answer has: without room for them the status is 8 and nothing is changed
 unfoldable pub statusOf : ℕ → List ℕ → Outcome (List ℕ) → ℕ
-statusOf k out o = cond (leb k (length out)) (numberOf o) 8
+statusOf k out o = cond (leb k (length out)) (answerNumber o) 8
 
 -- the numbers told stand at its start, and all behind them is as it was
 unfoldable pub numbersLeft : ℕ → List ℕ → Outcome (List ℕ) → List ℕ
-numbersLeft k out o = cond (leb k (length out)) (stored out 0 (toldOf o)) out
+numbersLeft k out o = cond (leb k (length out)) (stored (answerNumbers o) out 0) out
 
 -- what a writer leaves of the bytes lent to it, which a refusal leaves as they were
 unfoldable pub bytesLeft : ℕ → List ℕ → List ℕ → Outcome (List ℕ × List ℕ) → List ℕ

@@ -1,7 +1,7 @@
 -- What each call answers: the rule of the library's call, its answer in numbers. Assumes nothing.
 use Prim.Native.Nat.{ℕ}
 use mathlib.Core.Path.{_≡_}
-use mathlib.Core.Bool.{Bool, true, cond, not}
+use mathlib.Core.Bool.{true, cond, not}
 use mathlib.Core.List.{List, [], _∷_, _++_}
 use mathlib.Core.Option.{Option, none, some}
 use lib.Dec.{ltb, eqb}
@@ -11,16 +11,17 @@ use Rattle.wire.specs.Parts.{part}
 use Rattle.value.specs.declared.classes.Dialect.{Dialect}
 use Rattle.value.specs.declared.classes.Dialect.the-variants.{Document, Mysql, Mariadb}
 use Rattle.value.specs.declared.datum.Value.the-variants.{Null}
-use Rattle.value_parts.specs.Parts.{kindOf, partsOf, padded, valueOf, isHeld}
+use Rattle.value_parts.specs.Parts.{sortOf, partsOf, padded, valueOf, isHeld}
 use Rattle.table_map.specs.declared.event.Event.{Event}
 use Rattle.table_map.specs.Events.{readEvent}
 use Rattle.record.specs.declared.entry.Entry.{Entry}
 use Rattle.record.specs.Records.{entryIn, readRecord}
-use Rattle.map_check.specs.Ranks.{place}
+use Rattle.map_check.specs.Ranks.{tablePlace}
 use Rattle.map_check.specs.Names.{columnName, namesField}
+use Rattle.map_check.specs.Profile.{oneIf}
 use Rattle.map_check.specs.Check.{check}
 use Rattle.image.specs.declared.cursor.Cursor.{Cursor}
-use Rattle.image.specs.Split.{Told, null, value, end, cursor, firstCursor, stepFrom}
+use Rattle.image.specs.Split.{ColumnStepped, null, value, end, cursor, firstCursor, stepFrom}
 use Rattle.image.specs.Puts.{startImage, putFrom}
 use Rattle.rows_event.specs.declared.parts.Extra.{Extra}
 use Rattle.rows_event.specs.declared.parts.Extra.the-variants.{Absent, Data}
@@ -29,10 +30,8 @@ use Rattle.rows_event.specs.declared.parts.Second.the-variants.{Absent as Absen
 use Rattle.rows_event.specs.declared.event.Rows.{Rows}
 use Rattle.rows_event.specs.declared.images.Images.{Images}
 use Rattle.rows_event.specs.Events.{readRows}
-use Rattle.rows_event.specs.Images.{Told as Told₁, image, end as end₁, nextImage}
+use Rattle.rows_event.specs.Images.{ImageStepped as Told₁, imageMet, end as end₁, nextImage}
 use Rattle.feed_abi.specs.declared.events.Given.{Given}
-use Rattle.feed_abi.specs.declared.maps.Asked.{Asked}
-use Rattle.feed_abi.specs.declared.maps.Asked.the-variants.{For, Refused}
 
 -- ---- answers in numbers
 abbrev pub said : {A : Type 0} → (A → List ℕ) → Outcome A → Outcome (List ℕ)
@@ -54,20 +53,20 @@ abbrev pub mapNumbers : Event → List ℕ
 mapNumbers e = e .id ∷ (e .flags ∷ (partNumbers (e .database) ++ partNumbers (e .table)))
 
 abbrev pub entryNumbers : Entry → List ℕ
-entryNumbers e = e .kind ∷ (e .flags ∷ (e .m0 ∷ (e .m1 ∷ (e .charset ∷ []))))
+entryNumbers e = e .real ∷ (e .flags ∷ (e .m0 ∷ (e .m1 ∷ (e .charset ∷ []))))
 
 abbrev pub cursorNumbers : Cursor → List ℕ
 cursorNumbers c = c .column ∷ (c .offset ∷ [])
 
--- kind, column, next column, next offset, and seven parts
+-- sort, column, next column, next offset, and seven parts
 abbrev pub stepNumbers : ℕ → ℕ → Cursor → List ℕ → List ℕ
-stepNumbers kind column next ps = (kind ∷ (column ∷ (next .column ∷ (next .offset ∷ [])))) ++ padded 7 ps
+stepNumbers sort column next ps = (sort ∷ (column ∷ (next .column ∷ (next .offset ∷ [])))) ++ padded 7 ps
 
--- kind 0 is the end, with the bytes used as the next offset
-unfoldable pub toldNumbers : Told → List ℕ
-unfolding padded kindOf partsOf
-toldNumbers (null column next) = stepNumbers (kindOf Null) column next (partsOf Null)
-toldNumbers (value column v next) = stepNumbers (kindOf v) column next (partsOf v)
+-- sort 0 is the end, with the bytes used as the next offset
+unfoldable pub toldNumbers : ColumnStepped → List ℕ
+unfolding padded sortOf partsOf
+toldNumbers (null column next) = stepNumbers (sortOf Null) column next (partsOf Null)
+toldNumbers (value column v next) = stepNumbers (sortOf v) column next (partsOf v)
 toldNumbers (end used) = stepNumbers 0 0 (cursor 0 used) []
 
 -- a part that may be absent: 1 with its start and length, or zeros
@@ -91,15 +90,13 @@ givenNumbers g = g .there ∷ (g .start ∷ (g .len ∷ []))
 
 -- flags, extra data, presence bits, the second set, and where the images begin
 abbrev pub rowsNumbers : Rows → List ℕ
-rowsNumbers w = w .flags ∷ (givenNumbers (extraGiven (w .extra)) ++ (partNumbers (w .before) ++ (givenNumbers (secondGiven (w .after)) ++ (w .images ∷ []))))
-
--- a number for a choice of two
-abbrev pub oneIf : Bool → ℕ
-oneIf b = cond b 1 0
+rowsNumbers w =
+    w .flags ∷ (givenNumbers (extraGiven (w .extra))
+    ++ (partNumbers (w .before) ++ (givenNumbers (secondGiven (w .after)) ++ (w .images ∷ []))))
 
 -- 1, the image, whether it stands under the second set, and the next cursor; zeros are the end
 abbrev pub imageNumbers : Told₁ → List ℕ
-imageNumbers (image p second next) = 1 ∷ (p .start ∷ (p .len ∷ (oneIf second ∷ (next .at ∷ (oneIf (next .second) ∷ [])))))
+imageNumbers (imageMet p second next) = 1 ∷ (p .start ∷ (p .len ∷ (oneIf second ∷ (next .at ∷ (oneIf (next .second) ∷ [])))))
 imageNumbers end₁ = 0 ∷ (0 ∷ (0 ∷ (0 ∷ (0 ∷ (0 ∷ [])))))
 
 -- ---- maps
@@ -112,11 +109,6 @@ feedMap event postHeader = said mapNumbers (readEvent event postHeader)
 unfoldable pub dialectOf : ℕ → Outcome Dialect
 dialectOf d = cond (eqb d 0) (ok Document) (cond (eqb d 1) (ok Mysql) (cond (eqb d 2) (ok Mariadb) (refuse 13 0)))
 
--- what the answer says
-abbrev pub askedOf : Asked → Outcome Dialect
-askedOf (For d) = ok d
-askedOf (Refused r) = refused r
-
 -- the record's length, with the record at the buffer's start
 unfoldable pub feedCheck : List ℕ → ℕ → ℕ → List ℕ → Outcome (List ℕ × List ℕ)
 unfolding dialectOf
@@ -125,7 +117,7 @@ feedCheck event postHeader d buf = after (dialectOf d) (λ d. saidWith lengthNum
 -- 11 for a record that is not valid, 14 for a column that it has not
 unfoldable pub feedColumn : List ℕ → ℕ → Outcome (List ℕ)
 unfolding readRecord entryIn
-feedColumn r j = after (readRecord r) (λ n. cond (ltb j n) (ok (entryNumbers (entryIn r j))) (refuse 14 j))
+feedColumn profile j = after (readRecord profile) (λ n. cond (ltb j n) (ok (entryNumbers (entryIn profile j))) (refuse 14 j))
 
 -- 1 with start and length of the names in the event, which may have no bytes, or zeros where it has none
 unfoldable pub feedNames : List ℕ → ℕ → ℕ → Outcome (List ℕ)
@@ -135,21 +127,21 @@ feedNames event postHeader d = after (dialectOf d) (λ d. said (λ f. givenNumbe
 -- start and length of a name in the list that is looked at
 unfoldable pub feedName : List ℕ → List ℕ → ℕ → Outcome (List ℕ)
 unfolding columnName
-feedName names operator column = said partNumbers (columnName names operator (place column))
+feedName names operator column = said partNumbers (columnName names operator (tablePlace column))
 
 -- ---- rows
 -- the first cursor
 unfoldable pub feedFirst : List ℕ → List ℕ → Outcome (List ℕ)
 unfolding firstCursor
-feedFirst r p = said cursorNumbers (firstCursor r p)
+feedFirst profile presence = said cursorNumbers (firstCursor profile presence)
 
 -- a step from any cursor
 unfoldable pub feedStep : List ℕ → List ℕ → List ℕ → ℕ → ℕ → Outcome (List ℕ)
 unfolding stepFrom toldNumbers
-feedStep r p im column offset = said toldNumbers (stepFrom r p im (cursor column offset))
+feedStep profile presence image column offset = said toldNumbers (stepFrom profile presence image (cursor column offset))
 
--- the value that a step tells, if it tells one, is one that the machine can hold, so its kind and parts make it again
-abbrev pub Held : Outcome Told → Type 0
+-- the value that a step tells, if it tells one, is one that the machine can hold, so its sort and parts make it again
+abbrev pub Held : Outcome ColumnStepped → Type 0
 Held (ok (null column next)) = Unit {0}
 Held (ok (value column v next)) = isHeld v ≡ true
 Held (ok (end used)) = Unit {0}
@@ -158,21 +150,22 @@ Held (refused r) = Unit {0}
 -- the null bits stored, and the cursor of the first value
 unfoldable pub feedStart : List ℕ → List ℕ → List ℕ → List ℕ → Outcome (List ℕ × List ℕ)
 unfolding startImage
-feedStart r p nulls im = saidWith cursorNumbers (startImage r p nulls im)
+feedStart profile presence nulls image = saidWith cursorNumbers (startImage profile presence nulls image)
 
 -- a value stored, and the cursor of the next
 unfoldable pub feedPut : List ℕ → List ℕ → List ℕ → ℕ → ℕ → ℕ → List ℕ → List ℕ → List ℕ → Outcome (List ℕ × List ℕ)
 unfolding valueOf putFrom
-feedPut r p nulls column offset kind ps lent im =
-    after (valueOf kind ps) (λ v. saidWith cursorNumbers (putFrom r p nulls (cursor column offset) lent v im))
+feedPut profile presence nulls column offset sort ps lent image =
+    after (valueOf sort ps) (λ v. saidWith cursorNumbers (putFrom profile presence nulls (cursor column offset) lent v image))
 
 -- ---- rows events
--- the parts of an event of a code, under the record r and the table id of its map
+-- the parts of an event of a code, under the record and the table id of its map
 unfoldable pub feedRows : ℕ → List ℕ → ℕ → List ℕ → Outcome (List ℕ)
 unfolding readRows
-feedRows code r id s = said rowsNumbers (readRows code r id s)
+feedRows code profile id s = said rowsNumbers (readRows code profile id s)
 
--- the sets that numbers ask for: 0 is no second set, any other number one. A step over images looks at nothing else of an event that was read
+-- the sets that numbers ask for: 0 is no second set, any other number one. A step over images looks at nothing else of an event that was
+-- read
 abbrev pub secondAsked : ℕ → ℕ → ℕ → Second
 secondAsked there start len = cond (eqb there 0) Absent₁ (Bits (part start len))
 
@@ -186,5 +179,6 @@ imagesAt offset second = record { at = offset; second = not (eqb second 0) }
 -- a step from any cursor, under any sets
 unfoldable pub feedImage : List ℕ → List ℕ → ℕ → ℕ → ℕ → ℕ → ℕ → ℕ → ℕ → Outcome (List ℕ)
 unfolding nextImage
-feedImage r s firstStart firstLength hasSecond secondStart secondLength offset second =
-    said imageNumbers (nextImage r (setsAsked (part firstStart firstLength) (secondAsked hasSecond secondStart secondLength)) s (imagesAt offset second))
+feedImage profile s firstStart firstLength hasSecond secondStart secondLength offset second =
+    said imageNumbers (nextImage profile (setsAsked (part firstStart firstLength) (secondAsked hasSecond secondStart secondLength)) s
+    (imagesAt offset second))

@@ -1,4 +1,5 @@
--- The definitions of the crate: what people must believe. `Answers`: what every call leaves. `Calls`: what each call answers, over the rule of the
--- call of the library.
+-- The definitions of the crate: what people must believe. `Answers`: what every call leaves. `Calls`: what each call answers, over the rule
+-- of the call of the library. `Inner`: what the crate's own functions go by, which nobody need believe.
 pub mod Answers
 pub mod Calls
+pub mod Inner

@@ -12,7 +12,7 @@ pub(crate) const NO_NUMBERS: u64 = 8;
 // Puts the numbers into out, from at on.
 pub(crate) fn put_numbers(out: &mut [u64], at: usize, numbers: &[u64])
     requires { ⌜ at + length (now numbers) ≤ length (now out) ⌝ }
-    ensures { λ _. ⌜ now (out .exit) ≡ stored (now (out .entry)) at (now (numbers .entry)) ⌝ }
+    ensures { λ _. ⌜ now (out .exit) ≡ stored (now (numbers .entry)) (now (out .entry)) at ⌝ }
 {
     let mut i: usize = 0;
     while i < numbers.len() {
@@ -25,7 +25,7 @@ pub(crate) fn put_numbers(out: &mut [u64], at: usize, numbers: &[u64])
 pub(crate) fn tell(out: &mut [u64], numbers: &[u64]) -> u64
     requires { ⌜ length (now numbers) ≤ length (now out) ⌝ }
     ensures { λ r. ⌜ r ≡ 0 ⌝ }
-    ensures { λ _. ⌜ now (out .exit) ≡ stored (now (out .entry)) 0 (now (numbers .entry)) ⌝ }
+    ensures { λ _. ⌜ now (out .exit) ≡ stored (now (numbers .entry)) (now (out .entry)) 0 ⌝ }
 {
     put_numbers(out, 0, numbers);
     0
@@ -35,7 +35,7 @@ pub(crate) fn tell(out: &mut [u64], numbers: &[u64]) -> u64
 pub(crate) fn tell_refusal(out: &mut [u64], refusal: Refusal) -> u64
     requires { ⌜ 0 < length (now out) ⌝ }
     ensures { λ r. ⌜ r ≡ refusal .number ⌝ }
-    ensures { λ _. ⌜ now (out .exit) ≡ stored (now (out .entry)) 0 (refusal .place ∷ []) ⌝ }
+    ensures { λ _. ⌜ now (out .exit) ≡ stored (refusal .place ∷ []) (now (out .entry)) 0 ⌝ }
 {
     out[0] = refusal.place as u64;
     refusal.number as u64

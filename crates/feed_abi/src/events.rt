@@ -13,9 +13,10 @@ ghost use mathlib.Core.Path.{_≡_};
 ghost use Prim.Native.Nat.{_≤_};
 ghost use lib.ListN.{length};
 ghost use Rattle.wire.specs.Stored.{stored};
-ghost use Rattle.rows_event.specs.Images.{image, end};
+ghost use Rattle.rows_event.specs.Images.{imageMet, end};
 ghost use Rattle.feed_abi.specs.Answers.{statusOf, numbersLeft};
-ghost use Rattle.feed_abi.specs.Calls.{extraGiven, secondGiven, rowsNumbers, secondAsked, setsAsked, imageNumbers, feedRows, feedImage};
+ghost use Rattle.feed_abi.specs.Calls.{extraGiven, secondGiven, rowsNumbers, secondAsked, setsAsked, imageNumbers, feedRows};
+ghost use Rattle.feed_abi.specs.Calls.{feedImage};
 
 // A part that may be absent, as numbers: 1 with its start and length, or zeros.
 struct Given {
@@ -61,7 +62,7 @@ fn second_given(second: Second) -> Given
 fn tell_rows(out: &mut [u64], rows: Rows) -> u64
     requires { ⌜ 10 ≤ length (now out) ⌝ }
     ensures { λ r. ⌜ r ≡ 0 ⌝ }
-    ensures { λ _. ⌜ now (out .exit) ≡ stored (now (out .entry)) 0 (rowsNumbers rows) ⌝ }
+    ensures { λ _. ⌜ now (out .exit) ≡ stored (rowsNumbers rows) (now (out .entry)) 0 ⌝ }
 {
     let data = rows.extra;
     let extra = extra_given(data);
@@ -86,7 +87,7 @@ fn tell_rows(out: &mut [u64], rows: Rows) -> u64
 fn tell_image(out: &mut [u64], part: Part, second: bool, next: Images) -> u64
     requires { ⌜ 6 ≤ length (now out) ⌝ }
     ensures { λ r. ⌜ r ≡ 0 ⌝ }
-    ensures { λ _. ⌜ now (out .exit) ≡ stored (now (out .entry)) 0 (imageNumbers (image part second next)) ⌝ }
+    ensures { λ _. ⌜ now (out .exit) ≡ stored (imageNumbers (imageMet part second next)) (now (out .entry)) 0 ⌝ }
 {
     let numbers = [
         1,
@@ -102,7 +103,7 @@ fn tell_image(out: &mut [u64], part: Part, second: bool, next: Images) -> u64
 fn tell_end(out: &mut [u64]) -> u64
     requires { ⌜ 6 ≤ length (now out) ⌝ }
     ensures { λ r. ⌜ r ≡ 0 ⌝ }
-    ensures { λ _. ⌜ now (out .exit) ≡ stored (now (out .entry)) 0 (imageNumbers end) ⌝ }
+    ensures { λ _. ⌜ now (out .exit) ≡ stored (imageNumbers end) (now (out .entry)) 0 ⌝ }
 {
     let numbers = [0, 0, 0, 0, 0, 0];
     tell(out, &numbers)
@@ -131,7 +132,8 @@ fn sets_asked(before: Part, after: Second) -> Rows
     }
 }
 
-// The parts of a rows event of the code `code`, under the record and the table id of its map: flags; whether it has extra data, start, length; start and length of its presence bits; whether it has a second set, start, length; and where its images begin.
+// The parts of a rows event of the code `code`, under the record and the table id of its map: flags; whether it has extra data, start,
+// length; start and length of its presence bits; whether it has a second set, start, length; and where its images begin.
 #[no_mangle]
 pub extern "C" fn feed_rows(
     code: u64,
@@ -141,7 +143,8 @@ pub extern "C" fn feed_rows(
     out: &mut [u64],
 ) -> u64
     ensures { λ r. ⌜ r ≡ statusOf 10 (now (out .entry)) (feedRows code (now (profile .entry)) table (now (event .entry))) ⌝ }
-    ensures { λ _. ⌜ now (out .exit) ≡ numbersLeft 10 (now (out .entry)) (feedRows code (now (profile .entry)) table (now (event .entry))) ⌝ }
+    ensures { λ _. ⌜ now (out .exit)
+        ≡ numbersLeft 10 (now (out .entry)) (feedRows code (now (profile .entry)) table (now (event .entry))) ⌝ }
 {
     if out.len() < 10 {
         return NO_NUMBERS;
@@ -152,7 +155,8 @@ pub extern "C" fn feed_rows(
     }
 }
 
-// One step over the images of a rows event, from any cursor, under any sets: 1, start, length, under which set it stands, and the next cursor; or zeros for the end.
+// One step over the images of a rows event, from any cursor, under any sets: 1, start, length, under which set it stands, and the next
+// cursor; or zeros for the end.
 #[no_mangle]
 pub extern "C" fn feed_image(
     profile: &[u8],
@@ -166,8 +170,13 @@ pub extern "C" fn feed_image(
     second: u64,
     out: &mut [u64],
 ) -> u64
-    ensures { λ r. ⌜ r ≡ statusOf 6 (now (out .entry)) (feedImage (now (profile .entry)) (now (event .entry)) «first_start» «first_length» «has_second» «second_start» «second_length» offset second) ⌝ }
-    ensures { λ _. ⌜ now (out .exit) ≡ numbersLeft 6 (now (out .entry)) (feedImage (now (profile .entry)) (now (event .entry)) «first_start» «first_length» «has_second» «second_start» «second_length» offset second) ⌝ }
+    ensures { λ r. ⌜ r ≡ statusOf 6 (now (out .entry))
+        (feedImage (now (profile .entry)) (now (event .entry)) «first_start» «first_length» «has_second» «second_start» «second_length»
+        offset second) ⌝ }
+    ensures { λ _. ⌜ now (out .exit)
+        ≡ numbersLeft 6 (now (out .entry))
+        (feedImage (now (profile .entry)) (now (event .entry)) «first_start» «first_length» «has_second» «second_start» «second_length»
+        offset second) ⌝ }
 {
     if out.len() < 6 {
         return NO_NUMBERS;

@@ -4,7 +4,7 @@ use crate::answer::tell;
 use crate::answer::tell_refusal;
 use map_check::NameRead;
 use map_check::NamesRead;
-use map_check::Place;
+use map_check::TablePlace;
 use record::Entry;
 use record::RecordRead;
 use table_map::Event;
@@ -21,7 +21,9 @@ ghost use Prim.Native.Nat.{_≤_};
 ghost use lib.ListN.{length};
 ghost use Rattle.wire.specs.Stored.{stored, answerOf};
 ghost use Rattle.feed_abi.specs.Answers.{statusOf, numbersLeft, bytesLeft};
-ghost use Rattle.feed_abi.specs.Calls.{partNumbers, mapNumbers, entryNumbers, namesGiven, givenNumbers, dialectOf, askedOf, feedMap, feedCheck, feedColumn, feedNames, feedName};
+ghost use Rattle.feed_abi.specs.Calls.{partNumbers, mapNumbers, entryNumbers, namesGiven, givenNumbers, dialectOf, feedMap};
+ghost use Rattle.feed_abi.specs.Calls.{feedCheck, feedColumn, feedNames, feedName};
+ghost use Rattle.feed_abi.specs.Inner.Calls.{askedTold};
 
 // The dialect that a number asks for.
 enum Asked {
@@ -30,7 +32,7 @@ enum Asked {
 }
 
 fn dialect_of(number: u8) -> Asked
-    ensures { λ r. ⌜ askedOf r ≡ dialectOf number ⌝ }
+    ensures { λ r. ⌜ askedTold r ≡ dialectOf number ⌝ }
 {
     if number == 0 {
         return Asked::For(Dialect::Document);
@@ -47,7 +49,7 @@ fn dialect_of(number: u8) -> Asked
 fn tell_part(out: &mut [u64], part: Part) -> u64
     requires { ⌜ 2 ≤ length (now out) ⌝ }
     ensures { λ r. ⌜ r ≡ 0 ⌝ }
-    ensures { λ _. ⌜ now (out .exit) ≡ stored (now (out .entry)) 0 (partNumbers part) ⌝ }
+    ensures { λ _. ⌜ now (out .exit) ≡ stored (partNumbers part) (now (out .entry)) 0 ⌝ }
 {
     let numbers = [part.start as u64, part.len as u64];
     tell(out, &numbers)
@@ -56,7 +58,7 @@ fn tell_part(out: &mut [u64], part: Part) -> u64
 fn tell_names(out: &mut [u64], names: Part) -> u64
     requires { ⌜ 3 ≤ length (now out) ⌝ }
     ensures { λ r. ⌜ r ≡ 0 ⌝ }
-    ensures { λ _. ⌜ now (out .exit) ≡ stored (now (out .entry)) 0 (givenNumbers (namesGiven (some names))) ⌝ }
+    ensures { λ _. ⌜ now (out .exit) ≡ stored (givenNumbers (namesGiven (some names))) (now (out .entry)) 0 ⌝ }
 {
     let numbers = [1, names.start as u64, names.len as u64];
     tell(out, &numbers)
@@ -65,7 +67,7 @@ fn tell_names(out: &mut [u64], names: Part) -> u64
 fn tell_no_names(out: &mut [u64]) -> u64
     requires { ⌜ 3 ≤ length (now out) ⌝ }
     ensures { λ r. ⌜ r ≡ 0 ⌝ }
-    ensures { λ _. ⌜ now (out .exit) ≡ stored (now (out .entry)) 0 (givenNumbers (namesGiven none)) ⌝ }
+    ensures { λ _. ⌜ now (out .exit) ≡ stored (givenNumbers (namesGiven none)) (now (out .entry)) 0 ⌝ }
 {
     let numbers = [0, 0, 0];
     tell(out, &numbers)
@@ -74,7 +76,7 @@ fn tell_no_names(out: &mut [u64]) -> u64
 fn tell_map(out: &mut [u64], map: Event) -> u64
     requires { ⌜ 6 ≤ length (now out) ⌝ }
     ensures { λ r. ⌜ r ≡ 0 ⌝ }
-    ensures { λ _. ⌜ now (out .exit) ≡ stored (now (out .entry)) 0 (mapNumbers map) ⌝ }
+    ensures { λ _. ⌜ now (out .exit) ≡ stored (mapNumbers map) (now (out .entry)) 0 ⌝ }
 {
     let database = map.database;
     let table = map.table;
@@ -92,10 +94,10 @@ fn tell_map(out: &mut [u64], map: Event) -> u64
 fn tell_entry(out: &mut [u64], entry: Entry) -> u64
     requires { ⌜ 5 ≤ length (now out) ⌝ }
     ensures { λ r. ⌜ r ≡ 0 ⌝ }
-    ensures { λ _. ⌜ now (out .exit) ≡ stored (now (out .entry)) 0 (entryNumbers entry) ⌝ }
+    ensures { λ _. ⌜ now (out .exit) ≡ stored (entryNumbers entry) (now (out .entry)) 0 ⌝ }
 {
     let numbers = [
-        entry.kind as u64,
+        entry.real as u64,
         entry.flags as u64,
         entry.m0 as u64,
         entry.m1 as u64,
@@ -104,7 +106,8 @@ fn tell_entry(out: &mut [u64], entry: Entry) -> u64
     tell(out, &numbers)
 }
 
-// Whose map it is: table id, flags, and where the names of the database and of the table stand in the event, start and length. Rows events are read under the id.
+// Whose map it is: table id, flags, and where the names of the database and of the table stand in the event, start and length. Rows events
+// are read under the id.
 #[no_mangle]
 pub extern "C" fn feed_map(event: &[u8], post_header: u8, out: &mut [u64]) -> u64
     ensures { λ r. ⌜ r ≡ statusOf 6 (now (out .entry)) (feedMap (now (event .entry)) «post_header») ⌝ }
@@ -128,9 +131,13 @@ pub extern "C" fn feed_check(
     profile: &mut [u8],
     out: &mut [u64],
 ) -> u64
-    ensures { λ r. ⌜ r ≡ statusOf 1 (now (out .entry)) (answerOf (feedCheck (now (event .entry)) «post_header» dialect (now (profile .entry)))) ⌝ }
-    ensures { λ _. ⌜ now (out .exit) ≡ numbersLeft 1 (now (out .entry)) (answerOf (feedCheck (now (event .entry)) «post_header» dialect (now (profile .entry)))) ⌝ }
-    ensures { λ _. ⌜ now (profile .exit) ≡ bytesLeft 1 (now (out .entry)) (now (profile .entry)) (feedCheck (now (event .entry)) «post_header» dialect (now (profile .entry))) ⌝ }
+    ensures { λ r. ⌜ r ≡ statusOf 1 (now (out .entry))
+        (answerOf (feedCheck (now (event .entry)) «post_header» dialect (now (profile .entry)))) ⌝ }
+    ensures { λ _. ⌜ now (out .exit)
+        ≡ numbersLeft 1 (now (out .entry)) (answerOf (feedCheck (now (event .entry)) «post_header» dialect (now (profile .entry)))) ⌝ }
+    ensures { λ _. ⌜ now (profile .exit)
+        ≡ bytesLeft 1 (now (out .entry)) (now (profile .entry))
+        (feedCheck (now (event .entry)) «post_header» dialect (now (profile .entry))) ⌝ }
 {
     if out.len() < 1 {
         return NO_NUMBERS;
@@ -167,7 +174,8 @@ pub extern "C" fn feed_column(profile: &[u8], column: usize, out: &mut [u64]) ->
     tell_entry(out, record::entry_in(profile, column))
 }
 
-// Where the names of a map stand in the event: 1, start and length, which may be 0; zeros where it has none. A map that is refused before its names is refused here.
+// Where the names of a map stand in the event: 1, start and length, which may be 0; zeros where it has none. A map that is refused before
+// its names is refused here.
 #[no_mangle]
 pub extern "C" fn feed_names(event: &[u8], post_header: u8, dialect: u8, out: &mut [u64]) -> u64
     ensures { λ r. ⌜ r ≡ statusOf 3 (now (out .entry)) (feedNames (now (event .entry)) «post_header» dialect) ⌝ }
@@ -187,7 +195,8 @@ pub extern "C" fn feed_names(event: &[u8], post_header: u8, dialect: u8, out: &m
     }
 }
 
-// Where the name of a column stands, start and length, in the list that applies: the map's names if they are not empty, else the operator's.
+// Where the name of a column stands, start and length, in the list that applies: the map's names if they are not empty, else the
+// operator's.
 #[no_mangle]
 pub extern "C" fn feed_name<'a>(
     names: &'a [u8],
@@ -201,7 +210,7 @@ pub extern "C" fn feed_name<'a>(
     if out.len() < 2 {
         return NO_NUMBERS;
     }
-    match map_check::column_name(names, operator, Place(column)) {
+    match map_check::column_name(names, operator, TablePlace(column)) {
         NameRead::Name(part) => tell_part(out, part),
         NameRead::Refused(r) => tell_refusal(out, r),
     }

@@ -9,8 +9,8 @@ use image::Put;
 use image::Step;
 use value::Value;
 use value_parts::Made;
-use value_parts::kind_of;
 use value_parts::parts_of;
+use value_parts::sort_of;
 use value_parts::value_of;
 ghost use mathlib.Core.Path.{_≡_};
 ghost use mathlib.Core.Bool.{true};
@@ -18,16 +18,16 @@ ghost use mathlib.Core.List.{[]};
 ghost use Prim.Native.Nat.{_≤_};
 ghost use lib.ListN.{length};
 ghost use Rattle.wire.specs.Stored.{stored, answerOf};
-ghost use Rattle.value_parts.specs.Parts.{kindOf, partsOf, isHeld};
+ghost use Rattle.value_parts.specs.Parts.{sortOf, partsOf, isHeld};
 ghost use Rattle.image.specs.Split.{cursor, stepFrom};
 ghost use Rattle.image.specs.Puts.{putTold};
-ghost use Rattle.feed_abi.specs.Answers.{numberOf, toldOf, statusOf, numbersLeft, bytesLeft};
+ghost use Rattle.feed_abi.specs.Answers.{answerNumber, answerNumbers, statusOf, numbersLeft, bytesLeft};
 ghost use Rattle.feed_abi.specs.Calls.{said, cursorNumbers, stepNumbers, Held, feedFirst, feedStep, feedStart, feedPut};
 
 fn tell_cursor(out: &mut [u64], at: Cursor) -> u64
     requires { ⌜ 2 ≤ length (now out) ⌝ }
     ensures { λ r. ⌜ r ≡ 0 ⌝ }
-    ensures { λ _. ⌜ now (out .exit) ≡ stored (now (out .entry)) 0 (cursorNumbers at) ⌝ }
+    ensures { λ _. ⌜ now (out .exit) ≡ stored (cursorNumbers at) (now (out .entry)) 0 ⌝ }
 {
     let numbers = [at.column as u64, at.offset as u64];
     tell(out, &numbers)
@@ -37,11 +37,11 @@ fn tell_cursor(out: &mut [u64], at: Cursor) -> u64
 fn tell_value(out: &mut [u64], column: usize, value: Value, next: Cursor) -> u64
     requires { ⌜ 11 ≤ length (now out) ⌝ }
     ensures { λ r. ⌜ r ≡ 0 ⌝ }
-    ensures { λ _. ⌜ now (out .exit) ≡ stored (now (out .entry)) 0 (stepNumbers (kindOf value) column next (partsOf value)) ⌝ }
+    ensures { λ _. ⌜ now (out .exit) ≡ stored (stepNumbers (sortOf value) column next (partsOf value)) (now (out .entry)) 0 ⌝ }
     ensures { λ _. ⌜ isHeld value ≡ true ⌝ }
 {
     let head = [
-        kind_of(value),
+        sort_of(value),
         column as u64,
         next.column as u64,
         next.offset as u64,
@@ -56,7 +56,7 @@ fn tell_value(out: &mut [u64], column: usize, value: Value, next: Cursor) -> u64
 fn tell_end(out: &mut [u64], used: usize) -> u64
     requires { ⌜ 11 ≤ length (now out) ⌝ }
     ensures { λ r. ⌜ r ≡ 0 ⌝ }
-    ensures { λ _. ⌜ now (out .exit) ≡ stored (now (out .entry)) 0 (stepNumbers 0 0 (cursor 0 used) []) ⌝ }
+    ensures { λ _. ⌜ now (out .exit) ≡ stored (stepNumbers 0 0 (cursor 0 used) []) (now (out .entry)) 0 ⌝ }
 {
     let numbers = [0, 0, 0, used as u64, 0, 0, 0, 0, 0, 0, 0];
     tell(out, &numbers)
@@ -65,8 +65,8 @@ fn tell_end(out: &mut [u64], used: usize) -> u64
 // What a writer of images answered.
 fn tell_put(out: &mut [u64], put: Put) -> u64
     requires { ⌜ 2 ≤ length (now out) ⌝ }
-    ensures { λ r. ⌜ r ≡ numberOf (said cursorNumbers (putTold put)) ⌝ }
-    ensures { λ _. ⌜ now (out .exit) ≡ stored (now (out .entry)) 0 (toldOf (said cursorNumbers (putTold put))) ⌝ }
+    ensures { λ r. ⌜ r ≡ answerNumber (said cursorNumbers (putTold put)) ⌝ }
+    ensures { λ _. ⌜ now (out .exit) ≡ stored (answerNumbers (said cursorNumbers (putTold put))) (now (out .entry)) 0 ⌝ }
 {
     match put {
         Put::Next(next) => tell_cursor(out, next),
@@ -89,7 +89,7 @@ pub extern "C" fn feed_first(profile: &[u8], presence: &[u8], out: &mut [u64]) -
     }
 }
 
-// One step over an image, from any cursor: kind, column, next column, next offset, and the seven parts of the value.
+// One step over an image, from any cursor: sort, column, next column, next offset, and the seven parts of the value.
 #[no_mangle]
 pub extern "C" fn feed_step(
     profile: &[u8],
@@ -99,9 +99,12 @@ pub extern "C" fn feed_step(
     offset: usize,
     out: &mut [u64],
 ) -> u64
-    ensures { λ r. ⌜ r ≡ statusOf 11 (now (out .entry)) (feedStep (now (profile .entry)) (now (presence .entry)) (now (image .entry)) column offset) ⌝ }
-    ensures { λ _. ⌜ now (out .exit) ≡ numbersLeft 11 (now (out .entry)) (feedStep (now (profile .entry)) (now (presence .entry)) (now (image .entry)) column offset) ⌝ }
-    ensures { λ r. ⌜ (r ≡ 0 → Held (stepFrom (now (profile .entry)) (now (presence .entry)) (now (image .entry)) (cursor column offset))) ⌝ }
+    ensures { λ r. ⌜ r ≡ statusOf 11 (now (out .entry))
+        (feedStep (now (profile .entry)) (now (presence .entry)) (now (image .entry)) column offset) ⌝ }
+    ensures { λ _. ⌜ now (out .exit)
+        ≡ numbersLeft 11 (now (out .entry)) (feedStep (now (profile .entry)) (now (presence .entry)) (now (image .entry)) column offset) ⌝ }
+    ensures { λ r. ⌜ (r ≡ 0
+        → Held (stepFrom (now (profile .entry)) (now (presence .entry)) (now (image .entry)) (cursor column offset))) ⌝ }
 {
     if out.len() < 11 {
         return NO_NUMBERS;
@@ -128,9 +131,14 @@ pub extern "C" fn feed_start(
     image: &mut [u8],
     out: &mut [u64],
 ) -> u64
-    ensures { λ r. ⌜ r ≡ statusOf 2 (now (out .entry)) (answerOf (feedStart (now (profile .entry)) (now (presence .entry)) (now (nulls .entry)) (now (image .entry)))) ⌝ }
-    ensures { λ _. ⌜ now (out .exit) ≡ numbersLeft 2 (now (out .entry)) (answerOf (feedStart (now (profile .entry)) (now (presence .entry)) (now (nulls .entry)) (now (image .entry)))) ⌝ }
-    ensures { λ _. ⌜ now (image .exit) ≡ bytesLeft 2 (now (out .entry)) (now (image .entry)) (feedStart (now (profile .entry)) (now (presence .entry)) (now (nulls .entry)) (now (image .entry))) ⌝ }
+    ensures { λ r. ⌜ r ≡ statusOf 2 (now (out .entry))
+        (answerOf (feedStart (now (profile .entry)) (now (presence .entry)) (now (nulls .entry)) (now (image .entry)))) ⌝ }
+    ensures { λ _. ⌜ now (out .exit)
+        ≡ numbersLeft 2 (now (out .entry))
+        (answerOf (feedStart (now (profile .entry)) (now (presence .entry)) (now (nulls .entry)) (now (image .entry)))) ⌝ }
+    ensures { λ _. ⌜ now (image .exit)
+        ≡ bytesLeft 2 (now (out .entry)) (now (image .entry))
+        (feedStart (now (profile .entry)) (now (presence .entry)) (now (nulls .entry)) (now (image .entry))) ⌝ }
 {
     if out.len() < 2 {
         return NO_NUMBERS;
@@ -146,20 +154,28 @@ pub extern "C" fn feed_put(
     nulls: &[u8],
     column: usize,
     offset: usize,
-    kind: u64,
+    sort: u64,
     parts: &[u64],
     lent: &[u8],
     image: &mut [u8],
     out: &mut [u64],
 ) -> u64
-    ensures { λ r. ⌜ r ≡ statusOf 2 (now (out .entry)) (answerOf (feedPut (now (profile .entry)) (now (presence .entry)) (now (nulls .entry)) column offset kind (now (parts .entry)) (now (lent .entry)) (now (image .entry)))) ⌝ }
-    ensures { λ _. ⌜ now (out .exit) ≡ numbersLeft 2 (now (out .entry)) (answerOf (feedPut (now (profile .entry)) (now (presence .entry)) (now (nulls .entry)) column offset kind (now (parts .entry)) (now (lent .entry)) (now (image .entry)))) ⌝ }
-    ensures { λ _. ⌜ now (image .exit) ≡ bytesLeft 2 (now (out .entry)) (now (image .entry)) (feedPut (now (profile .entry)) (now (presence .entry)) (now (nulls .entry)) column offset kind (now (parts .entry)) (now (lent .entry)) (now (image .entry))) ⌝ }
+    ensures { λ r. ⌜ r ≡ statusOf 2 (now (out .entry))
+        (answerOf (feedPut (now (profile .entry)) (now (presence .entry)) (now (nulls .entry)) column offset sort (now (parts .entry))
+        (now (lent .entry)) (now (image .entry)))) ⌝ }
+    ensures { λ _. ⌜ now (out .exit)
+        ≡ numbersLeft 2 (now (out .entry))
+        (answerOf (feedPut (now (profile .entry)) (now (presence .entry)) (now (nulls .entry)) column offset sort (now (parts .entry))
+        (now (lent .entry)) (now (image .entry)))) ⌝ }
+    ensures { λ _. ⌜ now (image .exit)
+        ≡ bytesLeft 2 (now (out .entry)) (now (image .entry))
+        (feedPut (now (profile .entry)) (now (presence .entry)) (now (nulls .entry)) column offset sort (now (parts .entry))
+        (now (lent .entry)) (now (image .entry))) ⌝ }
 {
     if out.len() < 2 {
         return NO_NUMBERS;
     }
-    let value = match value_of(kind, parts) {
+    let value = match value_of(sort, parts) {
         Made::Value(value) => value,
         Made::Refused(r) => return tell_refusal(out, r),
     };

@@ -12,26 +12,26 @@ use Rattle.image.specs.declared.end.WalkEnd.{WalkEnd}
 use Rattle.image.specs.declared.end.WalkEnd.the-variants.{Ends, Refused as Refused₅}
 use Rattle.image.specs.declared.put.Put.{Put}
 use Rattle.image.specs.declared.put.Put.the-variants.{Next, Refused as Refused₃}
-use Rattle.image.specs.Split.{Told, null, value, end, told, firstTold, headTold}
+use Rattle.image.specs.Split.{ColumnStepped, null, value, end, stepTold, firstTold, headTold}
 use Rattle.image.specs.Walk.{endTold}
 use Rattle.image.specs.Puts.{putTold}
 
 -- the way back from what a step says
-abbrev back-step : Outcome Told → Step
+abbrev back-step : Outcome ColumnStepped → Step
 back-step (ok (null column next)) = Null column next
 back-step (ok (value column v next)) = Value₂ column v next
 back-step (ok (end used)) = End used
 back-step (refused r) = Refused₂ r
 
-step-way : (a : Step) → back-step (told a) ≡ a
+step-way : (a : Step) → back-step (stepTold a) ≡ a
 step-way (Null column next) = refl
 step-way (Value₂ column v next) = refl
 step-way (End used) = refl
 step-way (Refused₂ r) = refl
 
 -- of steps
-pub same-step : (a b : Step) → told a ≡ told b → a ≡ b
-same-step = same-by-back told back-step step-way
+pub same-step : (a b : Step) → stepTold a ≡ stepTold b → a ≡ b
+same-step = same-by-back stepTold back-step step-way
 
 first-way : (a : First) → back-read At Refused (firstTold a) ≡ a
 first-way (At c) = refl

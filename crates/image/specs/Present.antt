@@ -23,7 +23,7 @@ firstFrom (suc m) s j = cond (bitLsb0 s j) j (firstFrom m s (suc j))
 -- how the record says that column j is stored
 unfoldable pub shapeAt : List ℕ → ℕ → Shape
 unfolding shapeOf entryIn
-shapeAt r j = shapeOf (columnOf (entryIn r j))
+shapeAt profile j = shapeOf (columnOf (entryIn profile j))
 
 -- a present column: its place in the table, and how it is stored
 pub record Present : Type 0 where
@@ -33,10 +33,11 @@ pub record Present : Type 0 where
 -- the present ones of the m columns from j on
 unfoldable pub presentFrom : ℕ → List ℕ → List ℕ → ℕ → List Present
 unfolding bitLsb0 shapeAt
-presentFrom zero r p j = []
-presentFrom (suc m) r p j =
-    cond (bitLsb0 p j) (record { column = j; shape = shapeAt r j } ∷ presentFrom m r p (suc j)) (presentFrom m r p (suc j))
+presentFrom zero profile presence j = []
+presentFrom (suc m) profile presence j =
+    cond (bitLsb0 presence j) (record { column = j; shape = shapeAt profile j } ∷ presentFrom m profile presence (suc j))
+    (presentFrom m profile presence (suc j))
 
 -- all of them
 abbrev pub present : List ℕ → List ℕ → List Present
-present r p = presentFrom (countOf r) r p 0
+present profile presence = presentFrom (countOf profile) profile presence 0

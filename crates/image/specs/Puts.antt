@@ -28,14 +28,14 @@ filled n nulls =
 -- 12 too for null bits of wrong length
 unfoldable pub headNulls : List ℕ → List ℕ → List ℕ → Outcome Head
 unfolding headOf
-headNulls r p nulls = after (headOf r p) (λ h. cond (eqb (length nulls) (h .nulls)) (ok h) (refuse 12 0))
+headNulls profile presence nulls = after (headOf profile presence) (λ h. cond (eqb (length nulls) (h .nulls)) (ok h) (refuse 12 0))
 
 -- the start: the first cursor, and the buffer with the null bits at its head
 unfoldable pub startImage : List ℕ → List ℕ → List ℕ → List ℕ → Outcome (Cursor × List ℕ)
 unfolding headNulls filled store
-startImage r p nulls buf =
-    after (headNulls r p nulls) (λ h.
-    after (store buf 0 (filled (h .present) nulls)) (λ x.
+startImage profile presence nulls buf =
+    after (headNulls profile presence nulls) (λ h.
+    after (store (filled (h .present) nulls) buf 0) (λ x.
     ok (cursor 0 (h .nulls), x .1)))
 
 -- the bytes of a value or NULL in a slot: 13 where value and bit disagree on NULL, or the column does not take the value
@@ -52,16 +52,16 @@ unfolding slotBytes store
 putOver [] c lent v buf = refuse 14 (c .column)
 putOver (i ∷ is) c lent v buf =
     after (slotBytes i lent v) (λ b.
-    after (store buf (c .offset) b) (λ x.
+    after (store b buf (c .offset)) (λ x.
     ok (cursor (i .present .column + 1) (x .0), x .1)))
 
 -- from any cursor: 14 for a column above n too
 unfoldable pub putFrom : List ℕ → List ℕ → List ℕ → Cursor → List ℕ → Value → List ℕ → Outcome (Cursor × List ℕ)
 unfolding headNulls slotsAt putOver
-putFrom r p nulls c lent v buf =
-    after (headNulls r p nulls) (λ h.
+putFrom profile presence nulls c lent v buf =
+    after (headNulls profile presence nulls) (λ h.
     cond (ltb (h .columns) (c .column)) (refuse 14 (c .column))
-    (putOver (slotsAt r p nulls (c .column)) c lent v buf))
+    (putOver (slotsAt profile presence nulls (c .column)) c lent v buf))
 
 -- what the answer says
 abbrev pub putTold : Put → Outcome Cursor

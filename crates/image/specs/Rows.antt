@@ -1,4 +1,5 @@
--- A row on paper: for each present column NULL or a value; its bytes; and what an image must be for the answers that a walk over it gives. Assumes nothing.
+-- A row on paper: for each present column NULL or a value; its bytes; and what an image must be for the answers that a walk over it gives.
+-- Assumes nothing.
 use Prim.Native.Nat.{ℕ, suc, _+_, _<_}
 use mathlib.Core.Path.{_≡_}
 use mathlib.Core.Bool.{Bool, true, false, cond, _&&_}
@@ -15,7 +16,7 @@ use Rattle.value.specs.Domains.{domain}
 use Rattle.value.specs.Reading.{Fails}
 use Rattle.record.specs.Records.{countOf}
 use Rattle.image.specs.Present.{Present, present}
-use Rattle.image.specs.Walk.{Walked}
+use Rattle.image.specs.Walk.{RowWalked}
 
 -- a datum for each present column; NULL is the datum `null`, which is in no column's domain
 abbrev pub Row : Type 0
@@ -53,25 +54,27 @@ Marks nulls k [] = Unit {0}
 Marks nulls k (d ∷ ds) = (bitLsb0 nulls k ≡ isNull d) × Marks nulls (suc k) ds
 
 -- ---- demand 3: what an image must be for what the walk over it gives, cs being the present columns
-pub data Says (cs : List Present) (im : List ℕ) : Walked → Type 0 where
-  -- null bits and all values are there: one answer for each present column, in order, each NULL or in its domain, and the bytes used are these
+pub data Says (cs : List Present) (image : List ℕ) : RowWalked → Type 0 where
+  -- null bits and all values are there: one answer for each present column, in order, each NULL or in its domain, and the bytes used are
+  -- these
   read : (nulls rest : List ℕ) (ds : Row) → length nulls ≡ bytesFor (length cs) → inDomains cs ds ≡ true → Marks nulls 0 ds
-      → im ≡ nulls ++ (rowBytes cs ds ++ rest)
-      → Says cs im (record { answers = answersOf cs ds; how = ok (length nulls + length (rowBytes cs ds)) })
+      → image ≡ nulls ++ (rowBytes cs ds ++ rest)
+      → Says cs image (record { answers = answersOf cs ds; how = ok (length nulls + length (rowBytes cs ds)) })
   -- the null bits are not whole
-  short : length im < bytesFor (length cs) → Says cs im (record { answers = []; how = refuse 9 0 })
+  short : length image < bytesFor (length cs) → Says cs image (record { answers = []; how = refuse 9 0 })
   -- every value before that of c is there, c is not NULL, and its bytes end early (9) or have a part out of range (10)
-  broken : (nulls rest : List ℕ) (before : List Present) (c : Present) (behind : List Present) (ds : Row) (n : ℕ) → cs ≡ before ++ (c ∷ behind)
+  broken : (nulls rest : List ℕ) (before : List Present) (c : Present) (behind : List Present) (ds : Row) (n : ℕ)
+      → cs ≡ before ++ (c ∷ behind)
       → length nulls ≡ bytesFor (length cs) → inDomains before ds ≡ true → Marks nulls 0 ds → bitLsb0 nulls (length before) ≡ false
-      → im ≡ nulls ++ (rowBytes before ds ++ rest) → Fails (c .shape) rest n
-      → Says cs im (record { answers = answersOf before ds; how = refuse n (c .column) })
+      → image ≡ nulls ++ (rowBytes before ds ++ rest) → Fails (c .shape) rest n
+      → Says cs image (record { answers = answersOf before ds; how = refuse n (c .column) })
 
 -- ---- no other refusal: short null bits, or a present column whose value ends early or has a part out of range
 -- a present column of the record: there is such a column, and its bit is set
-pub record Among (r p : List ℕ) (j : ℕ) : Type 0 where
-  pub column : j < countOf r
-  pub bit : bitLsb0 p j ≡ true
+pub record Among (profile presence : List ℕ) (j : ℕ) : Type 0 where
+  pub column : j < countOf profile
+  pub bit : bitLsb0 presence j ≡ true
 
-pub data Refusals (r p im : List ℕ) : Refusal → Type 0 where
-  in-nulls : length im < bytesFor (length (present r p)) → Refusals r p im (why 9 0)
-  at-column : (n j : ℕ) → (n ≡ 9) ⊎ (n ≡ 10) → Among r p j → Refusals r p im (why n j)
+pub data WalkRefusal (profile presence image : List ℕ) : Refusal → Type 0 where
+  in-nulls : length image < bytesFor (length (present profile presence)) → WalkRefusal profile presence image (why 9 0)
+  at-column : (n j : ℕ) → (n ≡ 9) ⊎ (n ≡ 10) → Among profile presence j → WalkRefusal profile presence image (why n j)

@@ -9,24 +9,24 @@ use Rattle.value.specs.Reading.{readDatum, datumOf}
 use Rattle.image.specs.declared.cursor.Cursor.{Cursor}
 use Rattle.image.specs.declared.end.WalkEnd.{WalkEnd}
 use Rattle.image.specs.declared.end.WalkEnd.the-variants.{Ends, Refused}
-use Rattle.image.specs.Split.{Slot, Told, null as null₁, value, end, slotsLeft, firstCursor}
+use Rattle.image.specs.Split.{Slot, ColumnStepped, null as null₁, value, end, slotsLeft, firstCursor}
 
 -- an answer for each column that was met, NULL or a value; and the bytes used, or why the walk stopped
-pub record Walked : Type 0 where
+pub record RowWalked : Type 0 where
   pub answers : List (ℕ × Datum)
   pub how : Outcome ℕ
 
-abbrev pub stopped : Outcome ℕ → Walked
-stopped how = record { answers = []; how = how }
+abbrev pub rowStopped : Outcome ℕ → RowWalked
+rowStopped how = record { answers = []; how = how }
 
 -- one answer, and then those of the rest
-abbrev pub withAnswer : ℕ × Datum → Walked → Walked
+abbrev pub withAnswer : ℕ × Datum → RowWalked → RowWalked
 withAnswer a w = record { answers = a ∷ w .answers; how = w .how }
 
 -- a walk that goes on from what was read, or stops at a refusal
-abbrev pub goingOn : {A : Type 0} → (A → Walked) → Outcome A → Walked
+abbrev pub goingOn : {A : Type 0} → (A → RowWalked) → Outcome A → RowWalked
 goingOn f (ok a) = f a
-goingOn f (refused w) = stopped (refused w)
+goingOn f (refused w) = rowStopped (refused w)
 
 -- ---- slots
 -- what stands in a slot, s being the image from there on, and how many bytes it takes: NULL takes none
@@ -35,31 +35,31 @@ unfolding readDatum
 readSlot i s = cond (i .null) (ok (null, 0)) (readDatum (i .present .shape) (i .present .column) s)
 
 -- the answer of column j, and then the walk f from so many bytes on
-abbrev pub answered : ℕ → (ℕ → Walked) → Outcome (Datum × ℕ) → Walked
+abbrev pub answered : ℕ → (ℕ → RowWalked) → Outcome (Datum × ℕ) → RowWalked
 answered j f = goingOn (λ x. withAnswer (j, x .0) (f (x .1)))
 
 -- slots one after the other, s being the image from offset o on
-unfoldable pub readSlots : List Slot → List ℕ → ℕ → Walked
+unfoldable pub readSlots : List Slot → List ℕ → ℕ → RowWalked
 unfolding readSlot
-readSlots [] s o = stopped (ok o)
+readSlots [] s o = rowStopped (ok o)
 readSlots (i ∷ is) s o = answered (i .present .column) (λ n. readSlots is (drop n s) (o + n)) (readSlot i s)
 
 -- ---- the walk from a cursor on
-unfoldable pub walkFrom : List ℕ → List ℕ → List ℕ → Cursor → Walked
+unfoldable pub walkFrom : List ℕ → List ℕ → List ℕ → Cursor → RowWalked
 unfolding slotsLeft readSlots
-walkFrom r p im c = goingOn (λ is. readSlots is (drop (c .offset) im) (c .offset)) (slotsLeft r p im c)
+walkFrom profile presence image c = goingOn (λ is. readSlots is (drop (c .offset) image) (c .offset)) (slotsLeft profile presence image c)
 
 -- the whole walk
-unfoldable pub walk : List ℕ → List ℕ → List ℕ → Walked
+unfoldable pub walkImage : List ℕ → List ℕ → List ℕ → RowWalked
 unfolding firstCursor walkFrom
-walk r p im = goingOn (walkFrom r p im) (firstCursor r p)
+walkImage profile presence image = goingOn (walkFrom profile presence image) (firstCursor profile presence)
 
 -- ---- by steps: what a step told, and then the walk f from its cursor
-abbrev pub onward : (Cursor → Walked) → List ℕ → Outcome Told → Walked
-onward f im (ok (null₁ j c)) = withAnswer (j, null) (f c)
-onward f im (ok (value j v c)) = withAnswer (j, datumOf im v) (f c)
-onward f im (ok (end used)) = stopped (ok used)
-onward f im (refused r) = stopped (refused r)
+abbrev pub rowOnward : (Cursor → RowWalked) → List ℕ → Outcome ColumnStepped → RowWalked
+rowOnward f image (ok (null₁ j c)) = withAnswer (j, null) (f c)
+rowOnward f image (ok (value j v c)) = withAnswer (j, datumOf image v) (f c)
+rowOnward f image (ok (end used)) = rowStopped (ok used)
+rowOnward f image (refused r) = rowStopped (refused r)
 
 -- ---- what the answer of the call for its end says
 abbrev pub endTold : WalkEnd → Outcome ℕ

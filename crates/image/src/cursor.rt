@@ -17,7 +17,8 @@ pub enum First {
     Refused(Refusal),
 }
 
-// What a valid record and presence bits of its length say: how many columns there are, how many of them are present, and how many bytes of null bits these have.
+// What a valid record and presence bits of its length say: how many columns there are, how many of them are present, and how many bytes of
+// null bits these have.
 pub struct Head {
     pub columns: usize,
     pub present: usize,

@@ -1,14 +1,14 @@
 // Where a whole walk over an image ends. The record and the presence bits are tested once, so a row costs its columns and not their square.
 use crate::cursor::HeadRead;
 use crate::cursor::read_head;
-use crate::step::Inner;
+use crate::step::InnerCursor;
+use crate::step::InnerStep;
 use crate::step::NullBit;
-use crate::step::Standing;
 use crate::step::step_inner;
 use wire::Refusal;
 use wire::refusal::IMAGE_SHORT;
 ghost use mathlib.Core.Path.{_≡_};
-ghost use Rattle.image.specs.Walk.{walk, endTold};
+ghost use Rattle.image.specs.Walk.{walkImage, endTold};
 
 // The bytes used, or why the walk stopped.
 pub enum WalkEnd {
@@ -18,7 +18,7 @@ pub enum WalkEnd {
 
 // The end of the walk from the first cursor on, as steps would come to it.
 pub fn walk_end(profile: &[u8], presence: &[u8], image: &[u8]) -> WalkEnd
-    ensures { λ r. ⌜ endTold r ≡ walk (now (profile .entry)) (now (presence .entry)) (now (image .entry)) .how ⌝ }
+    ensures { λ r. ⌜ endTold r ≡ walkImage (now (profile .entry)) (now (presence .entry)) (now (image .entry)) .how ⌝ }
 {
     let head = match read_head(profile, presence) {
         HeadRead::Read(head) => head,
@@ -29,21 +29,21 @@ pub fn walk_end(profile: &[u8], presence: &[u8], image: &[u8]) -> WalkEnd
     if image.len() < offset {
         return WalkEnd::Refused(wire::refuse(IMAGE_SHORT, 0));
     }
-    let mut at = Standing {
+    let mut at = InnerCursor {
         column: 0,
         bit: NullBit(0),
         offset,
     };
     loop {
         match step_inner(profile, presence, image, columns, at) {
-            Inner::Null { column: _, next } => at = next,
-            Inner::Value {
+            InnerStep::Null { column: _, next } => at = next,
+            InnerStep::Value {
                 column: _,
                 value: _,
                 next,
             } => at = next,
-            Inner::End { used } => return WalkEnd::Ends { used },
-            Inner::Refused(r) => return WalkEnd::Refused(r),
+            InnerStep::End { used } => return WalkEnd::Ends { used },
+            InnerStep::Refused(r) => return WalkEnd::Refused(r),
         }
     }
 }

@@ -4,8 +4,8 @@ use crate::cursor::HeadRead;
 use crate::cursor::read_head;
 use crate::presence::count_bits;
 use crate::presence::first_set;
+use crate::step::InnerCursor;
 use crate::step::NullBit;
-use crate::step::Standing;
 use value::Value;
 use wire::Refusal;
 use wire::Written;
@@ -21,7 +21,7 @@ ghost use Rattle.wire.specs.Bits.{bytesFor};
 ghost use Rattle.wire.specs.Stored.{stored, answerOf, leftOf};
 ghost use Rattle.value.specs.Reading.{datumOf};
 ghost use Rattle.image.specs.Split.{headTold, slotsAt};
-ghost use Rattle.image.specs.Inner.{cursorOf, Placed};
+ghost use Rattle.image.specs.Inner.Steps.{cursorOf, Placed};
 ghost use Rattle.image.specs.Rows.{isNull};
 ghost use Rattle.image.specs.Puts.{headNulls, spareSet, filled, startImage, putOver, putFrom, putTold};
 
@@ -48,8 +48,10 @@ fn read_head_nulls(profile: &[u8], presence: &[u8], nulls: &[u8]) -> HeadRead
 
 // Stores the null bits at the buffer's start, with the spare bits of the last byte set.
 pub fn start(profile: &[u8], presence: &[u8], nulls: &[u8], buf: &mut [u8]) -> Put
-    ensures { λ r. ⌜ putTold r ≡ answerOf (startImage (now (profile .entry)) (now (presence .entry)) (now (nulls .entry)) (now (buf .entry))) ⌝ }
-    ensures { λ _. ⌜ now (buf .exit) ≡ leftOf (now (buf .entry)) (startImage (now (profile .entry)) (now (presence .entry)) (now (nulls .entry)) (now (buf .entry))) ⌝ }
+    ensures { λ r. ⌜ putTold r
+        ≡ answerOf (startImage (now (profile .entry)) (now (presence .entry)) (now (nulls .entry)) (now (buf .entry))) ⌝ }
+    ensures { λ _. ⌜ now (buf .exit)
+        ≡ leftOf (now (buf .entry)) (startImage (now (profile .entry)) (now (presence .entry)) (now (nulls .entry)) (now (buf .entry))) ⌝ }
 {
     let head = match read_head_nulls(profile, presence, nulls) {
         HeadRead::Read(head) => head,
@@ -59,7 +61,7 @@ pub fn start(profile: &[u8], presence: &[u8], nulls: &[u8], buf: &mut [u8]) -> P
     if buf.len() < offset {
         return Put::Refused(wire::refuse(NO_ROOM, 0));
     }
-    put_nulls(buf, nulls, head.present);
+    put_nulls(nulls, head.present, buf);
     Put::Next(Cursor { column: 0, offset })
 }
 
@@ -73,11 +75,11 @@ fn spare_set(used: usize, b: u8) -> u8
 }
 
 // The n null bits and the spare bits behind them.
-fn put_nulls(buf: &mut [u8], nulls: &[u8], n: usize)
+fn put_nulls(nulls: &[u8], n: usize, buf: &mut [u8])
     requires { ⌜ (length (now nulls) ≡ bytesFor n) × (length (now nulls) ≤ length (now buf)) ⌝ }
-    ensures { λ _. ⌜ now (buf .exit) ≡ stored (now (buf .entry)) 0 (filled n (now (nulls .entry))) ⌝ }
+    ensures { λ _. ⌜ now (buf .exit) ≡ stored (filled n (now (nulls .entry))) (now (buf .entry)) 0 ⌝ }
 {
-    wire::write_bytes(buf, 0, nulls);
+    wire::write_bytes(nulls, buf, 0);
     let used = n % 8;
     if used == 0 {
         return;
@@ -86,20 +88,26 @@ fn put_nulls(buf: &mut [u8], nulls: &[u8], n: usize)
     buf[last] = spare_set(used, nulls[last]);
 }
 
-// A step on a record, presence bits and null bits that were tested: the next present column from the cursor on takes the value, whose bytes are in lent.
+// A step on a record, presence bits and null bits that were tested: the next present column from the cursor on takes the value, whose bytes
+// are in lent.
 fn put_inner(
     profile: &[u8],
     presence: &[u8],
     nulls: &[u8],
     columns: usize,
-    at: Standing,
+    at: InnerCursor,
     value: Value,
     lent: &[u8],
     buf: &mut [u8],
 ) -> Put
     requires { ⌜ Placed (now profile) (now presence) columns at ⌝ }
-    ensures { λ r. ⌜ putTold r ≡ answerOf (putOver (slotsAt (now (profile .entry)) (now (presence .entry)) (now (nulls .entry)) (at .column)) (cursorOf at) (now (lent .entry)) value (now (buf .entry))) ⌝ }
-    ensures { λ _. ⌜ now (buf .exit) ≡ leftOf (now (buf .entry)) (putOver (slotsAt (now (profile .entry)) (now (presence .entry)) (now (nulls .entry)) (at .column)) (cursorOf at) (now (lent .entry)) value (now (buf .entry))) ⌝ }
+    ensures { λ r. ⌜ putTold r
+        ≡ answerOf (putOver (slotsAt (now (profile .entry)) (now (presence .entry)) (now (nulls .entry)) (at .column)) (cursorOf at)
+        (now (lent .entry)) value (now (buf .entry))) ⌝ }
+    ensures { λ _. ⌜ now (buf .exit)
+        ≡ leftOf (now (buf .entry))
+        (putOver (slotsAt (now (profile .entry)) (now (presence .entry)) (now (nulls .entry)) (at .column)) (cursorOf at)
+        (now (lent .entry)) value (now (buf .entry))) ⌝ }
 {
     let column = first_set(presence, at.column, columns);
     if column == columns {
@@ -153,8 +161,13 @@ impl Cursor {
         lent: &[u8],
         buf: &mut [u8],
     ) -> Put
-        ensures { λ r. ⌜ putTold r ≡ answerOf (putFrom (now (profile .entry)) (now (presence .entry)) (now (nulls .entry)) self (now (lent .entry)) value (now (buf .entry))) ⌝ }
-        ensures { λ _. ⌜ now (buf .exit) ≡ leftOf (now (buf .entry)) (putFrom (now (profile .entry)) (now (presence .entry)) (now (nulls .entry)) self (now (lent .entry)) value (now (buf .entry))) ⌝ }
+        ensures { λ r. ⌜ putTold r
+            ≡ answerOf (putFrom (now (profile .entry)) (now (presence .entry)) (now (nulls .entry)) self (now (lent .entry)) value
+            (now (buf .entry))) ⌝ }
+        ensures { λ _. ⌜ now (buf .exit)
+            ≡ leftOf (now (buf .entry))
+            (putFrom (now (profile .entry)) (now (presence .entry)) (now (nulls .entry)) self (now (lent .entry)) value
+            (now (buf .entry))) ⌝ }
     {
         let column = self.column;
         let offset = self.offset;
@@ -167,7 +180,7 @@ impl Cursor {
             return Put::Refused(wire::refuse(NO_COLUMN, column));
         }
         let bit = NullBit(count_bits(presence, column));
-        let at = Standing {
+        let at = InnerCursor {
             column,
             bit,
             offset,

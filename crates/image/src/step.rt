@@ -10,8 +10,8 @@ use wire::Refusal;
 use wire::refusal::IMAGE_SHORT;
 use wire::refusal::NO_COLUMN;
 ghost use mathlib.Core.Path.{_≡_};
-ghost use Rattle.image.specs.Split.{told, stepOver, slotsAt, stepFrom};
-ghost use Rattle.image.specs.Inner.{Placed, cursorOf, toldInner, Ranked};
+ghost use Rattle.image.specs.Split.{stepTold, stepOver, slotsAt, stepFrom};
+ghost use Rattle.image.specs.Inner.Steps.{Placed, cursorOf, innerTold, Ranked};
 
 // What stands at a cursor: NULL or a value, with its column and the next cursor; or the end, with the bytes used.
 pub enum Step {
@@ -33,23 +33,24 @@ pub enum Step {
 // Which null bit: as many as present columns stand before the column.
 pub(crate) struct NullBit(pub usize);
 
-// A cursor that knows its null bit. A loop over the steps of a row need not count present columns again; the public step, which believes no cursor, counts them each time.
-pub(crate) struct Standing {
+// A cursor that knows its null bit. A loop over the steps of a row need not count present columns again; the public step, which believes no
+// cursor, counts them each time.
+pub(crate) struct InnerCursor {
     pub column: usize,
     pub bit: NullBit,
     pub offset: usize,
 }
 
 // The same answers, with such a cursor for the next column.
-pub(crate) enum Inner {
+pub(crate) enum InnerStep {
     Null {
         column: usize,
-        next: Standing,
+        next: InnerCursor,
     },
     Value {
         column: usize,
         value: Value,
-        next: Standing,
+        next: InnerCursor,
     },
     End {
         used: usize,
@@ -63,22 +64,24 @@ pub(crate) fn step_inner(
     presence: &[u8],
     image: &[u8],
     columns: usize,
-    at: Standing,
-) -> Inner
+    at: InnerCursor,
+) -> InnerStep
     requires { ⌜ Placed (now profile) (now presence) columns at ⌝ }
-    ensures { λ r. ⌜ toldInner r ≡ stepOver (slotsAt (now (profile .entry)) (now (presence .entry)) (now (image .entry)) (at .column)) (now (image .entry)) (at .offset) ⌝ }
+    ensures { λ r. ⌜ innerTold r
+        ≡ stepOver (slotsAt (now (profile .entry)) (now (presence .entry)) (now (image .entry)) (at .column)) (now (image .entry))
+        (at .offset) ⌝ }
     ensures { λ r. ⌜ Ranked (now (presence .entry)) r ⌝ }
 {
     let column = first_set(presence, at.column, columns);
     if column == columns {
-        return Inner::End { used: at.offset };
+        return InnerStep::End { used: at.offset };
     }
     let behind = column + 1;
     let rank = at.bit.0 + 1;
     if wire::bit_lsb0(image, at.bit.0) {
-        return Inner::Null {
+        return InnerStep::Null {
             column,
-            next: Standing {
+            next: InnerCursor {
                 column: behind,
                 bit: NullBit(rank),
                 offset: at.offset,
@@ -87,20 +90,20 @@ pub(crate) fn step_inner(
     }
     let stored = record::column_of(record::entry_in(profile, column));
     match value::read_value(stored, image, at.offset, column) {
-        Read::Got { value, next } => Inner::Value {
+        Read::Got { value, next } => InnerStep::Value {
             column,
             value,
-            next: Standing {
+            next: InnerCursor {
                 column: behind,
                 bit: NullBit(rank),
                 offset: next,
             },
         },
-        Read::Refused(r) => Inner::Refused(r),
+        Read::Refused(r) => InnerStep::Refused(r),
     }
 }
 
-fn cursor_of(at: Standing) -> Cursor
+fn cursor_of(at: InnerCursor) -> Cursor
     ensures { λ r. ⌜ r ≡ cursorOf at ⌝ }
 {
     Cursor {
@@ -110,15 +113,15 @@ fn cursor_of(at: Standing) -> Cursor
 }
 
 // The answer without null bits.
-fn without_bit(step: Inner) -> Step
-    ensures { λ r. ⌜ told r ≡ toldInner step ⌝ }
+fn without_bit(step: InnerStep) -> Step
+    ensures { λ r. ⌜ stepTold r ≡ innerTold step ⌝ }
 {
     match step {
-        Inner::Null { column, next } => Step::Null {
+        InnerStep::Null { column, next } => Step::Null {
             column,
             next: cursor_of(next),
         },
-        Inner::Value {
+        InnerStep::Value {
             column,
             value,
             next,
@@ -127,15 +130,15 @@ fn without_bit(step: Inner) -> Step
             value,
             next: cursor_of(next),
         },
-        Inner::End { used } => Step::End { used },
-        Inner::Refused(r) => Step::Refused(r),
+        InnerStep::End { used } => Step::End { used },
+        InnerStep::Refused(r) => Step::Refused(r),
     }
 }
 
 impl Cursor {
     // The next present column from this cursor on. A made-up cursor obeys the same rule.
     pub fn step(self, profile: &[u8], presence: &[u8], image: &[u8]) -> Step
-        ensures { λ r. ⌜ told r ≡ stepFrom (now (profile .entry)) (now (presence .entry)) (now (image .entry)) self ⌝ }
+        ensures { λ r. ⌜ stepTold r ≡ stepFrom (now (profile .entry)) (now (presence .entry)) (now (image .entry)) self ⌝ }
     {
         let column = self.column;
         let offset = self.offset;
@@ -154,7 +157,7 @@ impl Cursor {
             return Step::Refused(wire::refuse(IMAGE_SHORT, column));
         }
         let bit = NullBit(count_bits(presence, column));
-        let at = Standing {
+        let at = InnerCursor {
             column,
             bit,
             offset,

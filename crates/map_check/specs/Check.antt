@@ -1,5 +1,5 @@
--- The check of a map: "After event reading, in order: n at most 255; each column's type then metadata; no metadata left over; optional fields one by one,
--- contents in full; a repeated key index; room." Assumes nothing.
+-- The check of a map: "After event reading, in order: n at most 255; each column's type then metadata; no metadata left over; optional
+-- fields one by one, contents in full; a repeated key index; room." Assumes nothing.
 use Prim.Native.Nat.{ℕ}
 use mathlib.Core.Bool.{cond}
 use mathlib.Core.List.{List}
@@ -16,7 +16,7 @@ use Rattle.record.specs.declared.entry.Entry.{Entry}
 use Rattle.record.specs.Records.{mostColumns, recordBytes}
 use Rattle.map_check.specs.declared.declare.Declared.{Declared}
 use Rattle.map_check.specs.Columns.{takeColumns}
-use Rattle.map_check.specs.Ranks.{place, noRanks, ranksFrom, sizesOf}
+use Rattle.map_check.specs.Ranks.{tablePlace, noRanks, ranksFrom, sizesOf}
 use Rattle.map_check.specs.Fields.{fieldsAt, keepSteps, keepFields}
 use Rattle.map_check.specs.Keys.{keysHold}
 use Rattle.map_check.specs.Profile.{factsOf, entriesFrom}
@@ -27,7 +27,7 @@ fewEnough types = cond (leb (length types) mostColumns) (ok tt) (refuse 3 0)
 
 -- an event's columns, as its record says them
 abbrev pub entriesOf : Dialect → List ℕ → Event → List Declared → List (ℕ × Part) → List Entry
-entriesOf d s e cs fs = entriesFrom d s (factsOf (e .bits) fs) cs (place 0) noRanks
+entriesOf d s e cs fs = entriesFrom d s (factsOf (e .bits) fs) cs (tablePlace 0) noRanks
 
 -- the entries of a map that passes
 unfoldable pub checkEvent : Dialect → List ℕ → Event → Outcome (List Entry)
@@ -45,7 +45,7 @@ checkMap d s postHeader = after (readEvent s postHeader) (λ e. checkEvent d s e
 
 -- its record in a buffer: the record's length and the buffer with the record at its start, or 8 at 0 for room
 abbrev pub written : List ℕ → Outcome (List Entry) → Outcome (ℕ × List ℕ)
-written buf o = after o (λ es. store buf 0 (recordBytes es))
+written buf o = after o (λ es. store (recordBytes es) buf 0)
 
 -- the call
 unfoldable pub check : Dialect → List ℕ → ℕ → List ℕ → Outcome (ℕ × List ℕ)

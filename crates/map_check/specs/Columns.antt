@@ -4,16 +4,11 @@ use mathlib.Core.Bool.{Bool, true, false, cond, _&&_, _||_}
 use mathlib.Core.List.{List, [], _∷_}
 use lib.ListN.{length, getD, drop}
 use lib.Dec.{leb, eqb}
-use Rattle.wire.specs.Outcome.{Outcome, ok, refused, refuse, after}
+use Rattle.wire.specs.Outcome.{Outcome, ok, refuse, after}
 use Rattle.value.specs.declared.column.Column.{Column}
 use Rattle.value.specs.Types.{familyOf, isKnown, metadataBytes, realType}
 use Rattle.value.specs.Columns.{shapeOf, isTaken}
-use Rattle.map_check.specs.declared.rank.Ranks.{Ranks}
 use Rattle.map_check.specs.declared.declare.Declared.{Declared}
-use Rattle.map_check.specs.declared.column.ColumnTaken.{ColumnTaken}
-use Rattle.map_check.specs.declared.column.ColumnTaken.the-variants.{Taken, Refused}
-use Rattle.map_check.specs.declared.column.Sizes.{Sizes}
-use Rattle.map_check.specs.declared.column.Sizes.the-variants.{Counted, Refused as NotCounted}
 
 -- how many bytes of metadata the type has
 abbrev pub metaBytes : ℕ → ℕ
@@ -36,7 +31,7 @@ isReal kind real = cond (eqb kind 254) (eqb real 247 || (eqb real 248 || eqb rea
 
 -- the column as its values are stored, if it is flagged unsigned or not
 abbrev pub realColumn : Declared → Bool → Column
-realColumn c unsigned = record { kind = c .real; m0 = c .m0; m1 = c .m1; unsigned = unsigned }
+realColumn c unsigned = record { real = c .real; m0 = c .m0; m1 = c .m1; unsigned = unsigned }
 
 -- whether a column is accepted: its real type is one that it may have, and the one table takes its metadata
 unfoldable pub isAccepted : Declared → Bool
@@ -62,18 +57,3 @@ takeColumns (kind ∷ types) meta place =
     after (takeColumn kind meta place) (λ c.
     after (takeColumns types (drop (metaBytes kind) meta) (suc place)) (λ cs.
     ok (c ∷ cs)))
-
--- the columns as the types say them, whether accepted or not
-unfoldable pub declareAll : List ℕ → List ℕ → List Declared
-unfolding declared
-declareAll [] meta = []
-declareAll (kind ∷ types) meta = declared kind meta ∷ declareAll types (drop (metaBytes kind) meta)
-
--- ---- what the answers say
-abbrev pub takenOf : ColumnTaken → Outcome Declared
-takenOf (Taken c) = ok c
-takenOf (Refused r) = refused r
-
-abbrev pub sizesTold : Sizes → Outcome Ranks
-sizesTold (Counted k) = ok k
-sizesTold (NotCounted r) = refused r

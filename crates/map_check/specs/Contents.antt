@@ -1,6 +1,6 @@
--- The contents of optional fields, in full: "3, 11: one charset per column of the class. 2, 10: ranks rise and lie below the class's size. Charsets
--- 1..65,535. 4: n names. 5, 6, 7, 13: one item per SET, ENUM, real type 255, 242 column; geometry types 0..7. Keys below n." Every list ends exactly at the
--- value's end. Assumes nothing.
+-- The contents of optional fields, in full: "3, 11: one charset per column of the class. 2, 10: ranks rise and lie below the class's size.
+-- Charsets 1..65,535. 4: n names. 5, 6, 7, 13: one item per SET, ENUM, real type 255, 242 column; geometry types 0..7. Keys below n." Every
+-- list ends exactly at the value's end. Assumes nothing.
 use Prim.Native.Nat.{ℕ, suc}
 use mathlib.Core.Bool.{Bool, true, false, cond, _&&_}
 use mathlib.Core.List.{List, [], _∷_}
@@ -8,7 +8,7 @@ use lib.ListN.{length}
 use lib.Dec.{leb, ltb, eqb}
 use Rattle.wire.specs.Outcome.{Outcome, ok, refused, after}
 use Rattle.wire.specs.Packed.{readPacked}
-use Rattle.table_map.specs.Lists.{Rule, Ended, whole, broken, walk, walkSteps, integerItem, pairItem, stringItem, groupItem}
+use Rattle.table_map.specs.Lists.{Rule, Ended, whole, broken, walkItems, walkSteps, integerItem, pairItem, stringItem, groupItem}
 use Rattle.map_check.specs.declared.rank.Ranks.{Ranks}
 use Rattle.map_check.specs.declared.contents.Meaning.{Meaning}
 use Rattle.map_check.specs.declared.contents.Meaning.the-variants.{Charset, GeometryType, Dimension}
@@ -30,12 +30,12 @@ whatever a = true
 -- the items from a place on are all there, up to the end of the value, and each holds
 unfoldable pub listHolds : {A : Type 0} → Rule A → (A → Bool) → List ℕ → ℕ → Bool
 unfolding walkSteps every
-listHolds rule p value at = isWhole (walk rule value at .how) && every p (walk rule value at .items)
+listHolds rule p value at = isWhole (walkItems rule value at .how) && every p (walkItems rule value at .items)
 
 -- the value is n such items
 unfoldable pub exactly : {A : Type 0} → Rule A → (A → Bool) → ℕ → List ℕ → Bool
 unfolding walkSteps listHolds
-exactly rule p n value = listHolds rule p value 0 && eqb (length (walk rule value 0 .items)) n
+exactly rule p n value = listHolds rule p value 0 && eqb (length (walkItems rule value 0 .items)) n
 
 -- ---- the integers of a list, by what they mean
 unfoldable pub isCharset : ℕ → Bool
@@ -55,7 +55,7 @@ pairsHold size low (p ∷ ps) = leb low (p .0) && (ltb (p .0) size && (isCharset
 
 unfoldable pub pairsWhole : ℕ → ℕ → List ℕ → ℕ → Bool
 unfolding walkSteps pairsHold
-pairsWhole size low value at = isWhole (walk pairItem value at .how) && pairsHold size low (walk pairItem value at .items)
+pairsWhole size low value at = isWhole (walkItems pairItem value at .how) && pairsHold size low (walkItems pairItem value at .items)
 
 -- the default that was read at the start, and the pairs behind it
 abbrev pub readHolds : ℕ → List ℕ → Outcome (ℕ × ℕ) → Bool

@@ -9,7 +9,7 @@ use Rattle.wire.specs.declared.part.Part.{Part}
 use Rattle.wire.specs.Parts.{lentPart}
 use Rattle.value.specs.declared.classes.Dialect.{Dialect}
 use Rattle.table_map.specs.declared.field.Fields.{Fields as FieldCursor}
-use Rattle.table_map.specs.Lists.{Stepped, end, item, step, Walked, walk}
+use Rattle.table_map.specs.Lists.{Stepped, end, item, step, ItemsWalked, walkItems}
 use Rattle.table_map.specs.Fields.{fieldItem, countSignBits}
 use Rattle.map_check.specs.declared.rank.Ranks.{Ranks}
 use Rattle.map_check.specs.declared.found.Found.{Found}
@@ -71,8 +71,5 @@ abbrev pub fieldsAt : Dialect → List ℕ → ℕ → FieldCursor
 fieldsAt d types at = record { at = at; numeric = countSignBits d types; columns = length types }
 
 -- the walk over the fields from a cursor on, and the fields that it meets, up to its end or to a refusal
-abbrev pub walkFields : FieldCursor → List ℕ → Walked (ℕ × Part)
-walkFields c s = walk (fieldItem (c .numeric) (c .columns)) s (c .at)
-
-abbrev pub fieldsFrom : FieldCursor → List ℕ → List (ℕ × Part)
-fieldsFrom c s = walkFields c s .items
+abbrev pub walkFields : FieldCursor → List ℕ → ItemsWalked (ℕ × Part)
+walkFields c s = walkItems (fieldItem (c .numeric) (c .columns)) s (c .at)

@@ -1,12 +1,12 @@
--- "The first key index that stands twice is a 7": placed at the first byte of the earliest item, of field 8 or 9, that repeats an earlier
--- one. Assumes nothing.
+-- A repeated key: "the first key index that stands twice is a 7", placed at the first byte of the earliest item, of field 8 or 9, that
+-- repeats an earlier one. Assumes nothing.
 use Prim.Native.Nat.{ℕ, _+_}
 use mathlib.Core.Bool.{Bool, true, false, cond}
 use mathlib.Core.List.{List, [], _∷_, _++_}
 use Rattle.wire.specs.Outcome.{Outcome, ok, refuse, after}
 use Rattle.wire.specs.declared.part.Part.{Part}
 use Rattle.wire.specs.Parts.{lentPart}
-use Rattle.table_map.specs.Lists.{Rule, walk, walkSteps}
+use Rattle.table_map.specs.Lists.{Rule, walkItems, walkSteps}
 use Rattle.map_check.specs.declared.found.Found.{Found}
 use Rattle.map_check.specs.declared.found.Found.the-variants.{Value, Nothing}
 use Rattle.map_check.specs.Contents.{keyItem}
@@ -18,7 +18,7 @@ withPlace rule s at = after (rule s at) (λ x. ok ((at, x .0), x .1))
 
 -- the keys of a field's value, each with its place in the value
 abbrev pub keysFrom : Bool → List ℕ → ℕ → List (ℕ × ℕ)
-keysFrom paired value at = walk (withPlace (keyItem paired)) value at .items
+keysFrom paired value at = walkItems (withPlace (keyItem paired)) value at .items
 
 -- none of them repeats one of those before it; the value starts at `start`
 unfoldable pub keysOnce : ℕ → List ℕ → List (ℕ × ℕ) → Outcome (Unit {0})

@@ -171,23 +171,23 @@ pub data KeysAre : ℕ → List ℕ → List ℕ → Type 0 where
 
 -- ---- entries: "real type; flags; m0; m1; charset (pair, list or default), 0 if none given"
 -- the charset of rank r in a class, by the two fields that may tell it
-pub data Given (fs : List Field) (default list r : ℕ) : ℕ → Type 0 where
+pub data CharsetGiven (fs : List Field) (default list r : ℕ) : ℕ → Type 0 where
   -- that of the list
   listed : (value charsets : List ℕ) → Member (list, value) fs → ItemsAre integerItem value charsets
-      → Given fs default list r (getD charsets r 0)
+      → CharsetGiven fs default list r (getD charsets r 0)
   -- that of its pair
   paired : (value : List ℕ) (first v : ℕ) (pairs : List (ℕ × ℕ)) → Member (default, value) fs → DefaultIs value first pairs
-      → Member (r, v) pairs → Given fs default list r v
+      → Member (r, v) pairs → CharsetGiven fs default list r v
   -- the default, where it has none
   unpaired : (value : List ℕ) (first : ℕ) (pairs : List (ℕ × ℕ)) → Member (default, value) fs → DefaultIs value first pairs
-      → ((v : ℕ) → Member (r, v) pairs → ⊥) → Given fs default list r first
+      → ((v : ℕ) → Member (r, v) pairs → ⊥) → CharsetGiven fs default list r first
   -- 0, where neither field stands
-  not-given : Absent default fs → Absent list fs → Given fs default list r 0
+  not-given : Absent default fs → Absent list fs → CharsetGiven fs default list r 0
 
 -- the charset of a column: its rank is how many columns before it are of the class
 pub data CharsetIs (d : Dialect) (fs : List Field) (before : List Declared) (c : Declared) : ℕ → Type 0 where
-  of-character : {v : ℕ} → isCharacter (c .real) ≡ true → Given fs 2 3 (count (character d) before) v → CharsetIs d fs before c v
-  of-choice : {v : ℕ} → isEnumOrSet (c .real) ≡ true → Given fs 10 11 (count choice before) v → CharsetIs d fs before c v
+  of-character : {v : ℕ} → isCharacter (c .real) ≡ true → CharsetGiven fs 2 3 (count (character d) before) v → CharsetIs d fs before c v
+  of-choice : {v : ℕ} → isEnumOrSet (c .real) ≡ true → CharsetGiven fs 10 11 (count choice before) v → CharsetIs d fs before c v
   of-other : isCharacter (c .real) ≡ false → isEnumOrSet (c .real) ≡ false → CharsetIs d fs before c 0
 
 -- flags 1, "unsigned", and 4, "signedness known": on numeric columns, if field 1 stands. Its bits run from the highest down, and the
@@ -205,7 +205,7 @@ pub data VisibleIs (fs : List Field) (j : ℕ) : Bool → Type 0 where
 
 -- the entry of a column behind others; flag 2, "nullable": the bits run from the lowest up, one for each column
 pub record EntryIs (d : Dialect) (bits : List ℕ) (fs : List Field) (before : List Declared) (c : Declared) (x : Entry) : Type 0 where
-  pub kind-is : x .kind ≡ c .real
+  pub real-is : x .real ≡ c .real
   pub m0-is : x .m0 ≡ c .m0
   pub m1-is : x .m1 ≡ c .m1
   pub charset-is : CharsetIs d fs before c (x .charset)

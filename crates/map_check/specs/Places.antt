@@ -1,7 +1,7 @@
--- When the check refuses a map, and where it tells it, in the words of document 01's table and in the order of its list: 3 for "n over 255 in
--- the check" at 0; 4 for a "column type not taken" and 5 for "metadata short, left over (place n) or not accepted" at the column; 1 and 2 at
--- the length of an optional field, 6 and 7 at its type byte; "a key repeated is 7, placed at the earliest item that repeats one". Each stands
--- here with what was passed before it, so that no two are given of one map. Assumes nothing.
+-- When the check refuses a map, and where it tells it, in the words of document 01's table and in the order of its list: 3 for "n over 255
+-- in the check" at 0; 4 for a "column type not taken" and 5 for "metadata short, left over (place n) or not accepted" at the column; 1 and
+-- 2 at the length of an optional field, 6 and 7 at its type byte; "a key repeated is 7, placed at the earliest item that repeats one". Each
+-- stands here with what was passed before it, so that no two are given of one map. Assumes nothing.
 use Prim.Native.Nat.{ℕ, suc, _+_, _≤_, _<_}
 use mathlib.Core.Path.{_≡_}
 use mathlib.Core.Bool.{Bool, true, false, cond}
@@ -31,7 +31,7 @@ pub data TooMany (s : List ℕ) (postHeader : ℕ) : ℕ → Type 0 where
 
 -- ---- columns: of the types, and of the metadata from the first one's on
 -- the first is taken: its type is one that is known, its metadata is there, and is accepted
-pub record Taken (kind : ℕ) (meta : List ℕ) : Type 0 where
+pub record FirstTaken (kind : ℕ) (meta : List ℕ) : Type 0 where
   pub known : isKnown (familyOf kind) ≡ true
   pub there : metaBytes kind ≤ length meta
   pub accepted : isAccepted (declared kind meta) ≡ true
@@ -39,7 +39,7 @@ pub record Taken (kind : ℕ) (meta : List ℕ) : Type 0 where
 -- column j is the first that is not taken, for its type
 pub data TypeNotTaken : List ℕ → List ℕ → ℕ → Type 0 where
   type-here : {kind : ℕ} {types meta : List ℕ} → isKnown (familyOf kind) ≡ false → TypeNotTaken (kind ∷ types) meta 0
-  type-behind : {kind j : ℕ} {types meta : List ℕ} → Taken kind meta → TypeNotTaken types (drop (metaBytes kind) meta) j
+  type-behind : {kind j : ℕ} {types meta : List ℕ} → FirstTaken kind meta → TypeNotTaken types (drop (metaBytes kind) meta) j
       → TypeNotTaken (kind ∷ types) meta (suc j)
 
 -- or for its metadata; or all are taken, j is their number, and metadata is left over
@@ -50,7 +50,7 @@ pub data MetadataWrong : List ℕ → List ℕ → ℕ → Type 0 where
       → isAccepted (declared kind meta) ≡ false
       → MetadataWrong (kind ∷ types) meta 0
   left-over : {meta : List ℕ} → 0 < length meta → MetadataWrong [] meta 0
-  metadata-behind : {kind j : ℕ} {types meta : List ℕ} → Taken kind meta → MetadataWrong types (drop (metaBytes kind) meta) j
+  metadata-behind : {kind j : ℕ} {types meta : List ℕ} → FirstTaken kind meta → MetadataWrong types (drop (metaBytes kind) meta) j
       → MetadataWrong (kind ∷ types) meta (suc j)
 
 -- so of an event that is read, and has not too many
@@ -67,8 +67,8 @@ pub data Stand (s : List ℕ) (Fault : List ℕ → ℕ → List ℕ → Type 0)
       → readPacked s (o + 1) ≡ ok (len, start) → start + len ≤ length s → (Fault before (getD s o 0) (take len (drop start s)) → ⊥)
       → Stand s Fault from (start + len) (getD s o 0 ∷ before)
 
--- the refusal of the field at a place o, behind fields of the types `before`, where the walk may come to such a place: its number, and where
--- it is told
+-- the refusal of the field at a place o, behind fields of the types `before`, where the walk may come to such a place: its number, and
+-- where it is told
 pub data FieldRefused (s : List ℕ) (Comes : ℕ → List ℕ → Type 0) (Fault : List ℕ → ℕ → List ℕ → Type 0) : ℕ → ℕ → Type 0 where
   -- the bytes end in its length or in its value
   cut : {o : ℕ} {before : List ℕ} → Comes o before → o < length s → Cut s string (o + 1) → FieldRefused s Comes Fault 1 (o + 1)
@@ -82,8 +82,8 @@ pub data FieldRefused (s : List ℕ) (Comes : ℕ → List ℕ → Type 0) (Faul
       → start + len ≤ length s → Fault before (getD s o 0) (take len (drop start s)) → FieldRefused s Comes Fault 7 o
 
 -- ---- the fields of a map, in the check
--- the rules that a field may break: "a type stands at most once; not both 2 and 3, 10 and 11, 8 and 9"; and the clause of its contents. That
--- a key stands twice is told behind all fields
+-- the rules that a field may break: "a type stands at most once; not both 2 and 3, 10 and 11, 8 and 9"; and the clause of its contents.
+-- That a key stands twice is told behind all fields
 pub data Breaks (d : Dialect) (cs : List Declared) (before : List ℕ) (kind : ℕ) (value : List ℕ) : Type 0 where
   twice : Member kind before → Breaks d cs before kind value
   rivalled : Member (rivalOf kind) before → Breaks d cs before kind value

@@ -1,5 +1,5 @@
-// The charsets of a class of columns, one after the other in the order of ranks. The ranks of pairs rise, so one look at the pair at the cursor tells a
-// rank's charset.
+// The charsets of a class of columns, one after the other in the order of ranks. The ranks of pairs rise, so one look at the pair at the
+// cursor tells a rank's charset.
 use crate::facts::Charsets;
 use crate::found::Found;
 use crate::found::value_in;
@@ -12,7 +12,8 @@ use table_map::Pairs;
 ghost use mathlib.Core.Path.{_≡_};
 ghost use Rattle.wire.specs.Packed.{readPacked};
 ghost use Rattle.table_map.specs.Lists.{step, integerItem, pairItem};
-ghost use Rattle.map_check.specs.Standing.{ClassHolds, IntegerFits, PairFits, behind, listTurn, pairTurn, Stands, Taken, TakenIf};
+ghost use Rattle.map_check.specs.Inner.Making.{ClassHolds, IntegerFits, PairFits, behindDefault, listTurn, pairTurn, Stands};
+ghost use Rattle.map_check.specs.Inner.Making.{CharsetTurned, CharsetTurnedIf};
 
 // Where the next charset of a class is looked for, and the charset of ranks without a pair.
 pub(crate) struct CharsetCursor {
@@ -28,7 +29,7 @@ pub(crate) struct CharsetTurn {
 // At the first pair, behind the default.
 fn behind_default(value: &[u8]) -> CharsetCursor
     requires { ⌜ IntegerFits (now value) 0 ⌝ }
-    ensures { λ r. ⌜ r ≡ behind (readPacked (now (value .entry)) 0) ⌝ }
+    ensures { λ r. ⌜ r ≡ behindDefault (readPacked (now (value .entry)) 0) ⌝ }
 {
     match table_map::default_charset(value) {
         DefaultCharset::Read { charset, pairs } => CharsetCursor {
@@ -113,7 +114,7 @@ fn next_paired(value: &[u8], cursor: CharsetCursor, rank: Rank) -> CharsetTurn
 // The charset of a rank, and where that of the next is looked for.
 fn next_charset(event: &[u8], class: Charsets, cursor: CharsetCursor, rank: Rank) -> CharsetTurn
     requires { ⌜ Stands (now event) class (rank .0) cursor ⌝ }
-    ensures { λ r. ⌜ Taken (now (event .entry)) class rank r ⌝ }
+    ensures { λ r. ⌜ CharsetTurned (now (event .entry)) class rank r ⌝ }
 {
     let list = class.list;
     let default = class.default;
@@ -132,7 +133,7 @@ pub(crate) fn charset_if(
     rank: Rank,
 ) -> CharsetTurn
     requires { ⌜ Stands (now event) class (rank .0) cursor ⌝ }
-    ensures { λ r. ⌜ TakenIf member (now (event .entry)) class rank r ⌝ }
+    ensures { λ r. ⌜ CharsetTurnedIf member (now (event .entry)) class rank r ⌝ }
 {
     if member {
         return next_charset(event, class, cursor, rank);

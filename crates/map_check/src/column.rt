@@ -1,12 +1,15 @@
 // The columns of a map in turn: which are accepted, and how many there are of each class.
 use crate::declare::Declared;
 use crate::declare::declare;
-use crate::rank::Place;
 use crate::rank::Ranks;
+use crate::rank::TablePlace;
 use crate::rank::no_ranks;
 use crate::rank::ranks_after;
 use value::Column;
 use value::Dialect;
+use value::types::MYSQL_TYPE_ENUM;
+use value::types::MYSQL_TYPE_SET;
+use value::types::MYSQL_TYPE_STRING;
 use wire::Refusal;
 use wire::refusal::BAD_METADATA;
 use wire::refusal::TYPE_NOT_TAKEN;
@@ -15,7 +18,8 @@ ghost use Prim.Native.Nat.{_≤_};
 ghost use lib.ListN.{length, drop};
 ghost use Rattle.wire.specs.Outcome.{ok, after};
 ghost use Rattle.record.specs.Records.{mostColumns};
-ghost use Rattle.map_check.specs.Columns.{isReal, isAccepted, takeColumn, takeColumns, takenOf, sizesTold};
+ghost use Rattle.map_check.specs.Columns.{isReal, isAccepted, takeColumn, takeColumns};
+ghost use Rattle.map_check.specs.Inner.Columns.{takenTold, sizesTold};
 ghost use Rattle.map_check.specs.Ranks.{sizesOf};
 
 // A column that is accepted.
@@ -34,13 +38,13 @@ pub(crate) enum Sizes {
 fn is_real(kind: u8, real: u8) -> bool
     ensures { λ r. ⌜ r ≡ isReal kind real ⌝ }
 {
-    if kind != 254 {
+    if kind != MYSQL_TYPE_STRING {
         return true;
     }
     match real {
-        247 => true,
-        248 => true,
-        254 => true,
+        MYSQL_TYPE_ENUM => true,
+        MYSQL_TYPE_SET => true,
+        MYSQL_TYPE_STRING => true,
         _ => false,
     }
 }
@@ -52,7 +56,7 @@ pub(crate) fn is_accepted(column: Declared) -> bool
         return false;
     }
     value::is_accepted(Column {
-        kind: column.real,
+        real: column.real,
         m0: column.m0,
         m1: column.m1,
         unsigned: false,
@@ -60,9 +64,9 @@ pub(crate) fn is_accepted(column: Declared) -> bool
 }
 
 // The column of a type at a place, its metadata standing from `at` on.
-pub(crate) fn take_column(kind: u8, metadata: &[u8], at: usize, column: Place) -> ColumnTaken
+pub(crate) fn take_column(kind: u8, metadata: &[u8], at: usize, column: TablePlace) -> ColumnTaken
     requires { ⌜ at ≤ length (now metadata) ⌝ }
-    ensures { λ r. ⌜ takenOf r ≡ takeColumn kind (drop at (now (metadata .entry))) (column .0) ⌝ }
+    ensures { λ r. ⌜ takenTold r ≡ takeColumn kind (drop at (now (metadata .entry))) (column .0) ⌝ }
 {
     if !value::is_known(kind) {
         return ColumnTaken::Refused(wire::refuse(TYPE_NOT_TAKEN, column.0));
@@ -87,7 +91,7 @@ pub(crate) fn take_columns(dialect: Dialect, types: &[u8], metadata: &[u8]) -> S
     let mut j: usize = 0;
     while j < types.len() {
         let kind = types[j];
-        match take_column(kind, metadata, at, Place(j)) {
+        match take_column(kind, metadata, at, TablePlace(j)) {
             ColumnTaken::Taken(column) => {
                 ranks = ranks_after(dialect, ranks, column);
             }

@@ -1,8 +1,8 @@
 // The contents of optional fields, judged in full.
 use crate::keys::keys_below;
-use crate::rank::Place;
 use crate::rank::Rank;
 use crate::rank::Ranks;
+use crate::rank::TablePlace;
 use table_map::DefaultCharset;
 use table_map::GroupStep;
 use table_map::Groups;
@@ -12,6 +12,17 @@ use table_map::PairStep;
 use table_map::Pairs;
 use table_map::StringStep;
 use table_map::Strings;
+use table_map::field_type::COLUMN_CHARSET;
+use table_map::field_type::COLUMN_NAME;
+use table_map::field_type::DEFAULT_CHARSET;
+use table_map::field_type::ENUM_AND_SET_COLUMN_CHARSET;
+use table_map::field_type::ENUM_AND_SET_DEFAULT_CHARSET;
+use table_map::field_type::ENUM_STR_VALUE;
+use table_map::field_type::GEOMETRY_TYPE;
+use table_map::field_type::PRIMARY_KEY_WITH_PREFIX;
+use table_map::field_type::SET_STR_VALUE;
+use table_map::field_type::SIMPLE_PRIMARY_KEY;
+use table_map::field_type::VECTOR_DIMENSIONALITY;
 ghost use mathlib.Core.Path.{_≡_};
 ghost use Rattle.table_map.specs.Lists.{integerItem, stringItem, groupItem};
 ghost use Rattle.map_check.specs.Contents.{whatever, exactly, isCharset, integerHolds, pairsWhole, defaultHolds, contentsFull};
@@ -65,7 +76,7 @@ fn integers_hold(value: &[u8], meaning: Meaning, size: Rank) -> bool
 }
 
 // Whether it is a string for each of the map's columns.
-fn strings_hold(value: &[u8], columns: Place) -> bool
+fn strings_hold(value: &[u8], columns: TablePlace) -> bool
     ensures { λ r. ⌜ r ≡ exactly stringItem whatever (columns .0) (now (value .entry)) ⌝ }
 {
     let mut at: usize = 0;
@@ -154,7 +165,7 @@ fn default_holds(value: &[u8], size: Rank) -> bool
 }
 
 // Whether the value of a field of the type `kind` is as it must be in a map with so many columns, and so many of each class.
-pub(crate) fn contents_full(sizes: Ranks, columns: Place, kind: u8, value: &[u8]) -> bool
+pub(crate) fn contents_full(sizes: Ranks, columns: TablePlace, kind: u8, value: &[u8]) -> bool
     ensures { λ r. ⌜ r ≡ contentsFull sizes (columns .0) kind (now (value .entry)) ⌝ }
 {
     let character = sizes.character;
@@ -164,17 +175,17 @@ pub(crate) fn contents_full(sizes: Ranks, columns: Place, kind: u8, value: &[u8]
     let geometry = sizes.geometry;
     let vector = sizes.vector;
     match kind {
-        2 => default_holds(value, character),
-        3 => integers_hold(value, Meaning::Charset, character),
-        4 => strings_hold(value, columns),
-        5 => groups_hold(value, set),
-        6 => groups_hold(value, enumeration),
-        7 => integers_hold(value, Meaning::GeometryType, geometry),
-        8 => keys_below(value, false, columns),
-        9 => keys_below(value, true, columns),
-        10 => default_holds(value, choice),
-        11 => integers_hold(value, Meaning::Charset, choice),
-        13 => integers_hold(value, Meaning::Dimension, vector),
+        DEFAULT_CHARSET => default_holds(value, character),
+        COLUMN_CHARSET => integers_hold(value, Meaning::Charset, character),
+        COLUMN_NAME => strings_hold(value, columns),
+        SET_STR_VALUE => groups_hold(value, set),
+        ENUM_STR_VALUE => groups_hold(value, enumeration),
+        GEOMETRY_TYPE => integers_hold(value, Meaning::GeometryType, geometry),
+        SIMPLE_PRIMARY_KEY => keys_below(value, false, columns),
+        PRIMARY_KEY_WITH_PREFIX => keys_below(value, true, columns),
+        ENUM_AND_SET_DEFAULT_CHARSET => default_holds(value, choice),
+        ENUM_AND_SET_COLUMN_CHARSET => integers_hold(value, Meaning::Charset, choice),
+        VECTOR_DIMENSIONALITY => integers_hold(value, Meaning::Dimension, vector),
         _ => true,
     }
 }

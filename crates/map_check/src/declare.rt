@@ -1,4 +1,5 @@
-// What a map says of a column before its optional fields: its type byte and its metadata (table_map_event.rs: get_column_metadata, get_real_type).
+// What a map says of a column before its optional fields: its type byte and its metadata (table_map_event.rs: get_column_metadata,
+// get_real_type).
 ghost use mathlib.Core.Path.{_≡_};
 ghost use lib.ListN.{drop};
 ghost use Rattle.map_check.specs.Columns.{metaByte, declared};

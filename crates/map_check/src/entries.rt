@@ -7,9 +7,9 @@ use crate::declare::declare;
 use crate::facts::Facts;
 use crate::found::stands;
 use crate::found::value_in;
-use crate::rank::Place;
 use crate::rank::Rank;
 use crate::rank::Ranks;
+use crate::rank::TablePlace;
 use crate::rank::no_ranks;
 use crate::rank::ranks_after;
 use record::Entry;
@@ -21,19 +21,19 @@ ghost use mathlib.Core.Bool.{cond};
 ghost use Prim.Native.Nat.{_≤_, _<_};
 ghost use lib.ListN.{length};
 ghost use Rattle.wire.specs.Bits.{bitLsb0};
-ghost use Rattle.wire.specs.Stored.{store, stored, answerOf, leftOf, writtenOf};
+ghost use Rattle.wire.specs.Stored.{store, stored, answerOf, leftOf, writtenTold};
 ghost use Rattle.wire.specs.Parts.{lentPart};
 ghost use Rattle.value.specs.Classes.{isCharacter};
 ghost use Rattle.record.specs.Records.{mostColumns, entryAt, entriesBytes, recordBytes};
-ghost use Rattle.map_check.specs.Columns.{declareAll};
-ghost use Rattle.map_check.specs.Ranks.{place, noRanks};
+ghost use Rattle.map_check.specs.Inner.Columns.{declareAll};
+ghost use Rattle.map_check.specs.Ranks.{tablePlace, noRanks};
 ghost use Rattle.map_check.specs.Profile.{oneIf, isSignKnown, isUnsigned, isVisible, flagsOf, entryWith, entriesFrom};
-ghost use Rattle.map_check.specs.Standing.{ClassHolds, Takes, Ready, Starts, Came};
+ghost use Rattle.map_check.specs.Inner.Making.{ClassHolds, Writable, Ready, Begins, Came};
 
 // Where the making of a record stands between two columns.
-pub(crate) struct Standing {
+pub(crate) struct Progress {
     // of the next column
-    pub place: Place,
+    pub place: TablePlace,
     // where its metadata starts
     pub metadata: usize,
     pub ranks: Ranks,
@@ -44,7 +44,7 @@ pub(crate) struct Standing {
 // A column's entry, and where the making stands behind it.
 pub(crate) struct EntryTurn {
     pub entry: Entry,
-    pub next: Standing,
+    pub next: Progress,
 }
 
 // Signedness is told of document 01's numeric columns alone, though a dialect may count a bit for others.
@@ -70,13 +70,13 @@ fn is_unsigned(event: &[u8], facts: Facts, column: Declared, rank: Rank) -> bool
 }
 
 // Nullable and visibility bits go by the place.
-fn is_nullable(event: &[u8], facts: Facts, column: Place) -> bool
+fn is_nullable(event: &[u8], facts: Facts, column: TablePlace) -> bool
     ensures { λ r. ⌜ r ≡ bitLsb0 (lentPart (now (event .entry)) (facts .bits)) (column .0) ⌝ }
 {
     wire::bit_lsb0(wire::part_of(event, facts.bits), column.0)
 }
 
-fn is_visible(event: &[u8], facts: Facts, column: Place) -> bool
+fn is_visible(event: &[u8], facts: Facts, column: TablePlace) -> bool
     ensures { λ r. ⌜ r ≡ isVisible (now (event .entry)) facts column ⌝ }
 {
     let visibility = facts.visibility;
@@ -96,7 +96,7 @@ fn one_if(t: bool) -> u8
     0
 }
 
-fn flags_of(event: &[u8], facts: Facts, column: Declared, place: Place, ranks: Ranks) -> u8
+fn flags_of(event: &[u8], facts: Facts, column: Declared, place: TablePlace, ranks: Ranks) -> u8
     ensures { λ r. ⌜ r ≡ flagsOf (now (event .entry)) facts column place ranks ⌝ }
 {
     let rank = ranks.sign;
@@ -112,14 +112,14 @@ fn entry_with(
     event: &[u8],
     facts: Facts,
     column: Declared,
-    place: Place,
+    place: TablePlace,
     ranks: Ranks,
     charset: u16,
 ) -> Entry
     ensures { λ r. ⌜ r ≡ entryWith (now (event .entry)) facts column place ranks charset ⌝ }
 {
     Entry {
-        kind: column.real,
+        real: column.real,
         flags: flags_of(event, facts, column, place, ranks),
         m0: column.m0,
         m1: column.m1,
@@ -127,8 +127,8 @@ fn entry_with(
     }
 }
 
-// Of the two charsets looked up for a column, the one that the record gives. A dialect may count charsets of columns that are not character columns in document
-// 01: such a charset is passed over, and `choice` is 0 there.
+// Of the two charsets looked up for a column, the one that the record gives. A dialect may count charsets of columns that are not character
+// columns in document 01: such a charset is passed over, and `choice` is 0 there.
 fn pick_charset(real: u8, character: u16, choice: u16) -> u16
     ensures { λ r. ⌜ r ≡ cond (isCharacter real) character choice ⌝ }
 {
@@ -139,12 +139,12 @@ fn pick_charset(real: u8, character: u16, choice: u16) -> u16
 }
 
 // Where the making stands before the first column.
-fn first_standing(event: &[u8], facts: Facts) -> Standing
+fn first_progress(event: &[u8], facts: Facts) -> Progress
     requires { ⌜ ClassHolds (now event) (facts .characters) × ClassHolds (now event) (facts .choices) ⌝ }
-    ensures { λ r. ⌜ Starts (now (event .entry)) facts r ⌝ }
+    ensures { λ r. ⌜ Begins (now (event .entry)) facts r ⌝ }
 {
-    Standing {
-        place: Place(0),
+    Progress {
+        place: TablePlace(0),
         metadata: 0,
         ranks: no_ranks(),
         characters: first_charset(event, facts.characters),
@@ -159,16 +159,16 @@ fn next_entry(
     types: &[u8],
     metadata: &[u8],
     facts: Facts,
-    standing: Standing,
+    progress: Progress,
 ) -> EntryTurn
-    requires { ⌜ (standing .place .0 < length (now types)) × (length (now types) ≤ mostColumns) × Ready (now event) facts standing ⌝ }
-    ensures { λ r. ⌜ Came dialect (now (event .entry)) facts (now (types .entry)) (now (metadata .entry)) standing r ⌝ }
+    requires { ⌜ (progress .place .0 < length (now types)) × (length (now types) ≤ mostColumns) × Ready (now event) facts progress ⌝ }
+    ensures { λ r. ⌜ Came dialect (now (event .entry)) facts (now (types .entry)) (now (metadata .entry)) progress r ⌝ }
 {
-    let place = standing.place;
-    let ranks = standing.ranks;
+    let place = progress.place;
+    let ranks = progress.ranks;
     let at = place.0;
     let kind = types[at];
-    let column = declare(kind, metadata, standing.metadata);
+    let column = declare(kind, metadata, progress.metadata);
     let real = column.real;
     let counted = value::has_charset(dialect, real);
     let characters = facts.characters;
@@ -176,19 +176,19 @@ fn next_entry(
         event,
         counted,
         characters,
-        standing.characters,
+        progress.characters,
         ranks.character,
     );
     let chosen = value::is_enum_or_set(real);
     let choices = facts.choices;
-    let choice = charset_if(event, chosen, choices, standing.choices, ranks.choice);
+    let choice = charset_if(event, chosen, choices, progress.choices, ranks.choice);
     let charset = pick_charset(real, character.charset, choice.charset);
     let entry = entry_with(event, facts, column, place, ranks, charset);
     let characters = character.next;
     let choices = choice.next;
-    let next = Standing {
-        place: Place(at + 1),
-        metadata: standing.metadata + value::metadata_bytes(kind),
+    let next = Progress {
+        place: TablePlace(at + 1),
+        metadata: progress.metadata + value::metadata_bytes(kind),
         ranks: ranks_after(dialect, ranks, column),
         characters,
         choices,
@@ -205,15 +205,17 @@ fn write_entries(
     facts: Facts,
     buf: &mut [u8],
 )
-    requires { ⌜ Takes (now event) (now types) facts × (entryAt (length (now types)) ≤ length (now buf)) ⌝ }
-    ensures { λ _. ⌜ now (buf .exit) ≡ stored (now (buf .entry)) (entryAt 0) (entriesBytes (entriesFrom dialect (now (event .entry)) facts (declareAll (now (types .entry)) (now (metadata .entry))) (place 0) noRanks)) ⌝ }
+    requires { ⌜ Writable (now event) (now types) facts × (entryAt (length (now types)) ≤ length (now buf)) ⌝ }
+    ensures { λ _. ⌜ now (buf .exit)
+        ≡ stored (entriesBytes (entriesFrom dialect (now (event .entry)) facts (declareAll (now (types .entry)) (now (metadata .entry)))
+        (tablePlace 0) noRanks)) (now (buf .entry)) (entryAt 0) ⌝ }
 {
-    let mut standing = first_standing(event, facts);
-    while standing.place.0 < types.len() {
-        let turn = next_entry(dialect, event, types, metadata, facts, standing);
-        let at = record::entry_at(standing.place.0);
-        record::write_entry(buf, at, turn.entry);
-        standing = turn.next;
+    let mut progress = first_progress(event, facts);
+    while progress.place.0 < types.len() {
+        let turn = next_entry(dialect, event, types, metadata, facts, progress);
+        let at = record::entry_at(progress.place.0);
+        record::write_entry(turn.entry, buf, at);
+        progress = turn.next;
     }
 }
 
@@ -226,15 +228,21 @@ pub(crate) fn write_record(
     facts: Facts,
     buf: &mut [u8],
 ) -> Written
-    requires { ⌜ Takes (now event) (now types) facts ⌝ }
-    ensures { λ r. ⌜ writtenOf r ≡ answerOf (store (now (buf .entry)) 0 (recordBytes (entriesFrom dialect (now (event .entry)) facts (declareAll (now (types .entry)) (now (metadata .entry))) (place 0) noRanks))) ⌝ }
-    ensures { λ _. ⌜ now (buf .exit) ≡ leftOf (now (buf .entry)) (store (now (buf .entry)) 0 (recordBytes (entriesFrom dialect (now (event .entry)) facts (declareAll (now (types .entry)) (now (metadata .entry))) (place 0) noRanks))) ⌝ }
+    requires { ⌜ Writable (now event) (now types) facts ⌝ }
+    ensures { λ r. ⌜ writtenTold r
+        ≡ answerOf (store (recordBytes
+        (entriesFrom dialect (now (event .entry)) facts (declareAll (now (types .entry)) (now (metadata .entry))) (tablePlace 0)
+        noRanks)) (now (buf .entry)) 0) ⌝ }
+    ensures { λ _. ⌜ now (buf .exit)
+        ≡ leftOf (now (buf .entry))
+        (store (recordBytes (entriesFrom dialect (now (event .entry)) facts (declareAll (now (types .entry)) (now (metadata .entry)))
+        (tablePlace 0) noRanks)) (now (buf .entry)) 0) ⌝ }
 {
     let size = record::entry_at(types.len());
     if buf.len() < size {
         return Written::Refused(wire::refuse(NO_ROOM, 0));
     }
-    record::write_head(buf, types.len() as u8);
+    record::write_head(types.len() as u8, buf);
     write_entries(dialect, event, types, metadata, facts, buf);
     Written::Done { next: size }
 }

@@ -5,10 +5,16 @@ use crate::facts::Facts;
 use crate::facts::KeptFields;
 use crate::found::Found;
 use crate::found::stands;
-use crate::rank::Place;
 use crate::rank::Ranks;
+use crate::rank::TablePlace;
 use table_map::FieldStep;
 use table_map::Fields;
+use table_map::field_type::COLUMN_CHARSET;
+use table_map::field_type::DEFAULT_CHARSET;
+use table_map::field_type::ENUM_AND_SET_COLUMN_CHARSET;
+use table_map::field_type::ENUM_AND_SET_DEFAULT_CHARSET;
+use table_map::field_type::PRIMARY_KEY_WITH_PREFIX;
+use table_map::field_type::SIMPLE_PRIMARY_KEY;
 use wire::Part;
 use wire::Refusal;
 use wire::refusal::BAD_FIELD;
@@ -16,7 +22,7 @@ ghost use mathlib.Core.Path.{_≡_};
 ghost use lib.ListN.{getD};
 ghost use Rattle.wire.specs.Outcome.{ok, after};
 ghost use Rattle.map_check.specs.Fields.{rivalOf, standsGiven, keepFields, firstOf};
-ghost use Rattle.map_check.specs.Standing.{keptBy, keptOf};
+ghost use Rattle.map_check.specs.Inner.Making.{keptBy, keptTold};
 ghost use Rattle.map_check.specs.declared.found.Found.the-variants.{Nothing};
 
 // The fields of a map that are kept, or why one is not.
@@ -30,12 +36,12 @@ fn rival_of(kind: u8) -> u8
     ensures { λ r. ⌜ r ≡ rivalOf kind ⌝ }
 {
     match kind {
-        2 => 3,
-        3 => 2,
-        10 => 11,
-        11 => 10,
-        8 => 9,
-        9 => 8,
+        DEFAULT_CHARSET => COLUMN_CHARSET,
+        COLUMN_CHARSET => DEFAULT_CHARSET,
+        ENUM_AND_SET_DEFAULT_CHARSET => ENUM_AND_SET_COLUMN_CHARSET,
+        ENUM_AND_SET_COLUMN_CHARSET => ENUM_AND_SET_DEFAULT_CHARSET,
+        SIMPLE_PRIMARY_KEY => PRIMARY_KEY_WITH_PREFIX,
+        PRIMARY_KEY_WITH_PREFIX => SIMPLE_PRIMARY_KEY,
         _ => 0,
     }
 }
@@ -44,7 +50,7 @@ fn rival_of(kind: u8) -> u8
 fn stands_given(
     event: &[u8],
     sizes: Ranks,
-    columns: Place,
+    columns: TablePlace,
     twice: bool,
     rivalled: bool,
     kind: u8,
@@ -89,9 +95,9 @@ fn kept_of(bits: Part, places: [Found; 14]) -> KeptFields
 
 // All fields from a cursor on, contents in full, in one walk that notes where each stands. A type is below 14, and so is its rival.
 pub(crate) fn keep_fields(event: &[u8], fields: Fields, sizes: Ranks, bits: Part) -> FieldsKept
-    ensures { λ r. ⌜ keptOf r ≡ after (keepFields sizes fields (now (event .entry))) (λ fs. ok (keptBy bits (λ k. firstOf k fs))) ⌝ }
+    ensures { λ r. ⌜ keptTold r ≡ after (keepFields sizes fields (now (event .entry))) (λ fs. ok (keptBy bits (λ k. firstOf k fs))) ⌝ }
 {
-    let columns = Place(fields.columns);
+    let columns = TablePlace(fields.columns);
     let mut cursor = fields;
     let mut places: [Found; 14] = [Found::Nothing; 14];
     loop {

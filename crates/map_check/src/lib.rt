@@ -1,5 +1,5 @@
-// The check of a map, which writes the profile record, and the names of columns. Added by document 01. From the Rust (binlog/events/table_map_event.rs) come a
-// column's metadata and real type, and the list of names.
+// The check of a map, which writes the profile record, and the names of columns. Added by document 01. From the Rust
+// (binlog/events/table_map_event.rs) come a column's metadata and real type, and the list of names.
 mod charset;
 mod column;
 mod contents;
@@ -19,5 +19,5 @@ pub use names::NamesRead;
 pub use names::column_name;
 pub use names::name_part;
 pub use names::names_field;
-pub use rank::Place;
 pub use rank::Rank;
+pub use rank::TablePlace;

@@ -15,13 +15,14 @@ use wire::Written;
 use wire::part_of;
 use wire::refusal::TOO_MANY_COLUMNS;
 ghost use mathlib.Core.Path.{_≡_};
-ghost use Rattle.wire.specs.Stored.{answerOf, leftOf, writtenOf};
+ghost use Rattle.wire.specs.Stored.{answerOf, leftOf, writtenTold};
 ghost use Rattle.map_check.specs.Check.{checkEvent, written, check};
 
 // An event that was read: its columns, its fields, its keys, and room for its record.
 fn check_event(dialect: Dialect, event: &[u8], e: Event, buf: &mut [u8]) -> Written
-    ensures { λ r. ⌜ writtenOf r ≡ answerOf (written (now (buf .entry)) (checkEvent dialect (now (event .entry)) e)) ⌝ }
-    ensures { λ _. ⌜ now (buf .exit) ≡ leftOf (now (buf .entry)) (written (now (buf .entry)) (checkEvent dialect (now (event .entry)) e)) ⌝ }
+    ensures { λ r. ⌜ writtenTold r ≡ answerOf (written (now (buf .entry)) (checkEvent dialect (now (event .entry)) e)) ⌝ }
+    ensures { λ _. ⌜ now (buf .exit)
+        ≡ leftOf (now (buf .entry)) (written (now (buf .entry)) (checkEvent dialect (now (event .entry)) e)) ⌝ }
 {
     let types = part_of(event, e.types);
     let metadata = part_of(event, e.metadata);
@@ -47,10 +48,11 @@ fn check_event(dialect: Dialect, event: &[u8], e: Event, buf: &mut [u8]) -> Writ
     write_record(dialect, event, types, metadata, kept.facts, buf)
 }
 
-// Checks a map and writes its record at the buffer's start; the answer is the record's length. `event` is what follows the event's header of 19 bytes, and
+// Checks a map and writes its record at the buffer's start; the answer is the record's length. `event` is what follows the event's header
+// of 19 bytes, and
 // `post_header` is the post-header length that the format description gives for table maps.
 pub fn check(event: &[u8], post_header: u8, dialect: Dialect, buf: &mut [u8]) -> Written
-    ensures { λ r. ⌜ writtenOf r ≡ answerOf (check dialect (now (event .entry)) «post_header» (now (buf .entry))) ⌝ }
+    ensures { λ r. ⌜ writtenTold r ≡ answerOf (check dialect (now (event .entry)) «post_header» (now (buf .entry))) ⌝ }
     ensures { λ _. ⌜ now (buf .exit) ≡ leftOf (now (buf .entry)) (check dialect (now (event .entry)) «post_header» (now (buf .entry))) ⌝ }
 {
     match table_map::read_event(event, post_header) {

@@ -1,20 +1,18 @@
 // The names of columns (table_map_event.rs: ColumnName).
-use crate::rank::Place;
+use crate::rank::TablePlace;
 use table_map::EventRead;
 use table_map::FieldStep;
 use table_map::Fields;
 use table_map::StringStep;
 use table_map::Strings;
+use table_map::field_type::COLUMN_NAME;
 use value::Dialect;
 use wire::Part;
 use wire::Refusal;
 use wire::refusal::NO_COLUMN;
 ghost use mathlib.Core.Path.{_≡_};
 ghost use Rattle.map_check.specs.Fields.{walkFields};
-ghost use Rattle.map_check.specs.Names.{listOf, stringAt, columnName, nameIn, nameOf, namesIn, namesField, namesOf};
-
-// The type of the field that holds the names.
-const NAMES: u8 = 4;
+ghost use Rattle.map_check.specs.Names.{listOf, stringAt, columnName, nameIn, nameTold, namesIn, namesField, namesTold};
 
 // Where a column's name stands in the list that was looked at.
 pub enum NameRead {
@@ -22,7 +20,8 @@ pub enum NameRead {
     Refused(Refusal),
 }
 
-// The names field of a map: where its value stands, which may be empty; that it has none; or the refusal of the event or of a field that comes before it.
+// The names field of a map: where its value stands, which may be empty; that it has none; or the refusal of the event or of a field that
+// comes before it.
 pub enum NamesRead {
     Names(Part),
     Absent,
@@ -30,15 +29,16 @@ pub enum NamesRead {
 }
 
 // The name of a column, in the map's names if there are any, else in the operator's list.
-pub fn column_name<'a>(names: &'a [u8], operator: &'a [u8], column: Place) -> NameRead
-    ensures { λ r. ⌜ nameOf r ≡ columnName (now (names .entry)) (now (operator .entry)) column ⌝ }
+pub fn column_name<'a>(names: &'a [u8], operator: &'a [u8], column: TablePlace) -> NameRead
+    ensures { λ r. ⌜ nameTold r ≡ columnName (now (names .entry)) (now (operator .entry)) column ⌝ }
 {
     string_at(list_of(names, operator), column.0)
 }
 
 // Its bytes, none where it is refused.
-pub fn name_part<'a>(names: &'a [u8], operator: &'a [u8], column: Place) -> &'a [u8]
-    ensures { λ r. ⌜ now r ≡ nameIn (listOf (now (names .entry)) (now (operator .entry))) (columnName (now (names .entry)) (now (operator .entry)) column) ⌝ }
+pub fn name_part<'a>(names: &'a [u8], operator: &'a [u8], column: TablePlace) -> &'a [u8]
+    ensures { λ r. ⌜ now r ≡ nameIn (listOf (now (names .entry)) (now (operator .entry)))
+        (columnName (now (names .entry)) (now (operator .entry)) column) ⌝ }
 {
     match column_name(names, operator, column) {
         NameRead::Name(part) => wire::part_of(list_of(names, operator), part),
@@ -46,9 +46,10 @@ pub fn name_part<'a>(names: &'a [u8], operator: &'a [u8], column: Place) -> &'a 
     }
 }
 
-// Where the names of a map stand in its event. A map without names may be given the operator's; one that is refused may not, as it may be of another dialect.
+// Where the names of a map stand in its event. A map without names may be given the operator's; one that is refused may not, as it may be
+// of another dialect.
 pub fn names_field(event: &[u8], post_header: u8, dialect: Dialect) -> NamesRead
-    ensures { λ r. ⌜ namesOf r ≡ namesField dialect (now (event .entry)) «post_header» ⌝ }
+    ensures { λ r. ⌜ namesTold r ≡ namesField dialect (now (event .entry)) «post_header» ⌝ }
 {
     let e = match table_map::read_event(event, post_header) {
         EventRead::Read(e) => e,
@@ -62,13 +63,13 @@ pub fn names_field(event: &[u8], post_header: u8, dialect: Dialect) -> NamesRead
 
 // The same from a cursor on. It is read up to the names and no further, as a list of names is read up to the name.
 fn find_names(event: &[u8], fields: Fields) -> NamesRead
-    ensures { λ r. ⌜ namesOf r ≡ namesIn (walkFields fields (now (event .entry))) ⌝ }
+    ensures { λ r. ⌜ namesTold r ≡ namesIn (walkFields fields (now (event .entry))) ⌝ }
 {
     let mut cursor = fields;
     loop {
         match cursor.next(event) {
             FieldStep::Field { kind, value, next } => {
-                if kind == NAMES {
+                if kind == COLUMN_NAME {
                     return NamesRead::Names(value);
                 }
                 cursor = next;
@@ -91,7 +92,7 @@ fn list_of<'a>(names: &'a [u8], operator: &'a [u8]) -> &'a [u8]
 
 // A string of a list, read up to it and no further: the number asked is believed only as far as the list goes.
 fn string_at(list: &[u8], asked: usize) -> NameRead
-    ensures { λ r. ⌜ nameOf r ≡ stringAt asked asked (now (list .entry)) 0 ⌝ }
+    ensures { λ r. ⌜ nameTold r ≡ stringAt asked asked (now (list .entry)) 0 ⌝ }
 {
     let mut strings = Strings { at: 0 };
     let mut left = asked;

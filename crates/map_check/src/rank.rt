@@ -1,13 +1,18 @@
 // Two ways of numbering columns: by their place in the table, and by their rank among the columns of a class.
 use crate::declare::Declared;
 use value::Dialect;
+use value::types::MYSQL_TYPE_ENUM;
+use value::types::MYSQL_TYPE_GEOMETRY;
+use value::types::MYSQL_TYPE_SET;
+use value::types::MYSQL_TYPE_VECTOR;
 ghost use mathlib.Core.Path.{_≡_};
 ghost use Prim.Native.Nat.{_≤_};
 ghost use Rattle.record.specs.Records.{mostColumns};
-ghost use Rattle.map_check.specs.Ranks.{passed, noRanks, ranksAfter, AtMost};
+ghost use Rattle.map_check.specs.Ranks.{rankAfter, noRanks, ranksAfter};
+ghost use Rattle.map_check.specs.Inner.Ranks.{AtMost};
 
 // A column's place in the table, from 0 on.
-pub struct Place(pub usize);
+pub struct TablePlace(pub usize);
 
 // A column's rank in a class, from 0 on.
 pub struct Rank(pub usize);
@@ -41,9 +46,9 @@ pub(crate) fn no_ranks() -> Ranks
 }
 
 // The next rank of a class after a column, which may be of the class.
-fn passed(before: Rank, member: bool) -> Rank
+fn rank_after(before: Rank, member: bool) -> Rank
     requires { ⌜ before .0 ≤ mostColumns ⌝ }
-    ensures { λ r. ⌜ r ≡ passed before member ⌝ }
+    ensures { λ r. ⌜ r ≡ rankAfter before member ⌝ }
 {
     if member {
         return Rank(before.0 + 1);
@@ -58,12 +63,12 @@ pub(crate) fn ranks_after(dialect: Dialect, ranks: Ranks, column: Declared) -> R
 {
     let real = column.real;
     Ranks {
-        sign: passed(ranks.sign, value::has_sign_bit(dialect, column.kind)),
-        character: passed(ranks.character, value::has_charset(dialect, real)),
-        choice: passed(ranks.choice, value::is_enum_or_set(real)),
-        set: passed(ranks.set, real == 248),
-        enumeration: passed(ranks.enumeration, real == 247),
-        geometry: passed(ranks.geometry, real == 255),
-        vector: passed(ranks.vector, real == 242),
+        sign: rank_after(ranks.sign, value::has_sign_bit(dialect, column.kind)),
+        character: rank_after(ranks.character, value::has_charset(dialect, real)),
+        choice: rank_after(ranks.choice, value::is_enum_or_set(real)),
+        set: rank_after(ranks.set, real == MYSQL_TYPE_SET),
+        enumeration: rank_after(ranks.enumeration, real == MYSQL_TYPE_ENUM),
+        geometry: rank_after(ranks.geometry, real == MYSQL_TYPE_GEOMETRY),
+        vector: rank_after(ranks.vector, real == MYSQL_TYPE_VECTOR),
     }
 }

@@ -87,7 +87,7 @@ fn put_column(out: &mut [u8], used: usize, place: usize, entry: Entry) -> usize 
         out,
         used,
         place as u64,
-        entry.kind as u64,
+        entry.real as u64,
         entry.flags as u64,
         b' ',
     );

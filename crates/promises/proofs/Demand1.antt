@@ -1,12 +1,22 @@
 -- Demand 1, of its parts. Assumes nothing.
+pub mod Calls
+pub mod Only
+pub mod Maps
+pub mod Rows
+pub mod Refusals
+pub mod Occurs
+pub mod Buffers
+pub mod Abi
+pub mod Walks
+pub mod Results
 use Rattle.promises.specs.Demand1.{Demand1}
-use Rattle.promises.proofs.Calls.{calls}
-use Rattle.promises.proofs.Refusals.{refusals}
-use Rattle.promises.proofs.Occurs.{occurs}
-use Rattle.promises.proofs.Buffers.{buffers}
-use Rattle.promises.proofs.Abi.{abi}
-use Rattle.promises.proofs.Walks.{walks}
-use Rattle.promises.proofs.Results.{results}
+use Rattle.promises.proofs.Demand1.Calls.{calls}
+use Rattle.promises.proofs.Demand1.Refusals.{refusals}
+use Rattle.promises.proofs.Demand1.Occurs.{occurs}
+use Rattle.promises.proofs.Demand1.Buffers.{buffers}
+use Rattle.promises.proofs.Demand1.Abi.{abi}
+use Rattle.promises.proofs.Demand1.Walks.{walks}
+use Rattle.promises.proofs.Demand1.Results.{results}
 
 pub demand1 : Demand1
 demand1 = record {

@@ -1,9 +1,12 @@
 -- Demand 3, of its parts. Assumes nothing.
-use Rattle.image.proofs.Ways.{walk-on, only-walk}
+pub mod Images
+pub mod Checks
+pub mod Names
+use Rattle.image.proofs.CursorLaws.Ways.{walk-on, only-walk}
 use Rattle.promises.specs.Demand3.{Demand3}
-use Rattle.promises.proofs.Checks.{checks}
-use Rattle.promises.proofs.Names.{named}
-use Rattle.promises.proofs.Images.{relied, step-sound, step-lent}
+use Rattle.promises.proofs.Demand3.Checks.{checks}
+use Rattle.promises.proofs.Demand3.Names.{named}
+use Rattle.promises.proofs.Demand3.Images.{relied, step-sound, step-lent}
 
 pub demand3 : Demand3
 demand3 = record {

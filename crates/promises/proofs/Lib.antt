@@ -1,31 +1,8 @@
--- The laws of the crate, file for file as in specs/; `Port` proves all of it. Besides, of demand 1: `Only`, how a refusal is one of those listed, with
--- packed integers and stores; `Maps`, events, lists and fields, the check, names; `Rows`, records and row images.
-pub mod Calls
-pub mod Only
-pub mod Packed
-pub mod Values
-pub mod Maps
-pub mod Names
-pub mod Rows
-pub mod Images
+-- The laws of the crate, file for file as in specs/, by demand; `Port` proves all of it. Besides, of demand 1: `Only`, how a refusal is one
+-- of those listed, with packed integers and stores; `Maps`, events, lists and fields, the check, names; `Rows`, records and row images.
 pub mod RowsEvents
-pub mod Refusals
-pub mod Occurs
-pub mod Buffers
-pub mod Abi
-pub mod Walks
-pub mod Results
 pub mod Demand1
-pub mod Events
-pub mod Words
 pub mod Demand2
-pub mod Checks
 pub mod Demand3
-pub mod Temporals
-pub mod Metadata
-pub mod Classes
-pub mod WorkedMaps
-pub mod Profiles
-pub mod Numbers
 pub mod Readings
 pub mod Port

@@ -1,4 +1,10 @@
 -- The worked readings, computed, and the other tables. Assumes nothing.
+pub mod Temporals
+pub mod Metadata
+pub mod Classes
+pub mod WorkedMaps
+pub mod Profiles
+pub mod Numbers
 use mathlib.Core.Path.{refl}
 use Rattle.wire.specs.Bits.{bitLsb0, bitMsb0}
 use Rattle.wire.specs.Packed.{readPacked, packedBytes}
@@ -10,49 +16,49 @@ use Rattle.record.specs.Records.{recordBytes}
 use Rattle.table_map.specs.Events.{readEvent}
 use Rattle.map_check.specs.Check.{checkMap}
 use Rattle.map_check.specs.Names.{columnName}
-use Rattle.image.specs.Walk.{walk}
+use Rattle.image.specs.Walk.{walkImage}
 use Rattle.rows_event.specs.Events.{readRows}
-use Rattle.rows_event.specs.Images.{met, walkSteps}
-use Rattle.promises.specs.Tables.{Each, done, _and_}
-use Rattle.promises.specs.Readings.{Holds, table, packedTable, ReadAs, otherForms, imageTable, Readings}
-use Rattle.promises.specs.Readings.{RowsHold, rowsTable, RowsRefused, rowsRefusals}
-use Rattle.promises.proofs.Temporals.{temporals}
-use Rattle.promises.proofs.Metadata.{metadata}
-use Rattle.promises.proofs.Classes.{classes}
-use Rattle.promises.proofs.WorkedMaps.{worked-maps}
-use Rattle.promises.proofs.Profiles.{profiles}
-use Rattle.promises.proofs.Numbers.{numbers}
+use Rattle.rows_event.specs.Images.{metImage, imageSteps}
+use Rattle.promises.specs.Tables.{EachRow, done, _and_}
+use Rattle.promises.specs.Readings.{Holds, table, packedTable, ReadAs, otherForms, imageTable, Readings, RowsHold, rowsTable}
+use Rattle.promises.specs.Readings.{RowsRefused, rowsRefusals}
+use Rattle.promises.proofs.Readings.Temporals.{temporals}
+use Rattle.promises.proofs.Readings.Metadata.{metadata}
+use Rattle.promises.proofs.Readings.Classes.{classes}
+use Rattle.promises.proofs.Readings.WorkedMaps.{worked-maps}
+use Rattle.promises.proofs.Readings.Profiles.{profiles}
+use Rattle.promises.proofs.Readings.Numbers.{numbers}
 
-marked : Each Holds table
-unfolding table packedBytes readPacked readTemporal clockFault dayFault shapeOf recordBytes countSignBits checkMap walk
+marked : EachRow Holds table
+unfolding table packedBytes readPacked readTemporal clockFault dayFault shapeOf recordBytes countSignBits checkMap walkImage
 marked =
     refl and refl and refl and refl and refl and refl and refl and refl and refl and refl and refl and done
 
-packings : Each Holds packedTable
+packings : EachRow Holds packedTable
 unfolding packedTable packedBytes readPacked
 packings = refl and refl and refl and refl and refl and done
 
-other-forms : Each ReadAs otherForms
+other-forms : EachRow ReadAs otherForms
 unfolding otherForms readPacked
 other-forms = refl and refl and refl and refl and refl and refl and refl and done
 
-images : Each Holds imageTable
-unfolding imageTable walk
+images : EachRow Holds imageTable
+unfolding imageTable walkImage
 images = refl and refl and refl and done
 
-rows-refused : Each RowsRefused rowsRefusals
+rows-refused : EachRow RowsRefused rowsRefusals
 unfolding rowsRefusals readRows
 rows-refused =
     refl and refl and refl and refl and refl and refl and refl and refl and refl and refl and refl and refl and refl and refl
     and refl and done
 
-rows-read : Each RowsHold rowsTable
-unfolding rowsTable clockFault readRows met walkSteps
+rows-read : EachRow RowsHold rowsTable
+unfolding rowsTable clockFault readRows metImage imageSteps
 rows-read =
     refl and refl and refl and done
 
 pub readings : Readings
-unfolding met walkSteps readRows readEvent columnName bitLsb0 bitMsb0
+unfolding metImage imageSteps readRows readEvent columnName bitLsb0 bitMsb0
 readings =
     record {
       marked = marked;

@@ -11,12 +11,13 @@ use Rattle.wire.specs.Outcome.{why}
 use Rattle.wire.specs.Bits.{bytesFor}
 use Rattle.wire.specs.Packed.{readFixed, readPacked}
 use Rattle.wire.specs.Parts.{within}
-use Rattle.wire.specs.Layouts.{bytes, integer, sized, all-bytes, few-bytes, few-size, few-sized, Layout, _then_, whatever, Starts, here, cut-at}
+use Rattle.wire.specs.Layouts.{bytes, integer, sized, all-bytes, few-bytes, few-size, few-sized, Layout, _then_, whatever, Starts, here}
+use Rattle.wire.specs.Layouts.{cut-at}
 use Rattle.wire.proofs.Parts.{fixed-ok}
 use Rattle.wire.proofs.Layouts.{bytes-whole}
 use Rattle.record.specs.Records.{countOf, readRecord}
 use Rattle.record.proofs.Valid.{read-valid}
-use Rattle.image.specs.Walk.{walk}
+use Rattle.image.specs.Walk.{walkImage}
 use Rattle.rows_event.specs.declared.event.Rows.{Rows}
 use Rattle.rows_event.specs.declared.images.Images.{Images}
 use Rattle.rows_event.specs.Events.{form, formOf, extraData, extraAt, secondSet, secondAt, setsAt, readSets, readParts, fitting, readRows}
@@ -27,8 +28,9 @@ use Rattle.rows_event.proofs.Says.{rows-say, rows-exactly}
 use Rattle.rows_event.proofs.Accepted.{behind-extra, counted-at, accepted, own-record}
 use Rattle.promises.specs.Refusals.{Line, OneOf}
 use Rattle.promises.specs.RowsEvents.{RowsEvents}
-use Rattle.promises.proofs.Only.{Listed, done, stop, chain, test, bytes-there, fixed, Told, further, then-told, count-told, bytes-laid, count-laid}
-use Rattle.promises.proofs.Rows.{record-read, walk-ended}
+use Rattle.promises.proofs.Demand1.Only.{Listed, done, stop, chain, test, bytes-there, fixed, Told, further, then-told, count-told}
+use Rattle.promises.proofs.Demand1.Only.{bytes-laid, count-laid}
+use Rattle.promises.proofs.Demand1.Rows.{record-read, walk-ended}
 
 -- ---- `read_rows`: part by part, 15 at 8, 16 at 0 and at the count
 form-read : {ls : List Line} (code : ℕ) → OneOf ls (why 16 0) → Listed ls (formOf code)
@@ -102,13 +104,15 @@ rows-read {ls} code r id s eleven sixteen fifteen unlikely t =
     (λ u. stop sixteen))))
 
 -- ---- `Images::next`: those of a walk over an image, and 9 at 0
-pub image-met : {ls : List Line} (r : List ℕ) (w : Rows) (s : List ℕ) (c : Images) → OneOf ls (why 11 0) → OneOf ls (why 12 0) → OneOf ls (why 9 0)
+pub image-met : {ls : List Line} (r : List ℕ) (w : Rows) (s : List ℕ) (c : Images) → OneOf ls (why 11 0) → OneOf ls (why 12 0)
+    → OneOf ls (why 9 0)
     → ((j : ℕ) → j < countOf r → OneOf ls (why 9 j)) → ((j : ℕ) → j < countOf r → OneOf ls (why 10 j)) → Listed ls (nextImage r w s c)
 unfolding nextImage
 image-met r w s c eleven twelve none nine ten =
     test (ltb (length s) (c .at)) (λ u. stop none)
     (λ u. test (eqb (c .at) (length s) && not (isSecond w c)) (λ u. done _)
-    (λ u. chain (walk r (setOf w s (isSecond w c)) (drop (c .at) s) .how) _ (walk-ended r (setOf w s (isSecond w c)) (drop (c .at) s) eleven twelve none nine ten) (λ used e.
+    (λ u. chain (walkImage r (setOf w s (isSecond w c)) (drop (c .at) s) .how) _
+    (walk-ended r (setOf w s (isSecond w c)) (drop (c .at) s) eleven twelve none nine ten) (λ used e.
     test (isEmpty r w s) (λ u. stop none) (λ u. done _))))
 
 -- ---- what is stated

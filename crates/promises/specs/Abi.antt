@@ -1,5 +1,6 @@
--- Demand 1 for the calls of `feed_abi`, which programs in C make: which refusals each gives and at which places, and what that means to the caller, who sees a status, the numbers and the bytes
--- lent. A call stands here by the answer that its contract hands to `statusOf`, `numbersLeft` and `bytesLeft`, whatever it is lent. `abi` in proofs/Abi.antt proves all of it. Assumes nothing.
+-- Demand 1 for the calls of `feed_abi`, which programs in C make: which refusals each gives and at which places, and what that means to the
+-- caller, who sees a status, the numbers and the bytes lent. A call stands here by the answer that its contract hands to `statusOf`,
+-- `numbersLeft` and `bytesLeft`, whatever it is lent. `abi` in proofs/Demand1/Abi.antt proves all of it. Assumes nothing.
 use Prim.Native.Nat.{ℕ, _≤_, _<_}
 use mathlib.Core.Path.{_≡_}
 use mathlib.Core.Bool.{true}
@@ -20,8 +21,10 @@ use Rattle.map_check.specs.Names.{listOf, namesField}
 use Rattle.image.specs.declared.cursor.Cursor.{Cursor}
 use Rattle.image.specs.Split.{null, value, stepFrom}
 use Rattle.feed_abi.specs.Answers.{statusOf, numbersLeft, bytesLeft}
-use Rattle.feed_abi.specs.Calls.{dialectOf, toldNumbers, feedMap, feedCheck, feedColumn, feedNames, feedName, feedFirst, feedStep, feedStart, feedPut, feedRows, feedImage}
-use Rattle.promises.specs.Refusals.{Line, _at_, _below_, refusalNumbers, isAmong, Only, eventLines, checkLines, nameLines, namesLines, rowsLines}
+use Rattle.feed_abi.specs.Calls.{dialectOf, toldNumbers, feedMap, feedCheck, feedColumn, feedNames, feedName, feedFirst, feedStep}
+use Rattle.feed_abi.specs.Calls.{feedStart, feedPut, feedRows, feedImage}
+use Rattle.promises.specs.Refusals.{Line, _at_, _below_, refusalNumbers, isAmong, Only, eventLines, checkLines, nameLines, namesLines}
+use Rattle.promises.specs.Refusals.{rowsLines}
 use Rattle.promises.specs.Buffers.{Touched}
 
 -- the answer is no refusal, and there is room for its k numbers
@@ -32,7 +35,7 @@ Answered k out answer = (ns : List ℕ) × (answer ≡ ok ns) × (k ≤ length o
 abbrev pub Counts : ℕ → Outcome (List ℕ) → Type 0
 Counts k answer = (ns : List ℕ) → answer ≡ ok ns → length ns ≡ k
 
--- what `feed_put` makes of the numbers that `feed_step` left: the first is the kind, and the parts begin with the fifth
+-- what `feed_put` makes of the numbers that `feed_step` left: the first is the sort, and the parts begin with the fifth
 abbrev pub toldAgain : List ℕ → Outcome Value
 toldAgain ns = valueOf (getD ns 0 0) (drop 4 ns)
 
@@ -46,7 +49,7 @@ pub record AbiCalls : Type 1 where
   pub check-no-dialect : (event : List ℕ) (postHeader dialect : ℕ) (buf : List ℕ) (w : Refusal) → dialectOf dialect ≡ refused w
       → answerOf (feedCheck event postHeader dialect buf) ≡ refuse 13 0
   -- `feed_column`: 14 at the column asked
-  pub feed-column : (r : List ℕ) (column : ℕ) → Only (feedColumn r column) (11 at 0 ∷ 14 at column ∷ [])
+  pub feed-column : (profile : List ℕ) (column : ℕ) → Only (feedColumn profile column) (11 at 0 ∷ 14 at column ∷ [])
   -- `feed_names`: as `names_field`; 13 for a number that is no dialect
   pub feed-names : (event : List ℕ) (postHeader dialect : ℕ) (d : Dialect) → dialectOf dialect ≡ ok d
       → Only (feedNames event postHeader dialect) (namesLines d event postHeader)
@@ -54,28 +57,33 @@ pub record AbiCalls : Type 1 where
       → feedNames event postHeader dialect ≡ refuse 13 0
   -- `feed_name`: as `column_name`
   pub feed-name : (names operator : List ℕ) (column : ℕ) → Only (feedName names operator column) (nameLines (listOf names operator) column)
-  -- ---- rows; r is the record, p the presence bits
+  -- ---- rows; `profile` is the record
   -- `feed_first`: as `first_cursor`
-  pub feed-first : (r p : List ℕ) → Only (feedFirst r p) (11 at 0 ∷ 12 at 0 ∷ [])
+  pub feed-first : (profile presence : List ℕ) → Only (feedFirst profile presence) (11 at 0 ∷ 12 at 0 ∷ [])
   -- `feed_step`: as `Cursor::step`
-  pub feed-step : (r p im : List ℕ) (column offset : ℕ)
-      → Only (feedStep r p im column offset) (11 at 0 ∷ 12 at 0 ∷ 14 at column ∷ 9 at 0 ∷ 9 at column ∷ 9 below countOf r ∷ 10 below countOf r ∷ [])
+  pub feed-step : (profile presence image : List ℕ) (column offset : ℕ)
+      → Only (feedStep profile presence image column offset)
+      (11 at 0 ∷ 12 at 0 ∷ 14 at column ∷ 9 at 0 ∷ 9 at column ∷ 9 below countOf profile ∷ 10 below countOf profile ∷ [])
   -- `feed_start`: as `start`
-  pub feed-start : (r p nulls im : List ℕ) → Only (answerOf (feedStart r p nulls im)) (11 at 0 ∷ 12 at 0 ∷ 8 at 0 ∷ [])
-  -- `feed_put`: 13 at 0 for a kind and parts that make no value; else as `Cursor::put`
-  pub feed-put : (r p nulls : List ℕ) (column offset kind : ℕ) (parts lent im : List ℕ)
-      → Only (answerOf (feedPut r p nulls column offset kind parts lent im)) (13 at 0 ∷ 11 at 0 ∷ 12 at 0 ∷ 14 at column ∷ 13 below countOf r ∷ 8 at 0 ∷ [])
+  pub feed-start : (profile presence nulls image : List ℕ)
+      → Only (answerOf (feedStart profile presence nulls image)) (11 at 0 ∷ 12 at 0 ∷ 8 at 0 ∷ [])
+  -- `feed_put`: 13 at 0 for a sort and parts that make no value; else as `Cursor::put`
+  pub feed-put : (profile presence nulls : List ℕ) (column offset sort : ℕ) (parts lent image : List ℕ)
+      → Only (answerOf (feedPut profile presence nulls column offset sort parts lent image))
+      (13 at 0 ∷ 11 at 0 ∷ 12 at 0 ∷ 14 at column ∷ 13 below countOf profile ∷ 8 at 0 ∷ [])
   -- ---- rows events; s is the event
   -- `feed_rows`: as `read_rows`
-  pub feed-rows : (code : ℕ) (r : List ℕ) (id : ℕ) (s : List ℕ) → Only (feedRows code r id s) (rowsLines code r s)
+  pub feed-rows : (code : ℕ) (profile : List ℕ) (id : ℕ) (s : List ℕ) → Only (feedRows code profile id s) (rowsLines code profile s)
   -- `feed_image`: as `Images::next`
-  pub feed-image : (r s : List ℕ) (firstStart firstLength hasSecond secondStart secondLength offset second : ℕ)
-      → Only (feedImage r s firstStart firstLength hasSecond secondStart secondLength offset second)
-      (11 at 0 ∷ 12 at 0 ∷ 9 at 0 ∷ 9 below countOf r ∷ 10 below countOf r ∷ [])
+  pub feed-image : (profile s : List ℕ) (firstStart firstLength hasSecond secondStart secondLength offset second : ℕ)
+      → Only (feedImage profile s firstStart firstLength hasSecond secondStart secondLength offset second)
+      (11 at 0 ∷ 12 at 0 ∷ 9 at 0 ∷ 9 below countOf profile ∷ 10 below countOf profile ∷ [])
   -- ---- what `feed_names` tells apart: names, be they without bytes, and none
-  pub names-there : (event : List ℕ) (postHeader dialect : ℕ) (d : Dialect) (p : Part) → dialectOf dialect ≡ ok d → namesField d event postHeader ≡ ok (some p)
+  pub names-there : (event : List ℕ) (postHeader dialect : ℕ) (d : Dialect) (p : Part) → dialectOf dialect ≡ ok d
+      → namesField d event postHeader ≡ ok (some p)
       → feedNames event postHeader dialect ≡ ok (1 ∷ p .start ∷ p .len ∷ [])
-  pub names-none : (event : List ℕ) (postHeader dialect : ℕ) (d : Dialect) → dialectOf dialect ≡ ok d → namesField d event postHeader ≡ ok none
+  pub names-none : (event : List ℕ) (postHeader dialect : ℕ) (d : Dialect) → dialectOf dialect ≡ ok d
+      → namesField d event postHeader ≡ ok none
       → feedNames event postHeader dialect ≡ ok (0 ∷ 0 ∷ 0 ∷ [])
   -- ---- all calls: out is the buffer of numbers, and k how many the call's answer has
   -- the status is 0 exactly if the answer is no refusal and there is room for its numbers
@@ -87,11 +95,14 @@ pub record AbiCalls : Type 1 where
   -- that of the refusal, whose place is then the first number; without room for the numbers it is 8, and they are as they were
   pub status-told : (k : ℕ) (out : List ℕ) (answer : Outcome (List ℕ)) (w : Refusal) → 1 ≤ k → k ≤ length out → answer ≡ refused w
       → (statusOf k out answer ≡ w .number) × (getD (numbersLeft k out answer) 0 0 ≡ w .place)
-  pub no-numbers : (k : ℕ) (out : List ℕ) (answer : Outcome (List ℕ)) → length out < k → (statusOf k out answer ≡ 8) × (numbersLeft k out answer ≡ out)
+  pub no-numbers : (k : ℕ) (out : List ℕ) (answer : Outcome (List ℕ)) → length out < k
+      → (statusOf k out answer ≡ 8) × (numbersLeft k out answer ≡ out)
   -- and then the numbers are as they were, but for that first one
-  pub numbers-kept : (k : ℕ) (out : List ℕ) (answer : Outcome (List ℕ)) → 1 ≤ k → (statusOf k out answer ≡ 0 → ⊥) → Touched out 0 1 (numbersLeft k out answer)
+  pub numbers-kept : (k : ℕ) (out : List ℕ) (answer : Outcome (List ℕ)) → 1 ≤ k → (statusOf k out answer ≡ 0 → ⊥)
+      → Touched out 0 1 (numbersLeft k out answer)
   -- and the bytes lent to a writer are as they were
-  pub bytes-kept : (k : ℕ) (out buf : List ℕ) (rule : Outcome (List ℕ × List ℕ)) → (statusOf k out (answerOf rule) ≡ 0 → ⊥) → bytesLeft k out buf rule ≡ buf
+  pub bytes-kept : (k : ℕ) (out buf : List ℕ) (rule : Outcome (List ℕ × List ℕ)) → (statusOf k out (answerOf rule) ≡ 0 → ⊥)
+      → bytesLeft k out buf rule ≡ buf
   -- where there is an answer, and room for its numbers, they stand at the start; and the bytes lent to a writer are what its rule leaves
   pub numbers-told : (k : ℕ) (out : List ℕ) (answer : Outcome (List ℕ)) (ns : List ℕ) → k ≤ length out → answer ≡ ok ns
       → take (length ns) (numbersLeft k out answer) ≡ ns
@@ -100,22 +111,25 @@ pub record AbiCalls : Type 1 where
   -- ---- how many numbers each answer has
   pub map-six : (event : List ℕ) (postHeader : ℕ) → Counts 6 (feedMap event postHeader)
   pub check-one : (event : List ℕ) (postHeader dialect : ℕ) (buf : List ℕ) → Counts 1 (answerOf (feedCheck event postHeader dialect buf))
-  pub column-five : (r : List ℕ) (column : ℕ) → Counts 5 (feedColumn r column)
+  pub column-five : (profile : List ℕ) (column : ℕ) → Counts 5 (feedColumn profile column)
   pub names-three : (event : List ℕ) (postHeader dialect : ℕ) → Counts 3 (feedNames event postHeader dialect)
   pub name-two : (names operator : List ℕ) (column : ℕ) → Counts 2 (feedName names operator column)
-  pub first-two : (r p : List ℕ) → Counts 2 (feedFirst r p)
-  pub step-eleven : (r p im : List ℕ) (column offset : ℕ) → Counts 11 (feedStep r p im column offset)
-  pub start-two : (r p nulls im : List ℕ) → Counts 2 (answerOf (feedStart r p nulls im))
-  pub put-two : (r p nulls : List ℕ) (column offset kind : ℕ) (parts lent im : List ℕ) → Counts 2 (answerOf (feedPut r p nulls column offset kind parts lent im))
-  pub rows-ten : (code : ℕ) (r : List ℕ) (id : ℕ) (s : List ℕ) → Counts 10 (feedRows code r id s)
-  pub image-six : (r s : List ℕ) (firstStart firstLength hasSecond secondStart secondLength offset second : ℕ)
-      → Counts 6 (feedImage r s firstStart firstLength hasSecond secondStart secondLength offset second)
+  pub first-two : (profile presence : List ℕ) → Counts 2 (feedFirst profile presence)
+  pub step-eleven : (profile presence image : List ℕ) (column offset : ℕ) → Counts 11 (feedStep profile presence image column offset)
+  pub start-two : (profile presence nulls image : List ℕ) → Counts 2 (answerOf (feedStart profile presence nulls image))
+  pub put-two : (profile presence nulls : List ℕ) (column offset sort : ℕ) (parts lent image : List ℕ)
+      → Counts 2 (answerOf (feedPut profile presence nulls column offset sort parts lent image))
+  pub rows-ten : (code : ℕ) (profile : List ℕ) (id : ℕ) (s : List ℕ) → Counts 10 (feedRows code profile id s)
+  pub image-six : (profile s : List ℕ) (firstStart firstLength hasSecond secondStart secondLength offset second : ℕ)
+      → Counts 6 (feedImage profile s firstStart firstLength hasSecond secondStart secondLength offset second)
   -- so many are touched, and no others
-  pub numbers-touched : (k : ℕ) (out : List ℕ) (answer : Outcome (List ℕ)) → Counts k answer → Answered k out answer → Touched out 0 k (numbersLeft k out answer)
+  pub numbers-touched : (k : ℕ) (out : List ℕ) (answer : Outcome (List ℕ)) → Counts k answer → Answered k out answer
+      → Touched out 0 k (numbersLeft k out answer)
   -- ---- what `feed_step` tells of a value makes that value where it is put, whatever stands behind its numbers
   pub value-back : (column : ℕ) (v : Value) (next : Cursor) (rest : List ℕ) → isHeld v ≡ true
       → toldAgain (toldNumbers (value column v next) ++ rest) ≡ ok v
   pub null-back : (column : ℕ) (next : Cursor) (rest : List ℕ) → toldAgain (toldNumbers (null column next) ++ rest) ≡ ok Null
   -- and every value that it tells is one that the machine can hold
-  pub step-held : (r p im : List ℕ) (c : Cursor) (j : ℕ) (v : Value) (next : Cursor) → Bytes im → length im ≤ topOfBits 64
-      → stepFrom r p im c ≡ ok (value j v next) → isHeld v ≡ true
+  pub step-held : (profile presence image : List ℕ) (c : Cursor) (j : ℕ) (v : Value) (next : Cursor) → Bytes image
+      → length image ≤ topOfBits 64
+      → stepFrom profile presence image c ≡ ok (value j v next) → isHeld v ≡ true

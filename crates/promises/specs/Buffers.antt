@@ -1,12 +1,13 @@
--- "Success touches only the bytes reported." For every public call that writes: where it went well, the buffer after the call is the buffer before it, but for the bytes from where the call
--- began to the place that it answers. Where it refused, see `Refusals`. `buffers` in proofs/Buffers.antt proves it. Assumes nothing.
+-- "Success touches only the bytes reported." For every public call that writes: where it went well, the buffer after the call is the buffer
+-- before it, but for the bytes from where the call began to the place that it answers. Where it refused, see `Refusals`. `buffers` in
+-- proofs/Demand1/Buffers.antt proves it. Assumes nothing.
 use Prim.Native.Nat.{ℕ}
 use mathlib.Core.Path.{_≡_}
 use mathlib.Core.List.{List}
 use lib.ListN.{length, getD, take, drop}
 use Rattle.wire.specs.Outcome.{ok}
 use Rattle.wire.specs.Stored.{store}
-use Rattle.temporal.specs.declared.kind.Kind.{Kind}
+use Rattle.temporal.specs.declared.storage.Storage.{Storage}
 use Rattle.temporal.specs.declared.parts.Temporal.{Temporal}
 use Rattle.temporal.specs.Reading.{writeTemporal}
 use Rattle.value.specs.declared.column.Column.{Column}
@@ -14,7 +15,7 @@ use Rattle.value.specs.declared.classes.Dialect.{Dialect}
 use Rattle.value.specs.declared.datum.Value.{Value}
 use Rattle.value.specs.Columns.{shapeOf}
 use Rattle.value.specs.Storing.{writeValue}
-use Rattle.table_map.specs.Writes.{Parts, writeEvent}
+use Rattle.table_map.specs.Writes.{EventParts, writeEvent}
 use Rattle.map_check.specs.Check.{check}
 use Rattle.image.specs.declared.cursor.Cursor.{Cursor}
 use Rattle.image.specs.Puts.{startImage, putFrom}
@@ -28,19 +29,29 @@ pub record Touched (buf : List ℕ) (o n : ℕ) (left : List ℕ) : Type 0 where
 
 pub record Buffers : Type 0 where
   -- `write_packed`, `write_le`, `write_be`, `write_bytes`, `write_entry`, `write_head`
-  pub write-bytes : (buf : List ℕ) (o : ℕ) (bytes : List ℕ) (n : ℕ) (left : List ℕ) → store buf o bytes ≡ ok (n, left) → Touched buf o n left
-  pub write-temporal : (k : Kind) (place : ℕ) (buf : List ℕ) (o : ℕ) (t : Temporal) (n : ℕ) (left : List ℕ) → writeTemporal k place buf o t ≡ ok (n, left) → Touched buf o n left
-  -- `write_value`, `write_lone`
-  pub write-value : (c : Column) (place : ℕ) (lent : List ℕ) (v : Value) (buf : List ℕ) (o n : ℕ) (left : List ℕ) → writeValue (shapeOf c) place lent v buf o ≡ ok (n, left)
+  pub write-bytes : (buf : List ℕ) (o : ℕ) (bytes : List ℕ) (n : ℕ) (left : List ℕ) → store bytes buf o ≡ ok (n, left)
       → Touched buf o n left
-  pub write-event : (p : Parts) (buf : List ℕ) (n : ℕ) (left : List ℕ) → writeEvent p buf ≡ ok (n, left) → Touched buf 0 n left
-  pub check-map : (d : Dialect) (event : List ℕ) (postHeader : ℕ) (buf : List ℕ) (n : ℕ) (left : List ℕ) → check d event postHeader buf ≡ ok (n, left) → Touched buf 0 n left
+  pub write-temporal : (k : Storage) (place : ℕ) (buf : List ℕ) (o : ℕ) (t : Temporal) (n : ℕ) (left : List ℕ)
+      → writeTemporal k place t buf o ≡ ok (n, left) → Touched buf o n left
+  -- `write_value`, `write_lone`
+  pub write-value : (c : Column) (place : ℕ) (lent : List ℕ) (v : Value) (buf : List ℕ) (o n : ℕ) (left : List ℕ)
+      → writeValue (shapeOf c) place lent v buf o ≡ ok (n, left)
+      → Touched buf o n left
+  pub write-event : (parts : EventParts) (buf : List ℕ) (n : ℕ) (left : List ℕ) → writeEvent parts buf ≡ ok (n, left) → Touched buf 0 n left
+  pub check-map : (d : Dialect) (event : List ℕ) (postHeader : ℕ) (buf : List ℕ) (n : ℕ) (left : List ℕ)
+      → check d event postHeader buf ≡ ok (n, left) → Touched buf 0 n left
   -- `start` and `Cursor::put` answer a cursor, whose offset is the place
-  pub start-image : (r p nulls buf : List ℕ) (next : Cursor) (left : List ℕ) → startImage r p nulls buf ≡ ok (next, left) → Touched buf 0 (next .offset) left
-  pub put-value : (r p nulls : List ℕ) (c : Cursor) (lent : List ℕ) (v : Value) (buf : List ℕ) (next : Cursor) (left : List ℕ) → putFrom r p nulls c lent v buf ≡ ok (next, left)
+  pub start-image : (profile presence nulls buf : List ℕ) (next : Cursor) (left : List ℕ)
+      → startImage profile presence nulls buf ≡ ok (next, left) → Touched buf 0 (next .offset) left
+  pub put-value : (profile presence nulls : List ℕ) (c : Cursor) (lent : List ℕ) (v : Value) (buf : List ℕ) (next : Cursor) (left : List ℕ)
+      → putFrom profile presence nulls c lent v buf ≡ ok (next, left)
       → Touched buf (c .offset) (next .offset) left
-  -- `feed_check` answers the place as its number, `feed_start` and `feed_put` as the second of theirs; what is left of the numbers themselves is in `Abi`
-  pub feed-check : (event : List ℕ) (postHeader dialect : ℕ) (buf ns left : List ℕ) → feedCheck event postHeader dialect buf ≡ ok (ns, left) → Touched buf 0 (getD ns 0 0) left
-  pub feed-start : (r p nulls im ns left : List ℕ) → feedStart r p nulls im ≡ ok (ns, left) → Touched im 0 (getD ns 1 0) left
-  pub feed-put : (r p nulls : List ℕ) (column offset kind : ℕ) (parts lent im ns left : List ℕ) → feedPut r p nulls column offset kind parts lent im ≡ ok (ns, left)
-      → Touched im offset (getD ns 1 0) left
+  -- `feed_check` answers the place as its number, `feed_start` and `feed_put` as the second of theirs; what is left of the numbers
+  -- themselves is in `Abi`
+  pub feed-check : (event : List ℕ) (postHeader dialect : ℕ) (buf ns left : List ℕ) → feedCheck event postHeader dialect buf ≡ ok (ns, left)
+      → Touched buf 0 (getD ns 0 0) left
+  pub feed-start : (profile presence nulls image ns left : List ℕ) → feedStart profile presence nulls image ≡ ok (ns, left)
+      → Touched image 0 (getD ns 1 0) left
+  pub feed-put : (profile presence nulls : List ℕ) (column offset sort : ℕ) (parts lent image ns left : List ℕ)
+      → feedPut profile presence nulls column offset sort parts lent image ≡ ok (ns, left)
+      → Touched image offset (getD ns 1 0) left

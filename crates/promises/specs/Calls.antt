@@ -1,7 +1,8 @@
--- "Every public call ends with an answer for all input." A line for each public call of the libraries: its code, run on whatever it is lent,
--- comes to its end without touching a byte that is not its own, and answers what the contract beside it in src/ says. That is what
+-- "Every public call ends with an answer for all input." A line for each public call of the libraries: its code, run on whatever it is
+-- lent, comes to its end without touching a byte that is not its own, and answers what the contract beside it in src/ says. That is what
 -- `statement` says of a function: it is the checker's own triple of total correctness, for the function's code and its contract. No public
--- call has a condition on what it is lent, so this is for all input. `calls` in proofs/Calls.antt proves all of it. Assumes nothing.
+-- call has a condition on what it is lent, so this is for all input. `calls` in proofs/Demand1/Calls.antt proves all of it. Assumes
+-- nothing.
 use Rattle.wire.proofs.bit_lsb0.Statement.{statement as of-bit-lsb0}
 use Rattle.wire.proofs.bit_msb0.Statement.{statement as of-bit-msb0}
 use Rattle.wire.proofs.bytes_for.Statement.{statement as of-bytes-for}
@@ -45,7 +46,7 @@ use Rattle.value.proofs.value_size.Statement.{statement as of-value-size}
 use Rattle.value.proofs.read_lone.Statement.{statement as of-read-lone}
 use Rattle.value.proofs.write_lone.Statement.{statement as of-write-lone}
 use Rattle.value.proofs.lone_size.Statement.{statement as of-lone-size}
-use Rattle.value_parts.proofs.kind_of.Statement.{statement as of-kind-of}
+use Rattle.value_parts.proofs.sort_of.Statement.{statement as of-sort-of}
 use Rattle.value_parts.proofs.value_of.Statement.{statement as of-value-of}
 use Rattle.value_parts.proofs.parts_of.Statement.{statement as of-parts-of}
 use Rattle.table_map.proofs.column_metadata.Statement.{statement as of-column-metadata}
@@ -153,7 +154,7 @@ pub record Calls : Type 2 where
   pub write-lone : Meets of-write-lone
   pub lone-size : Meets of-lone-size
   -- `value_parts`: values as numbers
-  pub kind-of : Meets of-kind-of
+  pub sort-of : Meets of-sort-of
   pub value-of : Meets of-value-of
   pub parts-of : Meets of-parts-of
   -- `table_map`: the event, its optional fields, lists

@@ -1,5 +1,5 @@
 -- The check of a map, in every dialect: it accepts exactly the maps that pass, as `Passes` in map_check lists document 01's rules, and what
--- it writes is the record of their columns, which is valid. `checks` in proofs/Checks.antt proves it. Assumes nothing.
+-- it writes is the record of their columns, which is valid. `checks` in proofs/Demand3/Checks.antt proves it. Assumes nothing.
 use Prim.Native.Nat.{ℕ, _≤_, _<_}
 use mathlib.Core.Path.{_≡_}
 use mathlib.Core.Bool.{true}
@@ -29,7 +29,7 @@ pub record Checks : Type 0 where
       → recordValid (recordBytes es) ≡ true
   -- it is written whole, at the buffer's start, given room
   pub accepted-written : (d : Dialect) (s : List ℕ) (postHeader : ℕ) (buf : List ℕ) (es : List Entry) → checkMap d s postHeader ≡ ok es
-      → entryAt (length es) ≤ length buf → check d s postHeader buf ≡ ok (entryAt (length es), stored buf 0 (recordBytes es))
+      → entryAt (length es) ≤ length buf → check d s postHeader buf ≡ ok (entryAt (length es), stored (recordBytes es) buf 0)
   -- without room, an accepted map is refused with 8 at 0
   pub no-room : (d : Dialect) (s : List ℕ) (postHeader : ℕ) (buf : List ℕ) (es : List Entry) → checkMap d s postHeader ≡ ok es
       → length buf < entryAt (length es) → check d s postHeader buf ≡ refuse 8 0
@@ -38,7 +38,7 @@ pub record Checks : Type 0 where
       → check d s postHeader buf ≡ refused w
   -- and where the call goes well, the map was accepted, and what it left is the record of its entries
   pub checked : (d : Dialect) (s : List ℕ) (postHeader : ℕ) (buf : List ℕ) (n : ℕ) (left : List ℕ) → check d s postHeader buf ≡ ok (n, left)
-      → (es : List Entry) × (checkMap d s postHeader ≡ ok es) × (n ≡ entryAt (length es)) × (left ≡ stored buf 0 (recordBytes es))
+      → (es : List Entry) × (checkMap d s postHeader ≡ ok es) × (n ≡ entryAt (length es)) × (left ≡ stored (recordBytes es) buf 0)
   -- so what the call leaves at the buffer's start is a valid record
   pub checked-valid : (d : Dialect) (s : List ℕ) (postHeader : ℕ) (buf : List ℕ) (n : ℕ) (left : List ℕ)
       → check d s postHeader buf ≡ ok (n, left)

@@ -1,5 +1,5 @@
 -- The classes by which a map's optional fields count columns, and the codes of rows events, over all 256 bytes, in document 01's numbers
--- and by dialect (docs/DIFFERENCES.md). `classes` in proofs/Classes.antt proves all of it. Assumes nothing.
+-- and by dialect (docs/DIFFERENCES.md). `classes` in proofs/Readings/Classes.antt proves all of it. Assumes nothing.
 use Prim.Native.Nat.{ℕ}
 use mathlib.Core.Path.{_≡_}
 use mathlib.Core.Bool.{Bool, cond, not}

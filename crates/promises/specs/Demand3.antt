@@ -1,16 +1,18 @@
 -- Demand 3, sentence by sentence, and the line that says it.
 -- "What the map check passes, a row can rely on": `checks`, `named` and `relied-on`.
 -- "Under an accepted map's record and presence bits of its length, every image either yields one answer per present column, in order, each
--- NULL or inside its column's domain, and laid end to end over the bytes reported used, or it is refused exactly where 01's split runs out of
--- bytes or meets a temporal part out of range, the earlier deciding": `walked` and `exactly`; that the walk is the library's steps,
+-- NULL or inside its column's domain, and laid end to end over the bytes reported used, or it is refused exactly where 01's split runs out
+-- of bytes or meets a temporal part out of range, the earlier deciding": `walked` and `exactly`; that the walk is the library's steps,
 -- `step-by-step` and `only-step-by-step`; of single steps, `step-sound` and `step-lent`.
 -- "No other refusal occurs": `no-other-refusal`.
 -- "Every row inside the domains is read back from the image our writer makes of it, given room": `row-written`, `row-refused`, `every-row`.
 --
--- The definitions that carry it, in the order in which to read them. What a valid record is, and how many columns it has: record/specs/Records.
--- Which of them an image has: image/specs/Present. How the values of a column are stored: value/specs/Columns. Which values it can hold:
--- value/specs/Domains. What their bytes are, and how many: value/specs/Shapes. What an image says, and when it is broken: image/specs/Rows, with
--- `Fails` of value/specs/Reading. How a row is written: image/specs/WriteRow. `demand3` in proofs/Demand3.antt proves all of it. Assumes nothing.
+-- The definitions that carry it, in the order in which to read them. What a valid record is, and how many columns it has:
+-- record/specs/Records. Which of them an image has: image/specs/Present. How the values of a column are stored: value/specs/Columns. Which
+-- values it can hold: value/specs/Domains. What their bytes are, and how many: value/specs/Shapes. What an image says, and when it is
+-- broken: image/specs/Rows, with
+-- `Fails` of value/specs/Reading. How a row is written: image/specs/WriteRow. `demand3` in proofs/Demand3.antt proves all of it. Assumes
+-- nothing.
 use Prim.Native.Nat.{ℕ, _-_, _^_, _≤_, _<_}
 use mathlib.Core.Path.{_≡_}
 use mathlib.Core.Bool.{true}
@@ -31,8 +33,8 @@ use Rattle.map_check.specs.Check.{check}
 use Rattle.image.specs.declared.cursor.Cursor.{Cursor}
 use Rattle.image.specs.Present.{shapeAt, present}
 use Rattle.image.specs.Split.{value, stepFrom}
-use Rattle.image.specs.Walk.{Walked, onward, walkFrom, walk}
-use Rattle.image.specs.Rows.{Row, inDomains, Says, Refusals}
+use Rattle.image.specs.Walk.{RowWalked, rowOnward, walkFrom, walkImage}
+use Rattle.image.specs.Rows.{Row, inDomains, Says, WalkRefusal}
 use Rattle.image.specs.WriteRow.{LentValue, rowOf, Fit, writeRow, writeLeft, imageSize, Wrote, Stopped}
 use Rattle.promises.specs.Checks.{Checks}
 use Rattle.promises.specs.Names.{Named}
@@ -43,27 +45,35 @@ abbrev pub RowHeld : List LentValue → Type 0
 RowHeld [] = Unit {0}
 RowHeld (g ∷ gs) = (isHeld (g .value) ≡ true) × Bytes (g .lent) × (length (g .lent) < 2 ^ 32) × RowHeld gs
 
--- what a row can rely on under the record r. p stands for presence bits, im for an image and nulls for null bits; ds is a row on paper, a datum for each present column, and gs a row as the
+-- what a row can rely on under the record `profile`. ds is a row on paper, a datum for each present column, and gs a row as the
 -- writer takes it, values with the bytes lent beside each
-pub record Relied (r : List ℕ) : Type 0 where
-  -- what the walk over an image gives is what the image says. Either null bits and all values are there: one answer for each present column, in order, each NULL or in its domain, laid end to end
-  -- over the bytes used, and anything may stand behind them. Or the null bits are not whole: 9 at 0. Or the answers before the first value that ends early (9) or is all there and has a part out of
-  -- range (10), and that refusal at its column
-  pub walked : (p im : List ℕ) → length p ≡ bytesFor (countOf r) → Bytes im → Says (present r p) im (walk r p im)
+pub record Relied (profile : List ℕ) : Type 0 where
+  -- what the walk over an image gives is what the image says. Either null bits and all values are there: one answer for each present
+  -- column, in order, each NULL or in its domain, laid end to end over the bytes used, and anything may stand behind them. Or the null bits
+  -- are not whole: 9 at 0. Or the answers before the first value that ends early (9) or is all there and has a part out of range (10), and
+  -- that refusal at its column
+  pub walked : (presence image : List ℕ) → length presence ≡ bytesFor (countOf profile) → Bytes image
+      → Says (present profile presence) image (walkImage profile presence image)
   -- exactly so: whatever the image says is what the walk gives
-  pub exactly : (p im : List ℕ) (w : Walked) → length p ≡ bytesFor (countOf r) → Says (present r p) im w → walk r p im ≡ w
+  pub exactly : (presence image : List ℕ) (w : RowWalked) → length presence ≡ bytesFor (countOf profile)
+      → Says (present profile presence) image w → walkImage profile presence image ≡ w
   -- no other refusal occurs
-  pub no-other-refusal : (p im : List ℕ) (w : Refusal) → length p ≡ bytesFor (countOf r) → Bytes im → walk r p im .how ≡ refused w → Refusals r p im w
+  pub no-other-refusal : (presence image : List ℕ) (w : Refusal) → length presence ≡ bytesFor (countOf profile) → Bytes image
+      → walkImage profile presence image .how ≡ refused w → WalkRefusal profile presence image w
   -- every row in the domains, with null bits that say which of it is NULL, is written given room, and the walk over what was written gives
   -- the row, whatever stands behind it
-  pub row-written : (p nulls : List ℕ) (gs : List LentValue) (buf : List ℕ) → Fit r p nulls gs → imageSize r p nulls (rowOf gs) ≤ length buf
-      → Wrote r p nulls (rowOf gs) buf (writeRow r p nulls gs buf)
+  pub row-written : (presence nulls : List ℕ) (gs : List LentValue) (buf : List ℕ) → Fit profile presence nulls gs
+      → imageSize profile presence nulls (rowOf gs) ≤ length buf
+      → Wrote profile presence nulls (rowOf gs) buf (writeRow profile presence nulls gs buf)
   -- and is refused for room alone. The calls before the one without room have stored what they took, and that is all the buffer differs in
-  pub row-refused : (p nulls : List ℕ) (gs : List LentValue) (buf : List ℕ) → Fit r p nulls gs → length buf < imageSize r p nulls (rowOf gs)
-      → (writeRow r p nulls gs buf ≡ refuse 8 0) × Stopped (present r p) nulls (rowOf gs) buf (writeLeft r p nulls gs buf)
+  pub row-refused : (presence nulls : List ℕ) (gs : List LentValue) (buf : List ℕ) → Fit profile presence nulls gs
+      → length buf < imageSize profile presence nulls (rowOf gs)
+      → (writeRow profile presence nulls gs buf ≡ refuse 8 0)
+      × Stopped (present profile presence) nulls (rowOf gs) buf (writeLeft profile presence nulls gs buf)
   -- every row on paper in the domains can be given so: there are such values and such null bits, and they are the machine's
-  pub every-row : (p : List ℕ) (ds : Row) → length p ≡ bytesFor (countOf r) → inDomains (present r p) ds ≡ true
-      → (nulls : List ℕ) × (gs : List LentValue) × Fit r p nulls gs × (rowOf gs ≡ ds) × Bytes nulls × RowHeld gs
+  pub every-row : (presence : List ℕ) (ds : Row) → length presence ≡ bytesFor (countOf profile)
+      → inDomains (present profile presence) ds ≡ true
+      → (nulls : List ℕ) × (gs : List LentValue) × Fit profile presence nulls gs × (rowOf gs ≡ ds) × Bytes nulls × RowHeld gs
 
 -- demand 3
 pub record Demand3 : Type 0 where
@@ -72,20 +82,24 @@ pub record Demand3 : Type 0 where
   -- and the names of its columns are known
   pub named : Named
   -- under every valid record a row can rely on it
-  pub relied : (r : List ℕ) → recordValid r ≡ true → Relied r
+  pub relied : (profile : List ℕ) → recordValid profile ≡ true → Relied profile
   -- so under the record that the check left of a map, in whatever dialect
   pub relied-on : (d : Dialect) (event : List ℕ) (postHeader : ℕ) (buf : List ℕ) (n : ℕ) (left : List ℕ)
       → check d event postHeader buf ≡ ok (n, left) → Relied (take n left)
-  -- and the walk is its steps, which are what the library has: from any cursor, made up or not, it is the step's answer and then the walk from the
-  -- step's cursor
-  pub step-by-step : (r p im : List ℕ) (c : Cursor) → walkFrom r p im c ≡ onward (walkFrom r p im) im (stepFrom r p im c)
+  -- and the walk is its steps, which are what the library has: from any cursor, made up or not, it is the step's answer and then the walk
+  -- from the step's cursor
+  pub step-by-step : (profile presence image : List ℕ) (c : Cursor)
+      → walkFrom profile presence image c ≡ rowOnward (walkFrom profile presence image) image (stepFrom profile presence image c)
   -- exactly so: whatever goes by steps is this walk. So none that stops early does
-  pub only-step-by-step : (r p im : List ℕ) (w : Cursor → Walked) → ((c : Cursor) → w c ≡ onward w im (stepFrom r p im c))
-      → (c : Cursor) → w c ≡ walkFrom r p im c
+  pub only-step-by-step : (profile presence image : List ℕ) (w : Cursor → RowWalked)
+      → ((c : Cursor) → w c ≡ rowOnward w image (stepFrom profile presence image c))
+      → (c : Cursor) → w c ≡ walkFrom profile presence image c
   -- a value that a step tells, from any cursor, is in its column's domain, and its stored form stands between the two cursors' offsets
-  pub step-sound : (r p im : List ℕ) (c : Cursor) (j : ℕ) (v : Value) (next : Cursor) → Bytes im → stepFrom r p im c ≡ ok (value j v next)
-      → (domain (shapeAt r j) (datumOf im v) ≡ true) × (c .offset ≤ next .offset) × (next .offset ≤ length im)
-      × (bytesOf (shapeAt r j) (datumOf im v) ≡ take (next .offset - c .offset) (drop (c .offset) im))
+  pub step-sound : (profile presence image : List ℕ) (c : Cursor) (j : ℕ) (v : Value) (next : Cursor) → Bytes image
+      → stepFrom profile presence image c ≡ ok (value j v next)
+      → (domain (shapeAt profile j) (datumOf image v) ≡ true) × (c .offset ≤ next .offset) × (next .offset ≤ length image)
+      × (bytesOf (shapeAt profile j) (datumOf image v) ≡ take (next .offset - c .offset) (drop (c .offset) image))
   -- and if it is bytes, it tells where they are: within these, and up to their end
-  pub step-lent : (r p im : List ℕ) (c : Cursor) (j : ℕ) (v : Value) (next : Cursor) → Bytes im → stepFrom r p im c ≡ ok (value j v next)
-      → Within im (c .offset) (next .offset) v
+  pub step-lent : (profile presence image : List ℕ) (c : Cursor) (j : ℕ) (v : Value) (next : Cursor) → Bytes image
+      → stepFrom profile presence image c ≡ ok (value j v next)
+      → Within image (c .offset) (next .offset) v

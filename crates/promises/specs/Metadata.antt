@@ -1,6 +1,6 @@
 -- Metadata: document 01's table, in numbers. Which types are taken, and with how many bytes; for each, which bytes are accepted, least,
 -- greatest and all between; and how values of it are stored. The real type of 254 and its declared length, which the document tells by
--- bits, in bits. `metadata` in proofs/Metadata.antt proves all of it. Assumes nothing.
+-- bits, in bits. `metadata` in proofs/Readings/Metadata.antt proves all of it. Assumes nothing.
 use Prim.Native.Nat.{ℕ, _+_, _*_, _<_}
 use mathlib.Core.Path.{_≡_}
 use mathlib.Core.Bool.{Bool, _&&_, _||_, not}
@@ -18,8 +18,8 @@ use Rattle.value.specs.Columns.{declaredLength, shapeOf, isTaken}
 use Rattle.value.specs.Shapes.{need}
 use Rattle.value.specs.Storing.{writeValue}
 use Rattle.map_check.specs.Columns.{takeColumns}
-use Rattle.promises.specs.Tables.{Each, bytesThat, isAnswered, refusalNumber}
-use Rattle.promises.specs.Tables.{Stored, stored, unread, unwritten, IsStored, column, unsignedColumn}
+use Rattle.promises.specs.Tables.{EachRow, bytesThat, isAnswered, refusalNumber, Stored, stored, unread, unwritten, IsStored, column}
+use Rattle.promises.specs.Tables.{unsignedColumn}
 
 -- ---- which metadata the check accepts
 -- whether a map of one column of this type with these bytes of metadata is accepted
@@ -54,14 +54,14 @@ withSecond kind m1 = bytesThat (λ m0. accepts kind (m0 ∷ m1 ∷ []))
 abbrev pub withFirst : ℕ → ℕ → List ℕ
 withFirst kind m0 = bytesThat (λ m1. accepts kind (m0 ∷ m1 ∷ []))
 
-abbrev pub Firsts : ℕ × ℕ × List ℕ → Type 0
-Firsts r = withSecond (r .0) (r .1) ≡ r .2
+abbrev pub FirstBytes : ℕ × ℕ × List ℕ → Type 0
+FirstBytes r = withSecond (r .0) (r .1) ≡ r .2
 
-abbrev pub Seconds : ℕ × ℕ × List ℕ → Type 0
-Seconds r = withFirst (r .0) (r .1) ≡ r .2
+abbrev pub SecondBytes : ℕ × ℕ × List ℕ → Type 0
+SecondBytes r = withFirst (r .0) (r .1) ≡ r .2
 
-unfoldable pub firsts : List (ℕ × ℕ × List ℕ)
-firsts =
+unfoldable pub firstBytes : List (ℕ × ℕ × List ℕ)
+firstBytes =
     -- BIT of 1 to 64 bits: m0 0..7, 8·m1+m0 in 1..64
     (16, 0, 1 ∷ 2 ∷ 3 ∷ 4 ∷ 5 ∷ 6 ∷ 7 ∷ [])
     ∷ (16, 1, 0 ∷ 1 ∷ 2 ∷ 3 ∷ 4 ∷ 5 ∷ 6 ∷ 7 ∷ [])
@@ -87,8 +87,8 @@ firsts =
     ∷ (254, 1, 0xc7 ∷ 0xc8 ∷ 0xce ∷ 0xd7 ∷ 0xd8 ∷ 0xde ∷ 0xe7 ∷ 0xe8 ∷ 0xee ∷ 0xf7 ∷ 0xf8 ∷ 0xfe ∷ [])
     ∷ []
 
-unfoldable pub seconds : List (ℕ × ℕ × List ℕ)
-seconds =
+unfoldable pub secondBytes : List (ℕ × ℕ × List ℕ)
+secondBytes =
     -- scale at most 30 and at most the precision
     (246, 1, 0 ∷ 1 ∷ [])
     ∷ (246, 10, 0 ∷ 1 ∷ 2 ∷ 3 ∷ 4 ∷ 5 ∷ 6 ∷ 7 ∷ 8 ∷ 9 ∷ 10 ∷ [])
@@ -114,11 +114,11 @@ seconds =
     ∷ []
 
 -- all 256 of them: VARCHAR and CHAR, and ENUM and SET of their own types whatever m0
-abbrev pub AllFirsts : ℕ × ℕ → Type 0
-AllFirsts r = length (withSecond (r .0) (r .1)) ≡ 256
+abbrev pub AllFirstBytes : ℕ × ℕ → Type 0
+AllFirstBytes r = length (withSecond (r .0) (r .1)) ≡ 256
 
-abbrev pub AllSeconds : ℕ × ℕ → Type 0
-AllSeconds r = length (withFirst (r .0) (r .1)) ≡ 256
+abbrev pub AllSecondBytes : ℕ × ℕ → Type 0
+AllSecondBytes r = length (withFirst (r .0) (r .1)) ≡ 256
 
 -- ---- how values are stored
 unfoldable pub values : List Stored
@@ -372,25 +372,25 @@ pub record Metadata : Type 0 where
   pub bytes-1 : bytesThat (λ t. eqb (metadataBytes (familyOf t)) 1) ≡ 4 ∷ 5 ∷ 17 ∷ 18 ∷ 19 ∷ 242 ∷ 245 ∷ 249 ∷ 250 ∷ 251 ∷ 252 ∷ 255 ∷ []
   pub bytes-2 : bytesThat (λ t. eqb (metadataBytes (familyOf t)) 2) ≡ 15 ∷ 16 ∷ 246 ∷ 247 ∷ 248 ∷ 253 ∷ 254 ∷ []
   pub bytes-0 : length (bytesThat (λ t. eqb (metadataBytes (familyOf t)) 0)) ≡ 237
-  pub one-byte : Each OneByte oneByte
-  pub first-bytes : Each Firsts firsts
-  pub second-bytes : Each Seconds seconds
-  pub all-firsts : Each AllFirsts ((15, 0) ∷ (15, 255) ∷ (253, 0) ∷ (253, 255) ∷ (247, 1) ∷ (248, 1) ∷ [])
-  pub all-seconds : Each AllSeconds ((15, 0) ∷ (253, 255) ∷ (254, 0xce) ∷ (254, 0xfe) ∷ [])
+  pub one-byte : EachRow OneByte oneByte
+  pub first-bytes : EachRow FirstBytes firstBytes
+  pub second-bytes : EachRow SecondBytes secondBytes
+  pub all-firsts : EachRow AllFirstBytes ((15, 0) ∷ (15, 255) ∷ (253, 0) ∷ (253, 255) ∷ (247, 1) ∷ (248, 1) ∷ [])
+  pub all-seconds : EachRow AllSecondBytes ((15, 0) ∷ (253, 255) ∷ (254, 0xce) ∷ (254, 0xfe) ∷ [])
   -- ---- lone values
   -- the types that are taken with metadata 0 and 0, and every m0 of 254
   pub lone-types : bytesThat (λ t. isTaken (shapeOf (column t 0 0)))
       ≡ 1 ∷ 2 ∷ 3 ∷ 7 ∷ 8 ∷ 9 ∷ 11 ∷ 12 ∷ 13 ∷ 14 ∷ 15 ∷ 17 ∷ 18 ∷ 19 ∷ 253 ∷ []
   pub lone-254 : bytesThat (λ m0. isTaken (shapeOf (column 254 m0 0))) ≡ 0xce ∷ 0xde ∷ 0xee ∷ 0xfe ∷ []
-  pub stored-values : Each IsStored values
+  pub stored-values : EachRow IsStored values
   -- counted bytes: as many as their length byte counts; SET: just as many as m1; of those that are lent
   pub most-bytes : writeValue (shapeOf (column 252 1 0)) 0 (replicate 255 0) (Bytes (part 0 255)) [] 0 ≡ refuse 8 0
   pub more-bytes : writeValue (shapeOf (column 252 1 0)) 0 (replicate 256 0) (Bytes (part 0 256)) [] 0 ≡ refuse 13 0
   pub other-size : writeValue (shapeOf (column 248 248 2)) 0 (0x01 ∷ []) (Bytes (part 0 1)) (replicate 2 0) 0 ≡ refuse 13 0
   pub not-lent : writeValue (shapeOf (column 252 1 0)) 0 (replicate 2 0) (Bytes (part 1 2)) (replicate 3 0) 0 ≡ refuse 13 0
-  pub decimal-sizes : Each DecimalTakes decimals
-  pub bit-sizes : Each BitTakes bits
-  pub declared-lengths : Each Declares declaredLengths
+  pub decimal-sizes : EachRow DecimalTakes decimals
+  pub bit-sizes : EachRow BitTakes bits
+  pub declared-lengths : EachRow Declares declaredLengths
   -- the types that declare one
   pub declared-types : bytesThat (λ t. not (eqb (declaredLength t 1 1) 0)) ≡ 15 ∷ 253 ∷ 254 ∷ []
   -- ---- 254

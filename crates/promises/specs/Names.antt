@@ -1,7 +1,8 @@
 -- Names of columns: "A column's name comes from the map's names field if that is not empty, else from the operator's list lent beside it,
 -- in the same layout, read no further; 14 if it ends first." First of any bytes, then of a map that the check accepts, asked in the dialect
 -- that it was checked in: its names are not refused, and where they are told each column has its own, whatever the operator's list is. So
--- that list is looked at only for a map that has no names field, or no columns. `named` in proofs/Names.antt proves it. Assumes nothing.
+-- that list is looked at only for a map that has no names field, or no columns. `named` in proofs/Demand3/Names.antt proves it. Assumes
+-- nothing.
 use Prim.Native.Nat.{ℕ, _≤_, _<_}
 use mathlib.Core.Path.{_≡_}
 use mathlib.Core.Logic.{_⊎_}
@@ -17,7 +18,7 @@ use Rattle.table_map.specs.declared.event.Event.{Event}
 use Rattle.table_map.specs.Events.{readEvent}
 use Rattle.table_map.specs.Lists.{stringItem}
 use Rattle.record.specs.declared.entry.Entry.{Entry}
-use Rattle.map_check.specs.Ranks.{place}
+use Rattle.map_check.specs.Ranks.{tablePlace}
 use Rattle.map_check.specs.Check.{checkMap}
 use Rattle.map_check.specs.Names.{columnName, namesField}
 use Rattle.map_check.specs.Passes.{Member, Between, ItemsAre, Field, FieldsAre, Absent}
@@ -36,9 +37,9 @@ pub record LooksIn (list : List ℕ) (name : ℕ → Outcome Part) : Type 0 wher
 pub record Named : Type 0 where
   -- ---- whatever the bytes are
   -- names that are not empty are the list, whatever the operator's is
-  pub in-names : (names operator : List ℕ) → 0 < length names → LooksIn names (λ j. columnName names operator (place j))
+  pub in-names : (names operator : List ℕ) → 0 < length names → LooksIn names (λ j. columnName names operator (tablePlace j))
   -- else it is the operator's
-  pub in-operator : (operator : List ℕ) → LooksIn operator (λ j. columnName [] operator (place j))
+  pub in-operator : (operator : List ℕ) → LooksIn operator (λ j. columnName [] operator (tablePlace j))
   -- ---- a map that is accepted
   -- its names are the value of its field 4, or it has no such field
   pub known : (d : Dialect) (event : List ℕ) (postHeader : ℕ) (e : Event) (es : List Entry) (fields : List Field)
@@ -50,4 +51,4 @@ pub record Named : Type 0 where
       → readEvent event postHeader ≡ ok e → checkMap d event postHeader ≡ ok es → namesField d event postHeader ≡ ok (some names)
       → (items : List Part) × ItemsAre stringItem (lentPart event names) items × (length items ≡ length (lentPart event (e .types)))
       × ((operator : List ℕ) (j : ℕ) → j < length items
-      → columnName (lentPart event names) operator (place j) ≡ ok (getD items j (part 0 0)))
+      → columnName (lentPart event names) operator (tablePlace j) ≡ ok (getD items j (part 0 0)))

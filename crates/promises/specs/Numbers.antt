@@ -1,5 +1,5 @@
--- The numbers of the calls for C (docs/ABI.md, bindings/feed.h): kinds of values and their parts, dialects, statuses, and the order in
--- which every answer has its numbers. `numbers` in proofs/Numbers.antt proves all of it. Assumes nothing.
+-- The numbers of the calls for C (docs/ABI.md, bindings/feed.h): sorts of values and their parts, dialects, statuses, and the order in
+-- which every answer has its numbers. `numbers` in proofs/Readings/Numbers.antt proves all of it. Assumes nothing.
 use Prim.Native.Nat.{ℕ, suc}
 use mathlib.Core.Path.{_≡_}
 use mathlib.Core.List.{List, [], _∷_}
@@ -7,9 +7,9 @@ use lib.ListN.{length, replicate}
 use Rattle.wire.specs.Outcome.{Outcome, ok, refuse}
 use Rattle.value.specs.declared.classes.Dialect.the-variants.{Document, Mysql, Mariadb}
 use Rattle.feed_abi.specs.Answers.{statusOf, numbersLeft, bytesLeft}
-use Rattle.feed_abi.specs.Calls.{dialectOf, feedMap, feedCheck, feedColumn, feedNames, feedName}
-use Rattle.feed_abi.specs.Calls.{feedFirst, feedStep, feedStart, feedPut, feedRows, feedImage}
-use Rattle.promises.specs.Tables.{Each, worked, workedEvent, workedImage}
+use Rattle.feed_abi.specs.Calls.{dialectOf, feedMap, feedCheck, feedColumn, feedNames, feedName, feedFirst, feedStep, feedStart, feedPut}
+use Rattle.feed_abi.specs.Calls.{feedRows, feedImage}
+use Rattle.promises.specs.Tables.{EachRow, worked, workedEvent, workedImage}
 
 -- eleven columns: TINYINT, TINYINT UNSIGNED, FLOAT, DOUBLE, TIMESTAMP(6), YEAR, DATE, DATETIME(6), TIME(6), VARCHAR(276), TINYINT that may
 -- be NULL
@@ -30,8 +30,8 @@ everyKind =
     ∷ []
 
 -- all of them are present, and the last is NULL
-abbrev pub present : List ℕ
-present = 0xff ∷ 0x07 ∷ []
+abbrev pub allPresent : List ℕ
+allPresent = 0xff ∷ 0x07 ∷ []
 
 abbrev pub nulls : List ℕ
 nulls = 0x00 ∷ 0xfc ∷ []
@@ -51,9 +51,9 @@ kindsImage =
     ∷ 0x02 ∷ 0x00 ∷ 0x61 ∷ 0x62
     ∷ []
 
--- a cursor's column and offset, and the eleven numbers of a step from there: kind, column, next column, next offset, and seven parts
+-- a cursor's column and offset, and the eleven numbers of a step from there: sort, column, next column, next offset, and seven parts
 abbrev pub StepTells : ℕ × ℕ × List ℕ → Type 0
-StepTells x = feedStep everyKind present kindsImage (x .0) (x .1) ≡ ok (x .2)
+StepTells x = feedStep everyKind allPresent kindsImage (x .0) (x .1) ≡ ok (x .2)
 
 unfoldable pub steps : List (ℕ × ℕ × List ℕ)
 steps =
@@ -71,35 +71,35 @@ steps =
     ∷ (11, 45, 0 ∷ 0 ∷ 0 ∷ 45 ∷ 0 ∷ 0 ∷ 0 ∷ 0 ∷ 0 ∷ 0 ∷ 0 ∷ [])
     ∷ []
 
--- a column, the kind and the parts of a value for it, and the bytes that are put; its own bytes are lent as 7a 61 62
-pub record Put : Type 0 where
+-- a column, the sort and the parts of a value for it, and the bytes that are put; its own bytes are lent as 7a 61 62
+pub record PutCase : Type 0 where
   pub column : ℕ
-  pub kind : ℕ
+  pub sort : ℕ
   pub parts : List ℕ
   pub bytes : List ℕ
 
-abbrev pub put : ℕ → ℕ → List ℕ → List ℕ → Put
-put column kind parts bytes = record { column = column; kind = kind; parts = parts; bytes = bytes }
+abbrev pub putCase : ℕ → ℕ → List ℕ → List ℕ → PutCase
+putCase column sort parts bytes = record { column = column; sort = sort; parts = parts; bytes = bytes }
 
 -- put at the buffer's start, with the next column and offset told
-abbrev pub PutStores : Put → Type 0
+abbrev pub PutStores : PutCase → Type 0
 PutStores x =
-    feedPut everyKind present nulls (x .column) 0 (x .kind) (x .parts) (0x7a ∷ 0x61 ∷ 0x62 ∷ []) (replicate (length (x .bytes)) 0)
+    feedPut everyKind allPresent nulls (x .column) 0 (x .sort) (x .parts) (0x7a ∷ 0x61 ∷ 0x62 ∷ []) (replicate (length (x .bytes)) 0)
     ≡ ok (suc (x .column) ∷ length (x .bytes) ∷ [], x .bytes)
 
-unfoldable pub puts : List Put
+unfoldable pub puts : List PutCase
 puts =
-    put 0 2 (18446744073709551614 ∷ []) (0xfe ∷ [])
-    ∷ put 1 3 (200 ∷ []) (0xc8 ∷ [])
-    ∷ put 2 4 (1065353216 ∷ []) (0x00 ∷ 0x00 ∷ 0x80 ∷ 0x3f ∷ [])
-    ∷ put 3 5 (4607182418800017408 ∷ []) (0x00 ∷ 0x00 ∷ 0x00 ∷ 0x00 ∷ 0x00 ∷ 0x00 ∷ 0xf0 ∷ 0x3f ∷ [])
-    ∷ put 4 6 (1700000000 ∷ 7 ∷ []) (0x65 ∷ 0x53 ∷ 0xf1 ∷ 0x00 ∷ 0x00 ∷ 0x00 ∷ 0x07 ∷ [])
-    ∷ put 5 7 (2000 ∷ []) (0x64 ∷ [])
-    ∷ put 6 8 (2000 ∷ 1 ∷ 31 ∷ []) (0x3f ∷ 0xa0 ∷ 0x0f ∷ [])
-    ∷ put 7 9 (1983 ∷ 2 ∷ 28 ∷ 7 ∷ 5 ∷ 9 ∷ 123 ∷ []) (0x99 ∷ 0x2d ∷ 0x78 ∷ 0x71 ∷ 0x49 ∷ 0x00 ∷ 0x00 ∷ 0x7b ∷ [])
-    ∷ put 8 10 (1 ∷ 1 ∷ 2 ∷ 3 ∷ 4 ∷ []) (0x7f ∷ 0xef ∷ 0x7c ∷ 0xff ∷ 0xff ∷ 0xfc ∷ [])
-    ∷ put 9 11 (1 ∷ 2 ∷ []) (0x02 ∷ 0x00 ∷ 0x61 ∷ 0x62 ∷ [])
-    ∷ put 10 1 [] []
+    putCase 0 2 (18446744073709551614 ∷ []) (0xfe ∷ [])
+    ∷ putCase 1 3 (200 ∷ []) (0xc8 ∷ [])
+    ∷ putCase 2 4 (1065353216 ∷ []) (0x00 ∷ 0x00 ∷ 0x80 ∷ 0x3f ∷ [])
+    ∷ putCase 3 5 (4607182418800017408 ∷ []) (0x00 ∷ 0x00 ∷ 0x00 ∷ 0x00 ∷ 0x00 ∷ 0x00 ∷ 0xf0 ∷ 0x3f ∷ [])
+    ∷ putCase 4 6 (1700000000 ∷ 7 ∷ []) (0x65 ∷ 0x53 ∷ 0xf1 ∷ 0x00 ∷ 0x00 ∷ 0x00 ∷ 0x07 ∷ [])
+    ∷ putCase 5 7 (2000 ∷ []) (0x64 ∷ [])
+    ∷ putCase 6 8 (2000 ∷ 1 ∷ 31 ∷ []) (0x3f ∷ 0xa0 ∷ 0x0f ∷ [])
+    ∷ putCase 7 9 (1983 ∷ 2 ∷ 28 ∷ 7 ∷ 5 ∷ 9 ∷ 123 ∷ []) (0x99 ∷ 0x2d ∷ 0x78 ∷ 0x71 ∷ 0x49 ∷ 0x00 ∷ 0x00 ∷ 0x7b ∷ [])
+    ∷ putCase 8 10 (1 ∷ 1 ∷ 2 ∷ 3 ∷ 4 ∷ []) (0x7f ∷ 0xef ∷ 0x7c ∷ 0xff ∷ 0xff ∷ 0xfc ∷ [])
+    ∷ putCase 9 11 (1 ∷ 2 ∷ []) (0x02 ∷ 0x00 ∷ 0x61 ∷ 0x62 ∷ [])
+    ∷ putCase 10 1 [] []
     ∷ []
 
 -- an update of the second edition, with the rows 5 and 6 of one TINYINT column
@@ -115,8 +115,8 @@ abbrev pub imageFrom : ℕ → ℕ → ℕ → Outcome (List ℕ)
 imageFrom hasSecond offset second = feedImage tinyRecord update 11 1 hasSecond 12 1 offset second
 
 -- an event of one INT column, with these optional bytes
-abbrev pub oneColumn : List ℕ → List ℕ
-oneColumn optional =
+abbrev pub oneInt : List ℕ → List ℕ
+oneInt optional =
     0x2a ∷ 0x00 ∷ 0x00 ∷ 0x00 ∷ 0x00 ∷ 0x00 ∷ 0x01 ∷ 0x00 ∷ 0x01 ∷ 0x74 ∷ 0x00 ∷ 0x01 ∷ 0x72 ∷ 0x00 ∷ 0x01 ∷ 0x03 ∷ 0x00 ∷ 0x00 ∷ optional
 
 pub record Numbers : Type 0 where
@@ -141,21 +141,21 @@ pub record Numbers : Type 0 where
   -- real type, flags, m0, m1, charset; and 14 for a column that there is not
   pub column-numbers : feedColumn everyKind 9 ≡ ok (15 ∷ 8 ∷ 20 ∷ 1 ∷ 545 ∷ [])
   pub no-column : feedColumn everyKind 11 ≡ refuse 14 11
-  -- 1, start and length of the names in an event of one column, which may have no bytes; zeros where there are none; and the refusal of a field
-  -- before them
-  pub names-numbers : (feedNames (oneColumn (0x04 ∷ 0x03 ∷ 0x02 ∷ 0x61 ∷ 0x62 ∷ [])) 8 0 ≡ ok (1 ∷ 20 ∷ 3 ∷ []))
-      × (feedNames (oneColumn (0x04 ∷ 0x00 ∷ [])) 8 0 ≡ ok (1 ∷ 20 ∷ 0 ∷ []))
-      × (feedNames (oneColumn []) 8 0 ≡ ok (0 ∷ 0 ∷ 0 ∷ []))
-      × (feedNames (oneColumn (0x01 ∷ 0x00 ∷ 0x04 ∷ 0x03 ∷ 0x02 ∷ 0x61 ∷ 0x62 ∷ [])) 8 0 ≡ refuse 7 18)
+  -- 1, start and length of the names in an event of one column, which may have no bytes; zeros where there are none; and the refusal of a
+  -- field before them
+  pub names-numbers : (feedNames (oneInt (0x04 ∷ 0x03 ∷ 0x02 ∷ 0x61 ∷ 0x62 ∷ [])) 8 0 ≡ ok (1 ∷ 20 ∷ 3 ∷ []))
+      × (feedNames (oneInt (0x04 ∷ 0x00 ∷ [])) 8 0 ≡ ok (1 ∷ 20 ∷ 0 ∷ []))
+      × (feedNames (oneInt []) 8 0 ≡ ok (0 ∷ 0 ∷ 0 ∷ []))
+      × (feedNames (oneInt (0x01 ∷ 0x00 ∷ 0x04 ∷ 0x03 ∷ 0x02 ∷ 0x61 ∷ 0x62 ∷ [])) 8 0 ≡ refuse 7 18)
   -- start and length of a name in a list: the operator's where there are no names
   pub name-numbers : (feedName (0x01 ∷ 0x61 ∷ 0x02 ∷ 0x62 ∷ 0x63 ∷ []) (0x00 ∷ []) 1 ≡ ok (3 ∷ 2 ∷ []))
       × (feedName [] (0x01 ∷ 0x61 ∷ 0x02 ∷ 0x62 ∷ 0x63 ∷ []) 1 ≡ ok (3 ∷ 2 ∷ []))
       × (feedName (0x01 ∷ 0x61 ∷ []) (0x00 ∷ 0x00 ∷ []) 1 ≡ refuse 14 1)
   -- ---- rows
   -- column and offset; the start sets spare null bits
-  pub first-numbers : feedFirst everyKind present ≡ ok (0 ∷ 2 ∷ [])
-  pub start-numbers : feedStart everyKind present (0x00 ∷ 0x04 ∷ []) (0 ∷ 0 ∷ 0 ∷ []) ≡ ok (0 ∷ 2 ∷ [], 0x00 ∷ 0xfc ∷ 0 ∷ [])
-  pub step-numbers : Each StepTells steps
+  pub first-numbers : feedFirst everyKind allPresent ≡ ok (0 ∷ 2 ∷ [])
+  pub start-numbers : feedStart everyKind allPresent (0x00 ∷ 0x04 ∷ []) (0 ∷ 0 ∷ 0 ∷ []) ≡ ok (0 ∷ 2 ∷ [], 0x00 ∷ 0xfc ∷ 0 ∷ [])
+  pub step-numbers : EachRow StepTells steps
   -- under document 01's record with the first column absent, the third from its own cursor: its null bit is the second
   pub step-absent : feedStep worked (0x06 ∷ []) (0x02 ∷ 0x00 ∷ []) 2 2 ≡ ok (1 ∷ 2 ∷ 3 ∷ 2 ∷ 0 ∷ 0 ∷ 0 ∷ 0 ∷ 0 ∷ 0 ∷ 0 ∷ [])
   -- an offset past the image is 9 at the cursor's column; a value for NULL and NULL for a value are 13 at the column found
@@ -169,15 +169,15 @@ pub record Numbers : Type 0 where
   pub put-order : (feedPut worked (0x07 ∷ []) [] 4 0 1 [] [] [] ≡ refuse 12 0)
       × (feedPut worked (0x07 ∷ []) (0x00 ∷ []) 4 0 1 [] [] [] ≡ refuse 14 4)
   -- NULL takes no bytes, and still its offset must be in the buffer
-  pub put-past : feedPut everyKind present nulls 10 2 1 [] [] (0 ∷ []) ≡ refuse 8 0
+  pub put-past : feedPut everyKind allPresent nulls 10 2 1 [] [] (0 ∷ []) ≡ refuse 8 0
   pub put-null : feedPut worked (0x05 ∷ []) (0x00 ∷ []) 1 0 1 [] [] [] ≡ refuse 13 2
   pub put-value : feedPut worked (0x05 ∷ []) (0x02 ∷ []) 1 0 3 (200 ∷ []) [] [] ≡ refuse 13 2
-  pub put-numbers : Each PutStores puts
-  -- a kind that there is not, a part too few, and one that is too great
-  pub no-put : (feedPut everyKind present nulls 0 0 0 [] [] [] ≡ refuse 13 0)
-      × (feedPut everyKind present nulls 0 0 12 [] [] [] ≡ refuse 13 0)
-      × (feedPut everyKind present nulls 6 0 8 (2000 ∷ 1 ∷ []) [] [] ≡ refuse 13 0)
-      × (feedPut everyKind present nulls 8 0 10 (2 ∷ 0 ∷ 0 ∷ 1 ∷ 0 ∷ []) [] [] ≡ refuse 13 0)
+  pub put-numbers : EachRow PutStores puts
+  -- a sort that there is not, a part too few, and one that is too great
+  pub no-put : (feedPut everyKind allPresent nulls 0 0 0 [] [] [] ≡ refuse 13 0)
+      × (feedPut everyKind allPresent nulls 0 0 12 [] [] [] ≡ refuse 13 0)
+      × (feedPut everyKind allPresent nulls 6 0 8 (2000 ∷ 1 ∷ []) [] [] ≡ refuse 13 0)
+      × (feedPut everyKind allPresent nulls 8 0 10 (2 ∷ 0 ∷ 0 ∷ 1 ∷ 0 ∷ []) [] [] ≡ refuse 13 0)
   -- ---- rows events
   -- flags; whether there is extra data, its start and length; start and length of the presence bits; whether there is a second set, its
   -- start and length; where the images begin

@@ -1,6 +1,6 @@
 -- Demand 1, the other way: no line of the lists of `Refusals` is there for nothing, nor one that `Abi` adds. For each line there are bytes
 -- that give such a refusal, here the fewest or nearly so. It does not say that each place which a line allows is told for some bytes.
--- `occurs` in proofs/Occurs.antt computes all of it. Assumes nothing.
+-- `occurs` in proofs/Demand1/Occurs.antt computes all of it. Assumes nothing.
 use Prim.Native.Nat.{ℕ, zero, suc, _^_, _≤_}
 use mathlib.Core.Path.{_≡_}
 use mathlib.Core.Bool.{false}
@@ -11,9 +11,8 @@ use Rattle.wire.specs.Outcome.{Outcome, refuse}
 use Rattle.wire.specs.Packed.{readFixed, readPacked}
 use Rattle.wire.specs.Stored.{store, answerOf}
 use Rattle.wire.specs.Parts.{part, within}
-use Rattle.temporal.specs.declared.kind.Kind.the-variants.{Newdate}
+use Rattle.temporal.specs.declared.storage.Storage.the-variants.{Newdate}
 use Rattle.temporal.specs.declared.parts.Temporal.{Temporal}
-use Rattle.temporal.specs.declared.parts.Temporal.the-variants.{On}
 use Rattle.temporal.specs.Reading.{readTemporal, writeTemporal}
 use Rattle.value.specs.declared.classes.Dialect.the-variants.{Document}
 use Rattle.value.specs.declared.datum.Value.the-variants.{Null, Int}
@@ -26,15 +25,15 @@ use Rattle.value_parts.specs.Parts.{valueOf}
 use Rattle.table_map.specs.declared.event.Event.{Event}
 use Rattle.table_map.specs.declared.field.Fields.{Fields}
 use Rattle.table_map.specs.Events.{readEvent}
-use Rattle.table_map.specs.Writes.{parts, writeEvent, eventSize}
+use Rattle.table_map.specs.Writes.{eventParts, writeEvent, eventSize}
 use Rattle.table_map.specs.Lists.{step, integerItem, pairItem, stringItem, groupItem, defaultCharset}
 use Rattle.table_map.specs.Fields.{cutField, judgeField, fieldStep}
 use Rattle.record.specs.Records.{readRecord}
-use Rattle.map_check.specs.Ranks.{place}
+use Rattle.map_check.specs.Ranks.{tablePlace}
 use Rattle.map_check.specs.Check.{check}
 use Rattle.map_check.specs.Names.{columnName, namesField}
 use Rattle.image.specs.Split.{cursor, headOf, firstCursor, stepFrom}
-use Rattle.image.specs.Walk.{walk}
+use Rattle.image.specs.Walk.{walkImage}
 use Rattle.image.specs.Puts.{startImage, putFrom}
 use Rattle.rows_event.specs.declared.parts.Extra.the-variants.{Absent}
 use Rattle.rows_event.specs.declared.parts.Second.the-variants.{Absent as Absent₁}
@@ -47,14 +46,14 @@ use Rattle.feed_abi.specs.Calls.{feedCheck, feedColumn, feedNames, feedPut}
 -- ---- what calls are lent here
 -- a column of a type, its metadata m0 being this
 abbrev pub shaped : ℕ → ℕ → Shape
-shaped kind m0 = shapeOf (record { kind = kind; m0 = m0; m1 = 0; unsigned = false })
+shaped real m0 = shapeOf (record { real = real; m0 = m0; m1 = 0; unsigned = false })
 
 -- a DATE of month 13, stored and as a writer is given it
 abbrev pub month13 : List ℕ
 month13 = 160 ∷ 1 ∷ 0 ∷ []
 
 abbrev pub dated : ℕ → Temporal
-dated month = On record { year = 0; month = month; day = 0 }
+dated month = Temporal.Date record { year = 0; month = month; day = 0 }
 
 -- so many zeros
 unfoldable pub zeros : ℕ → List ℕ
@@ -66,8 +65,8 @@ abbrev pub eventWith : List ℕ → List ℕ → List ℕ → List ℕ → List 
 eventWith types meta bits optional = zeros 12 ++ (length types ∷ (types ++ (length meta ∷ (meta ++ (bits ++ optional)))))
 
 -- of one TINYINT column; its optional bytes start at 16
-abbrev pub oneColumn : List ℕ → List ℕ
-oneColumn optional = eventWith (1 ∷ []) [] (0 ∷ []) optional
+abbrev pub oneTiny : List ℕ → List ℕ
+oneTiny optional = eventWith (1 ∷ []) [] (0 ∷ []) optional
 
 -- of 256 of them
 abbrev pub manyColumns : List ℕ
@@ -75,18 +74,18 @@ manyColumns = zeros 12 ++ (252 ∷ (0 ∷ (1 ∷ (zeros 256 ++ (0 ∷ zeros 32))
 
 -- what reading tells of its first so many bytes, for each of these numbers
 abbrev pub readFirst : List ℕ → List (Outcome Event)
-readFirst = map (λ k. readEvent (take k (oneColumn [])) 8)
+readFirst = map (λ k. readEvent (take k (oneTiny [])) 8)
 
 -- 1 at each of these places
 abbrev pub ones : List ℕ → List (Outcome Event)
 ones = map (λ p. refuse 1 p)
 
-abbrev pub fieldsFrom : ℕ → Fields
-fieldsFrom o = record { at = o; numeric = 0; columns = 0 }
+abbrev pub fieldsCursor : ℕ → Fields
+fieldsCursor o = record { at = o; numeric = 0; columns = 0 }
 
 -- a record without columns, and one of a TINYINT and a DATE
-abbrev pub noColumns : List ℕ
-noColumns = 6 ∷ 0 ∷ 1 ∷ 0 ∷ 0 ∷ 0 ∷ []
+abbrev pub emptyRecord : List ℕ
+emptyRecord = 6 ∷ 0 ∷ 1 ∷ 0 ∷ 0 ∷ 0 ∷ []
 
 abbrev pub twoColumns : List ℕ
 twoColumns = 18 ∷ 0 ∷ 1 ∷ 0 ∷ 2 ∷ 0 ∷ 1 ∷ 8 ∷ 0 ∷ 0 ∷ 0 ∷ 0 ∷ 14 ∷ 8 ∷ 0 ∷ 0 ∷ 0 ∷ 0 ∷ []
@@ -102,8 +101,8 @@ onlySecond = 2 ∷ []
 abbrev pub rowsWith : ℕ → Rows
 rowsWith n = record { flags = 0; extra = Absent; before = part 0 n; after = Absent₁; images = n }
 
-abbrev pub imageAt : ℕ → Images
-imageAt o = record { at = o; second = false }
+abbrev pub imagesCursor : ℕ → Images
+imagesCursor o = record { at = o; second = false }
 
 -- ---- a line for each call that `EveryCall` lists, by the same name, with an equation for each line of its list
 pub record Occurs : Type 0 where
@@ -111,10 +110,10 @@ pub record Occurs : Type 0 where
   pub within-bytes : within [] 0 1 7 ≡ refuse 1 7
   pub read-fixed : readFixed 2 (0 ∷ []) 0 ≡ refuse 1 0
   pub read-packed : (readPacked (252 ∷ []) 0 ≡ refuse 1 0) × (readPacked (251 ∷ []) 0 ≡ refuse 2 0)
-  pub write-bytes : store [] 0 (0 ∷ []) ≡ refuse 8 0
+  pub write-bytes : store (0 ∷ []) [] 0 ≡ refuse 8 0
   -- ---- `temporal`
   pub read-temporal : (readTemporal Newdate 7 [] 0 ≡ refuse 9 7) × (readTemporal Newdate 7 month13 0 ≡ refuse 10 7)
-  pub write-temporal : (writeTemporal Newdate 7 [] 0 (dated 13) ≡ refuse 13 7) × (writeTemporal Newdate 7 [] 0 (dated 12) ≡ refuse 8 0)
+  pub write-temporal : (writeTemporal Newdate 7 (dated 13) [] 0 ≡ refuse 13 7) × (writeTemporal Newdate 7 (dated 12) [] 0 ≡ refuse 8 0)
   -- ---- `value`: type 6 is not taken, and a FLOAT has 4 for m0
   pub read-value : (readValue (shaped 6 0) 7 [] 0 ≡ refuse 4 7)
       × (readValue (shaped 4 0) 7 [] 0 ≡ refuse 5 7)
@@ -136,16 +135,16 @@ pub record Occurs : Type 0 where
   pub read-event : (readFirst (5 ∷ 7 ∷ 8 ∷ 9 ∷ 10 ∷ 11 ∷ 12 ∷ 13 ∷ 14 ∷ 15 ∷ []) ≡ ones (0 ∷ 6 ∷ 8 ∷ 9 ∷ 10 ∷ 11 ∷ 12 ∷ 13 ∷ 14 ∷ 15 ∷ []))
       × (readEvent (zeros 12 ++ (251 ∷ [])) 8 ≡ refuse 2 12)
       × (readEvent (zeros 13 ++ (255 ∷ [])) 8 ≡ refuse 2 13)
-  pub write-event : (writeEvent (parts 0 0 [] [] [] [] (0 ∷ []) []) [] ≡ refuse 13 0)
-      × (writeEvent (parts 0 0 [] [] [] [] [] []) [] ≡ refuse 8 0)
+  pub write-event : (writeEvent (eventParts 0 0 [] [] [] [] (0 ∷ []) []) [] ≡ refuse 13 0)
+      × (writeEvent (eventParts 0 0 [] [] [] [] [] []) [] ≡ refuse 8 0)
   -- 8 for parts that no memory holds
-  pub event-size : (eventSize (parts 0 0 [] [] [] [] (0 ∷ []) []) ≡ refuse 13 0)
-      × ((meta : List ℕ) → 2 ^ 64 ≤ length meta → eventSize (parts 0 0 [] [] [] meta [] []) ≡ refuse 8 0)
-  pub next-field : (fieldStep (fieldsFrom 7) [] ≡ refuse 1 7)
-      × (fieldStep (fieldsFrom 0) (1 ∷ []) ≡ refuse 1 1)
-      × (fieldStep (fieldsFrom 0) (1 ∷ 251 ∷ []) ≡ refuse 2 1)
-      × (fieldStep (fieldsFrom 1) (0 ∷ 14 ∷ 0 ∷ []) ≡ refuse 6 1)
-      × (fieldStep (fieldsFrom 1) (0 ∷ 2 ∷ 0 ∷ []) ≡ refuse 7 1)
+  pub event-size : (eventSize (eventParts 0 0 [] [] [] [] (0 ∷ []) []) ≡ refuse 13 0)
+      × ((meta : List ℕ) → 2 ^ 64 ≤ length meta → eventSize (eventParts 0 0 [] [] [] meta [] []) ≡ refuse 8 0)
+  pub next-field : (fieldStep (fieldsCursor 7) [] ≡ refuse 1 7)
+      × (fieldStep (fieldsCursor 0) (1 ∷ []) ≡ refuse 1 1)
+      × (fieldStep (fieldsCursor 0) (1 ∷ 251 ∷ []) ≡ refuse 2 1)
+      × (fieldStep (fieldsCursor 1) (0 ∷ 14 ∷ 0 ∷ []) ≡ refuse 6 1)
+      × (fieldStep (fieldsCursor 1) (0 ∷ 2 ∷ 0 ∷ []) ≡ refuse 7 1)
   pub cut-field : (cutField [] 7 ≡ refuse 1 7) × (cutField (1 ∷ []) 0 ≡ refuse 1 1) × (cutField (1 ∷ 251 ∷ []) 0 ≡ refuse 2 1)
   pub judge-field : (judgeField 0 0 [] 7 (14, part 0 0) ≡ refuse 6 7) × (judgeField 0 0 [] 7 (2, part 0 0) ≡ refuse 7 7)
   pub next-integer : (step integerItem (0 ∷ 252 ∷ []) 1 ≡ refuse 1 1) × (step integerItem (0 ∷ 251 ∷ []) 1 ≡ refuse 2 1)
@@ -165,21 +164,21 @@ pub record Occurs : Type 0 where
       × (check Document (eventWith (1 ∷ 4 ∷ []) (0 ∷ []) (0 ∷ []) []) 8 [] ≡ refuse 5 1)
       × (check Document (eventWith (1 ∷ 4 ∷ []) (4 ∷ 0 ∷ []) (0 ∷ []) []) 8 [] ≡ refuse 5 2)
   -- 7 for a list of no names, and for the second of two keys
-  pub check-fields : (check Document (oneColumn (4 ∷ [])) 8 [] ≡ refuse 1 17)
-      × (check Document (oneColumn (4 ∷ 251 ∷ [])) 8 [] ≡ refuse 2 17)
-      × (check Document (oneColumn (14 ∷ 0 ∷ [])) 8 [] ≡ refuse 6 16)
-      × (check Document (oneColumn (4 ∷ 0 ∷ [])) 8 [] ≡ refuse 7 16)
-      × (check Document (oneColumn (8 ∷ 2 ∷ 0 ∷ 0 ∷ [])) 8 [] ≡ refuse 7 19)
-  pub check-room : check Document (oneColumn []) 8 [] ≡ refuse 8 0
-  pub column-name : (columnName [] (0 ∷ []) (place 1) ≡ refuse 14 1)
-      × (columnName [] (0 ∷ 1 ∷ []) (place 1) ≡ refuse 1 1)
-      × (columnName [] (0 ∷ 251 ∷ []) (place 1) ≡ refuse 2 1)
+  pub check-fields : (check Document (oneTiny (4 ∷ [])) 8 [] ≡ refuse 1 17)
+      × (check Document (oneTiny (4 ∷ 251 ∷ [])) 8 [] ≡ refuse 2 17)
+      × (check Document (oneTiny (14 ∷ 0 ∷ [])) 8 [] ≡ refuse 6 16)
+      × (check Document (oneTiny (4 ∷ 0 ∷ [])) 8 [] ≡ refuse 7 16)
+      × (check Document (oneTiny (8 ∷ 2 ∷ 0 ∷ 0 ∷ [])) 8 [] ≡ refuse 7 19)
+  pub check-room : check Document (oneTiny []) 8 [] ≡ refuse 8 0
+  pub column-name : (columnName [] (0 ∷ []) (tablePlace 1) ≡ refuse 14 1)
+      × (columnName [] (0 ∷ 1 ∷ []) (tablePlace 1) ≡ refuse 1 1)
+      × (columnName [] (0 ∷ 251 ∷ []) (tablePlace 1) ≡ refuse 2 1)
   pub names-field : (namesField Document [] 8 ≡ refuse 1 0)
       × (namesField Document (zeros 12 ++ (251 ∷ [])) 8 ≡ refuse 2 12)
-      × (namesField Document (oneColumn (4 ∷ [])) 8 ≡ refuse 1 17)
-      × (namesField Document (oneColumn (4 ∷ 251 ∷ [])) 8 ≡ refuse 2 17)
-      × (namesField Document (oneColumn (14 ∷ 0 ∷ [])) 8 ≡ refuse 6 16)
-      × (namesField Document (oneColumn (2 ∷ 0 ∷ [])) 8 ≡ refuse 7 16)
+      × (namesField Document (oneTiny (4 ∷ [])) 8 ≡ refuse 1 17)
+      × (namesField Document (oneTiny (4 ∷ 251 ∷ [])) 8 ≡ refuse 2 17)
+      × (namesField Document (oneTiny (14 ∷ 0 ∷ [])) 8 ≡ refuse 6 16)
+      × (namesField Document (oneTiny (2 ∷ 0 ∷ [])) 8 ≡ refuse 7 16)
   -- ---- `image`
   pub read-head : (headOf [] [] ≡ refuse 11 0) × (headOf twoColumns [] ≡ refuse 12 0)
   pub first-cursor : (firstCursor [] [] ≡ refuse 11 0) × (firstCursor twoColumns [] ≡ refuse 12 0)
@@ -191,11 +190,11 @@ pub record Occurs : Type 0 where
       × (stepFrom twoColumns onlySecond (0 ∷ []) (cursor 2 2) ≡ refuse 9 2)
       × (stepFrom twoColumns onlySecond (0 ∷ []) (cursor 0 1) ≡ refuse 9 1)
       × (stepFrom twoColumns onlySecond (0 ∷ month13) (cursor 0 1) ≡ refuse 10 1)
-  pub walk-end : (walk [] [] [] .how ≡ refuse 11 0)
-      × (walk twoColumns [] [] .how ≡ refuse 12 0)
-      × (walk twoColumns onlySecond [] .how ≡ refuse 9 0)
-      × (walk twoColumns onlySecond (0 ∷ []) .how ≡ refuse 9 1)
-      × (walk twoColumns onlySecond (0 ∷ month13) .how ≡ refuse 10 1)
+  pub walk-end : (walkImage [] [] [] .how ≡ refuse 11 0)
+      × (walkImage twoColumns [] [] .how ≡ refuse 12 0)
+      × (walkImage twoColumns onlySecond [] .how ≡ refuse 9 0)
+      × (walkImage twoColumns onlySecond (0 ∷ []) .how ≡ refuse 9 1)
+      × (walkImage twoColumns onlySecond (0 ∷ month13) .how ≡ refuse 10 1)
   pub start-image : (startImage [] [] [] [] ≡ refuse 11 0)
       × (startImage twoColumns [] [] [] ≡ refuse 12 0)
       × (startImage twoColumns onlySecond (0 ∷ []) [] ≡ refuse 8 0)
@@ -209,19 +208,19 @@ pub record Occurs : Type 0 where
   -- ---- `rows_event`
   -- 16 for the code, the table id and the count
   pub read-rows : (readRows 23 [] 0 [] ≡ refuse 11 0)
-      × (readRows 22 noColumns 0 [] ≡ refuse 16 0)
-      × (readRows 23 noColumns 1 (zeros 9) ≡ refuse 16 0)
-      × (readRows 30 noColumns 0 (zeros 10) ≡ refuse 15 8)
-      × (readRows 23 noColumns 0 (zeros 8 ++ (1 ∷ 0 ∷ [])) ≡ refuse 16 8)
-      × (readRows 23 noColumns 0 (zeros 7) ≡ refuse 1 6)
-      × (readRows 23 noColumns 0 (zeros 8 ++ (251 ∷ [])) ≡ refuse 2 8)
-  pub next-image : (nextImage [] (rowsWith 1) (2 ∷ 0 ∷ []) (imageAt 1) ≡ refuse 11 0)
-      × (nextImage twoColumns (rowsWith 0) (2 ∷ 0 ∷ []) (imageAt 1) ≡ refuse 12 0)
-      × (nextImage twoColumns (rowsWith 1) onlySecond (imageAt 2) ≡ refuse 9 0)
-      × (nextImage twoColumns (rowsWith 1) (2 ∷ 0 ∷ []) (imageAt 1) ≡ refuse 9 1)
-      × (nextImage twoColumns (rowsWith 1) (2 ∷ 0 ∷ month13) (imageAt 1) ≡ refuse 10 1)
+      × (readRows 22 emptyRecord 0 [] ≡ refuse 16 0)
+      × (readRows 23 emptyRecord 1 (zeros 9) ≡ refuse 16 0)
+      × (readRows 30 emptyRecord 0 (zeros 10) ≡ refuse 15 8)
+      × (readRows 23 emptyRecord 0 (zeros 8 ++ (1 ∷ 0 ∷ [])) ≡ refuse 16 8)
+      × (readRows 23 emptyRecord 0 (zeros 7) ≡ refuse 1 6)
+      × (readRows 23 emptyRecord 0 (zeros 8 ++ (251 ∷ [])) ≡ refuse 2 8)
+  pub next-image : (nextImage [] (rowsWith 1) (2 ∷ 0 ∷ []) (imagesCursor 1) ≡ refuse 11 0)
+      × (nextImage twoColumns (rowsWith 0) (2 ∷ 0 ∷ []) (imagesCursor 1) ≡ refuse 12 0)
+      × (nextImage twoColumns (rowsWith 1) onlySecond (imagesCursor 2) ≡ refuse 9 0)
+      × (nextImage twoColumns (rowsWith 1) (2 ∷ 0 ∷ []) (imagesCursor 1) ≡ refuse 9 1)
+      × (nextImage twoColumns (rowsWith 1) (2 ∷ 0 ∷ month13) (imagesCursor 1) ≡ refuse 10 1)
   -- ---- `feed_abi`: what its calls refuse besides those of the calls that they stand over
   pub feed-check : answerOf (feedCheck [] 8 3 []) ≡ refuse 13 0
-  pub feed-column : (feedColumn [] 7 ≡ refuse 11 0) × (feedColumn noColumns 7 ≡ refuse 14 7)
+  pub feed-column : (feedColumn [] 7 ≡ refuse 11 0) × (feedColumn emptyRecord 7 ≡ refuse 14 7)
   pub feed-names : feedNames [] 8 3 ≡ refuse 13 0
   pub feed-put : answerOf (feedPut [] [] [] 0 0 0 [] [] []) ≡ refuse 13 0

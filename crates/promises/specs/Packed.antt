@@ -1,5 +1,5 @@
--- Packed integers, at any value: what is written is read back, wherever it stands and whatever stands behind it; and no bytes that are read as
--- a value are fewer than those that are written for it. `packed` in proofs/Packed.antt proves it. Assumes nothing.
+-- Packed integers, at any value: what is written is read back, wherever it stands and whatever stands behind it; and no bytes that are read
+-- as a value are fewer than those that are written for it. `packed` in proofs/Demand2/Packed.antt proves it. Assumes nothing.
 use Prim.Native.Nat.{ℕ, _+_, _≤_, _<_, _^_}
 use mathlib.Core.Path.{_≡_}
 use mathlib.Core.List.{List, _++_}

@@ -1,5 +1,5 @@
 -- The profile record: it is valid exactly if its bytes are as document 01 has them, told byte by byte and in numbers. `profiles` in
--- proofs/Profiles.antt proves it. Assumes nothing.
+-- proofs/Readings/Profiles.antt proves it. Assumes nothing.
 use Prim.Native.Nat.{ℕ, _+_, _*_, _/_, _%_, _≤_, _<_}
 use mathlib.Core.Path.{_≡_}
 use mathlib.Core.Bool.{true, false}
@@ -28,40 +28,40 @@ pub data Accepted : ℕ → ℕ → ℕ → Type 0 where
   char : (m0 m1 : ℕ) → isAmong m0 (0xce ∷ 0xde ∷ 0xee ∷ 0xfe ∷ []) ≡ true → Accepted 254 m0 m1
 
 -- the six bytes of a column: real type, flags, m0, m1, charset
-pub record ValidColumn (kind flags m0 m1 charset : ℕ) : Type 0 where
-  pub metadata : Accepted kind m0 m1
+pub record ValidColumn (real flags m0 m1 charset : ℕ) : Type 0 where
+  pub metadata : Accepted real m0 m1
   -- 1 unsigned, 2 nullable, 4 signedness known, 8 visible; the rest zero
   pub below-16 : flags < 16
   -- 1 only with 4
   pub unsigned : flags % 2 ≡ 1 → flags / 4 % 2 ≡ 1
   -- 4, and so 1, only on numeric columns
-  pub known : flags / 4 % 2 ≡ 1 → isAmong kind (1 ∷ 2 ∷ 3 ∷ 4 ∷ 5 ∷ 8 ∷ 9 ∷ 246 ∷ []) ≡ true
+  pub known : flags / 4 % 2 ≡ 1 → isAmong real (1 ∷ 2 ∷ 3 ∷ 4 ∷ 5 ∷ 8 ∷ 9 ∷ 246 ∷ []) ≡ true
   -- charset 0 on other than character, ENUM and SET columns
-  pub no-charset : isAmong kind (15 ∷ 247 ∷ 248 ∷ 252 ∷ 253 ∷ 254 ∷ []) ≡ false → charset ≡ 0
+  pub no-charset : isAmong real (15 ∷ 247 ∷ 248 ∷ 252 ∷ 253 ∷ 254 ∷ []) ≡ false → charset ≡ 0
 
 abbrev pub byte : List ℕ → ℕ → ℕ
-byte r i = getD r i 0
+byte profile i = getD profile i 0
 
-pub record ValidRecord (r : List ℕ) : Type 0 where
+pub record ValidRecord (profile : List ℕ) : Type 0 where
   -- length of the whole record, which has nothing after it
-  pub said : byte r 0 + 256 * byte r 1 ≡ length r
+  pub said : byte profile 0 + 256 * byte profile 1 ≡ length profile
   -- kind 1
-  pub kind-low : byte r 2 ≡ 1
-  pub kind-high : byte r 3 ≡ 0
+  pub kind-low : byte profile 2 ≡ 1
+  pub kind-high : byte profile 3 ≡ 0
   -- n, zero, and 6 bytes a column
-  pub zero : byte r 5 ≡ 0
-  pub whole : length r ≡ 6 + 6 * byte r 4
-  pub columns : (j : ℕ) → j < byte r 4
-      → ValidColumn (byte r (6 + 6 * j)) (byte r (7 + 6 * j)) (byte r (8 + 6 * j)) (byte r (9 + 6 * j))
-      (byte r (10 + 6 * j) + 256 * byte r (11 + 6 * j))
+  pub zero : byte profile 5 ≡ 0
+  pub whole : length profile ≡ 6 + 6 * byte profile 4
+  pub columns : (j : ℕ) → j < byte profile 4
+      → ValidColumn (byte profile (6 + 6 * j)) (byte profile (7 + 6 * j)) (byte profile (8 + 6 * j)) (byte profile (9 + 6 * j))
+      (byte profile (10 + 6 * j) + 256 * byte profile (11 + 6 * j))
 
 -- a column of a map is accepted exactly if its real type, m0 and m1 are so listed; of 254, "247, 248 as above, or 254"
-abbrev pub Listed : Declared → Type 0
-Listed c = Accepted (c .real) (c .m0) (c .m1) × (c .kind ≡ 254 → isAmong (c .real) (247 ∷ 248 ∷ 254 ∷ []) ≡ true)
+abbrev pub ListedColumn : Declared → Type 0
+ListedColumn c = Accepted (c .real) (c .m0) (c .m1) × (c .kind ≡ 254 → isAmong (c .real) (247 ∷ 248 ∷ 254 ∷ []) ≡ true)
 
 pub record Profiles : Type 0 where
-  pub valid-so : (r : List ℕ) → Bytes r → recordValid r ≡ true → ValidRecord r
-  pub so-valid : (r : List ℕ) → Bytes r → ValidRecord r → recordValid r ≡ true
+  pub valid-so : (profile : List ℕ) → Bytes profile → recordValid profile ≡ true → ValidRecord profile
+  pub so-valid : (profile : List ℕ) → Bytes profile → ValidRecord profile → recordValid profile ≡ true
   -- the check has the same table
-  pub accepted-so : (c : Declared) → c .real < 256 → c .m0 < 256 → c .m1 < 256 → isAccepted c ≡ true → Listed c
-  pub so-accepted : (c : Declared) → c .real < 256 → c .m0 < 256 → c .m1 < 256 → Listed c → isAccepted c ≡ true
+  pub accepted-so : (c : Declared) → c .real < 256 → c .m0 < 256 → c .m1 < 256 → isAccepted c ≡ true → ListedColumn c
+  pub so-accepted : (c : Declared) → c .real < 256 → c .m0 < 256 → c .m1 < 256 → ListedColumn c → isAccepted c ≡ true

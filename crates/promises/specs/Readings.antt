@@ -11,27 +11,26 @@ use Rattle.wire.specs.Outcome.{Outcome, ok, refused, refuse, after}
 use Rattle.wire.specs.Bits.{bitLsb0, bitMsb0}
 use Rattle.wire.specs.Packed.{readPacked, packedBytes}
 use Rattle.wire.specs.Parts.{part}
-use Rattle.temporal.specs.declared.kind.Kind.{Kind}
-use Rattle.temporal.specs.declared.kind.Kind.the-variants.{Datetime2, Time2}
+use Rattle.temporal.specs.declared.storage.Storage.{Storage}
+use Rattle.temporal.specs.declared.storage.Storage.the-variants.{Datetime2, Time2}
 use Rattle.temporal.specs.declared.parts.Temporal.{Temporal}
-use Rattle.temporal.specs.declared.parts.Temporal.the-variants.{At, Lasts}
 use Rattle.temporal.specs.Reading.{readTemporal}
 use Rattle.value.specs.declared.shape.Shape.the-variants.{Counted}
 use Rattle.value.specs.Columns.{charLength, shapeOf}
 use Rattle.value.specs.declared.classes.Dialect.the-variants.{Document}
-use Rattle.value.specs.Data.{Datum, null, int, uint, when}
+use Rattle.value.specs.Data.{Datum, null, int, uint, temporal}
 use Rattle.record.specs.Records.{recordBytes}
 use Rattle.table_map.specs.Events.{readEvent, partIn}
-use Rattle.map_check.specs.Ranks.{place}
+use Rattle.map_check.specs.Ranks.{tablePlace}
 use Rattle.map_check.specs.Check.{checkMap}
 use Rattle.map_check.specs.Names.{columnName, nameIn}
-use Rattle.image.specs.Walk.{walk as walkImage}
+use Rattle.image.specs.Walk.{walkImage}
 use Rattle.rows_event.specs.declared.parts.Extra.the-variants.{Absent, Data}
 use Rattle.rows_event.specs.declared.parts.Second.the-variants.{Absent as Absent₁, Bits}
 use Rattle.rows_event.specs.declared.event.Rows.{Rows}
 use Rattle.rows_event.specs.Events.{readRows}
 use Rattle.rows_event.specs.Images.{setOf, Met, imagesOf}
-use Rattle.promises.specs.Tables.{Each, both, column, worked, workedEvent, workedImage, workedAnswers}
+use Rattle.promises.specs.Tables.{EachRow, both, column, worked, workedEvent, workedImage, workedAnswers}
 use Rattle.promises.specs.Temporals.{Temporals}
 use Rattle.promises.specs.Metadata.{Metadata}
 use Rattle.promises.specs.Classes.{Classes}
@@ -42,10 +41,10 @@ use Rattle.promises.specs.Numbers.{Numbers}
 -- a reading: what is read, and the bytes that say it
 pub data Reading : Type 0 where
   packed : ℕ → List ℕ → Reading
-  temporal : Kind → List ℕ → Outcome Temporal → Reading
+  timed : Storage → List ℕ → Outcome Temporal → Reading
   char : ℕ → ℕ → ℕ → ℕ → Reading
   event : List ℕ → List ℕ → Reading
-  image : List ℕ → List ℕ → List ℕ → List (ℕ × Datum) → ℕ → Reading
+  walked : List ℕ → List ℕ → List ℕ → List (ℕ × Datum) → ℕ → Reading
 
 -- a temporal, read to the end of its bytes, or a refusal
 abbrev pub toEnd : List ℕ → Outcome Temporal → Outcome (Temporal × ℕ)
@@ -56,14 +55,14 @@ toEnd bytes (refused w) = refused w
 abbrev pub Holds : Reading → Type 0
 -- the number is written as these bytes, and they are read as it, to their end
 Holds (packed number bytes) = both (packedBytes number) (readPacked bytes 0) ≡ both bytes (ok (number, length bytes))
--- these bytes of a column of this kind are read as the temporal, to their end, or refused
-Holds (temporal kind bytes answer) = readTemporal kind 0 bytes 0 ≡ toEnd bytes answer
+-- these bytes of a column of this storage are read as the temporal, to their end, or refused
+Holds (timed storage bytes answer) = readTemporal storage 0 bytes 0 ≡ toEnd bytes answer
 -- a CHAR column with this metadata has this declared length, and its values so many length bytes
 Holds (char m0 m1 declared lengthBytes) = both (charLength m0 m1) (shapeOf (column 254 m0 m1)) ≡ both declared (Counted lengthBytes)
 -- the check of this event (post-header length 8), to document 01's letter, gives this record
 Holds (event bytes profile) = after (checkMap Document bytes 8) (λ es. ok (recordBytes es)) ≡ ok profile
 -- under this record and these presence bits the walk over this image gives these answers, and so many bytes used
-Holds (image profile presence im answers used) = walkImage profile presence im ≡ record { answers = answers; how = ok used }
+Holds (walked profile presence image answers used) = walkImage profile presence image ≡ record { answers = answers; how = ok used }
 
 unfoldable pub table : List Reading
 table =
@@ -71,19 +70,19 @@ table =
     ∷ packed 251 (0xfc ∷ 0xfb ∷ 0x00 ∷ [])
     ∷ packed 65536 (0xfd ∷ 0x00 ∷ 0x00 ∷ 0x01 ∷ [])
     -- -00:00:01.500000
-    ∷ temporal (Time2 2) (0x7f ∷ 0xff ∷ 0xfe ∷ 0xce ∷ [])
-    (ok (Lasts record { negative = true; hours = 0; minutes = 0; seconds = 1; micros = 500000 }))
+    ∷ timed (Time2 2) (0x7f ∷ 0xff ∷ 0xfe ∷ 0xce ∷ [])
+    (ok (Temporal.Time record { negative = true; hours = 0; minutes = 0; seconds = 1; micros = 500000 }))
     -- -00:00:00.990000
-    ∷ temporal (Time2 2) (0x7f ∷ 0xff ∷ 0xff ∷ 0x9d ∷ [])
-    (ok (Lasts record { negative = true; hours = 0; minutes = 0; seconds = 0; micros = 990000 }))
-    ∷ temporal (Time2 2) (0x7f ∷ 0xff ∷ 0xff ∷ 0x9c ∷ []) (refuse 10 0)
+    ∷ timed (Time2 2) (0x7f ∷ 0xff ∷ 0xff ∷ 0x9d ∷ [])
+    (ok (Temporal.Time record { negative = true; hours = 0; minutes = 0; seconds = 0; micros = 990000 }))
+    ∷ timed (Time2 2) (0x7f ∷ 0xff ∷ 0xff ∷ 0x9c ∷ []) (refuse 10 0)
     -- 2000-01-01 00:00:00
-    ∷ temporal (Datetime2 0) (0x99 ∷ 0x64 ∷ 0x42 ∷ 0x00 ∷ 0x00 ∷ [])
-    (ok (At record { year = 2000; month = 1; day = 1; hour = 0; minute = 0; second = 0; micros = 0 }))
+    ∷ timed (Datetime2 0) (0x99 ∷ 0x64 ∷ 0x42 ∷ 0x00 ∷ 0x00 ∷ [])
+    (ok (Temporal.Datetime record { year = 2000; month = 1; day = 1; hour = 0; minute = 0; second = 0; micros = 0 }))
     ∷ char 0xfe 0xff 255 1
     ∷ char 0xee 0x00 256 2
     ∷ event workedEvent worked
-    ∷ image worked (0x07 ∷ []) workedImage workedAnswers 9
+    ∷ walked worked (0x07 ∷ []) workedImage workedAnswers 9
     ∷ []
 
 -- packed integers: the least and the greatest of every form, and what is no such form
@@ -115,10 +114,10 @@ otherForms =
 unfoldable pub imageTable : List Reading
 imageTable =
     -- the second column absent and the third NULL: its null bit is the second
-    image worked (0x05 ∷ []) (0xfe ∷ 0xfe ∷ 0xff ∷ 0xff ∷ 0xff ∷ []) ((0, int (negsuc 1)) ∷ (2, null) ∷ []) 5
+    walked worked (0x05 ∷ []) (0xfe ∷ 0xfe ∷ 0xff ∷ 0xff ∷ 0xff ∷ []) ((0, int (negsuc 1)) ∷ (2, null) ∷ []) 5
     -- the first absent, and spare bits of presence set
-    ∷ image worked (0xfe ∷ []) (0x01 ∷ 0xc8 ∷ []) ((1, null) ∷ (2, uint 200) ∷ []) 2
-    ∷ image worked (0xf8 ∷ []) [] [] 0
+    ∷ walked worked (0xfe ∷ []) (0x01 ∷ 0xc8 ∷ []) ((1, null) ∷ (2, uint 200) ∷ []) 2
+    ∷ walked worked (0xf8 ∷ []) [] [] 0
     ∷ []
 
 -- ---- rows events
@@ -138,9 +137,9 @@ RowsHold x =
     ≡ both (ok (x .parts)) (record { images = x .images; how = ok tt })
 
 -- the answers of an image whose one column is a time of so many seconds and microseconds
-abbrev pub lasts : Bool → ℕ → ℕ → List (ℕ × Datum)
-lasts negative seconds micros =
-    (0, when (Lasts record { negative = negative; hours = 0; minutes = 0; seconds = seconds; micros = micros })) ∷ []
+abbrev pub timeAnswers : Bool → ℕ → ℕ → List (ℕ × Datum)
+timeAnswers negative seconds micros =
+    (0, temporal (Temporal.Time record { negative = negative; hours = 0; minutes = 0; seconds = seconds; micros = micros })) ∷ []
 
 unfoldable pub rowsTable : List RowsReading
 rowsTable =
@@ -172,8 +171,8 @@ rowsTable =
           ∷ 0x00 ∷ 0x7f ∷ 0xff ∷ 0xfe ∷ 0xce ∷ [];
       parts = record { flags = 1; extra = Data (part 10 0); before = part 11 1; after = Bits (part 12 1); images = 13 };
       images =
-          record { second = false; bytes = 0x00 ∷ 0x80 ∷ 0x00 ∷ 0x00 ∷ 0x00 ∷ []; answers = lasts false 0 0 }
-          ∷ record { second = true; bytes = 0x00 ∷ 0x7f ∷ 0xff ∷ 0xfe ∷ 0xce ∷ []; answers = lasts true 1 500000 }
+          record { second = false; bytes = 0x00 ∷ 0x80 ∷ 0x00 ∷ 0x00 ∷ 0x00 ∷ []; answers = timeAnswers false 0 0 }
+          ∷ record { second = true; bytes = 0x00 ∷ 0x7f ∷ 0xff ∷ 0xfe ∷ 0xce ∷ []; answers = timeAnswers true 1 500000 }
           ∷ [];
     }
     ∷ []
@@ -226,20 +225,20 @@ noColumns = record { flags = 1; extra = Absent; before = part 9 1; after = Absen
 -- ---- all tables
 pub record Readings : Type 0 where
   -- the readings that document 01 marks P
-  pub marked : Each Holds table
+  pub marked : EachRow Holds table
   -- packed integers at the ends of every form
-  pub packings : Each Holds packedTable
-  pub other-forms : Each ReadAs otherForms
+  pub packings : EachRow Holds packedTable
+  pub other-forms : EachRow ReadAs otherForms
   -- images with columns absent
-  pub images : Each Holds imageTable
+  pub images : EachRow Holds imageTable
   -- rows events, request 1
-  pub rows-read : Each RowsHold rowsTable
-  pub rows-refused : Each RowsRefused rowsRefusals
+  pub rows-read : EachRow RowsHold rowsTable
+  pub rows-refused : EachRow RowsRefused rowsRefusals
   -- "11, then 16 for another code"
   pub record-first : readRows 26 [] 42 [] ≡ refuse 11 0
   -- "a call per part, empty where refused": a part of an event, a name, and a second set where there is none
   pub no-part : partIn (λ e. e .database) (0x2a ∷ []) (readEvent (0x2a ∷ []) 8) ≡ []
-  pub no-name : nameIn (0x01 ∷ 0x61 ∷ []) (columnName (0x01 ∷ 0x61 ∷ []) [] (place 1)) ≡ []
+  pub no-name : nameIn (0x01 ∷ 0x61 ∷ []) (columnName (0x01 ∷ 0x61 ∷ []) [] (tablePlace 1)) ≡ []
   pub no-second : setOf noColumns (rowsBody (0x03 ∷ 0xf8 ∷ [])) true ≡ []
   -- a bit past the bytes is not set, whichever way they run
   pub bits-past : (bitLsb0 (0xff ∷ []) 8 ≡ false) × (bitMsb0 (0xff ∷ []) 8 ≡ false)

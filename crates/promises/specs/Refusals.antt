@@ -1,7 +1,7 @@
--- Demand 1: "A refusal is a number and a place from document 01's table, and lent buffers then hold what they held." For every public call that
--- can refuse: which refusals it gives and at which places; that their numbers are those of the table; and that a refusal leaves the buffer. A
--- call stands here by the definition that its contract equals, whatever it is lent. `refusals` in proofs/Refusals.antt proves all of it.
--- Assumes nothing.
+-- Demand 1: "A refusal is a number and a place from document 01's table, and lent buffers then hold what they held." For every public call
+-- that can refuse: which refusals it gives and at which places; that their numbers are those of the table; and that a refusal leaves the
+-- buffer. A call stands here by the definition that its contract equals, whatever it is lent. `refusals` in proofs/Demand1/Refusals.antt
+-- proves all of it. Assumes nothing.
 use Prim.Native.Nat.{ℕ, suc, _+_, _≤_, _<_}
 use mathlib.Core.Path.{_≡_}
 use mathlib.Core.Bool.{Bool, true, false, _&&_, _||_}
@@ -18,7 +18,7 @@ use Rattle.wire.specs.Stored.{store, answerOf, leftOf}
 use Rattle.wire.specs.declared.part.Part.{Part}
 use Rattle.wire.specs.Parts.{within}
 use Rattle.wire.specs.Layouts.{Layout, CutShort, NotPacked}
-use Rattle.temporal.specs.declared.kind.Kind.{Kind}
+use Rattle.temporal.specs.declared.storage.Storage.{Storage}
 use Rattle.temporal.specs.declared.parts.Temporal.{Temporal}
 use Rattle.temporal.specs.Reading.{readTemporal, writeTemporal}
 use Rattle.value.specs.declared.column.Column.{Column}
@@ -31,19 +31,19 @@ use Rattle.value.specs.Storing.{writeValue, sizeOf}
 use Rattle.value_parts.specs.Parts.{valueOf}
 use Rattle.table_map.specs.declared.field.Fields.{Fields}
 use Rattle.table_map.specs.Events.{readEvent}
-use Rattle.table_map.specs.Writes.{Parts, writeEvent, eventSize}
+use Rattle.table_map.specs.Writes.{EventParts, writeEvent, eventSize}
 use Rattle.table_map.specs.Lists.{step, integerItem, pairItem, stringItem, groupItem, defaultCharset}
 use Rattle.table_map.specs.Fields.{cutField, judgeField, fieldStep}
 use Rattle.table_map.specs.Layouts.{eventLayout, pairLayout, stringsLayout, groupLayout}
 use Rattle.record.specs.Records.{countOf, recordValid, readRecord}
-use Rattle.map_check.specs.declared.rank.Place.{Place}
+use Rattle.map_check.specs.declared.rank.TablePlace.{TablePlace}
 use Rattle.map_check.specs.Check.{check}
 use Rattle.map_check.specs.Names.{listOf, columnName, namesField}
 use Rattle.map_check.specs.Places.{TooMany, TypeNotTaken, MetadataWrong, InColumns, InFields, KeyRepeated, BeforeNames}
 use Rattle.image.specs.declared.cursor.Cursor.{Cursor}
 use Rattle.image.specs.Present.{countBits}
 use Rattle.image.specs.Split.{Slot, slotsAt, headOf, firstCursor, stepFrom}
-use Rattle.image.specs.Walk.{walk}
+use Rattle.image.specs.Walk.{walkImage}
 use Rattle.image.specs.Rows.{isNull}
 use Rattle.image.specs.Puts.{startImage, putFrom}
 use Rattle.rows_event.specs.declared.event.Rows.{Rows}
@@ -139,13 +139,15 @@ nameLines list column =
     ∷ 2 wherever NotPacked list (stringsLayout (suc column)) 0
     ∷ []
 
--- of a rows event under a record r: 15 at the length of the extra data; 16 at 0 for the code and the table id, and at the column count
+-- of a rows event under a record: 15 at the length of the extra data; 16 at 0 for the code and the table id, and at the column count
 abbrev pub rowsLines : ℕ → List ℕ → List ℕ → List Line
-rowsLines code r s = 11 at 0 ∷ 16 at 0 ∷ 15 at 8 ∷ 16 wherever CountUnlike s (rowsLayout code) (countOf r) ∷ laidOut s (rowsLayout code) 0
+rowsLines code profile s =
+    11 at 0 ∷ 16 at 0 ∷ 15 at 8 ∷ 16 wherever CountUnlike s (rowsLayout code) (countOf profile) ∷ laidOut s (rowsLayout code) 0
 
 -- ---- demand 1
 pub record EveryCall : Type 1 where
-  -- ---- `wire`. `read_le`, `read_be`, `wide`, `top_of`, `signed_of`, `in_halves`, `twos_of`, `packed_size`, `bytes_for`, `bit_lsb0`, `bit_msb0`, `part_of` and `has_room` refuse nothing;
+  -- ---- `wire`. `read_le`, `read_be`, `wide`, `top_of`, `signed_of`, `in_halves`, `twos_of`, `packed_size`, `bytes_for`, `bit_lsb0`,
+  -- `bit_msb0`, `part_of` and `has_room` refuse nothing;
   -- `refuse` makes a refusal
   -- `within`: the place that the caller names
   pub within-bytes : (s : List ℕ) (o n place : ℕ) → Only (within s o n place) (1 at place ∷ [])
@@ -153,39 +155,46 @@ pub record EveryCall : Type 1 where
   pub read-fixed : (k : ℕ) (s : List ℕ) (o : ℕ) → Only (readFixed k s o) (1 at o ∷ [])
   -- `read_packed`: the offset asked
   pub read-packed : (s : List ℕ) (o : ℕ) → Only (readPacked s o) (1 at o ∷ 2 at o ∷ [])
-  -- `write_packed`, `write_le`, `write_be`, `write_bytes`, and of `record` `write_entry` and `write_head`: each stores some bytes, from an offset on
-  pub write-bytes : (buf : List ℕ) (o : ℕ) (bytes : List ℕ) → Only (store buf o bytes) (8 at 0 ∷ [])
+  -- `write_packed`, `write_le`, `write_be`, `write_bytes`, and of `record` `write_entry` and `write_head`: each stores some bytes, from an
+  -- offset on
+  pub write-bytes : (buf : List ℕ) (o : ℕ) (bytes : List ℕ) → Only (store bytes buf o) (8 at 0 ∷ [])
   -- ---- `temporal`. The place is the one that the caller names. `temporal_size` and `in_domain` refuse nothing
   -- `read_temporal`, `write_temporal`
-  pub read-temporal : (k : Kind) (place : ℕ) (s : List ℕ) (o : ℕ) → Only (readTemporal k place s o) (9 at place ∷ 10 at place ∷ [])
-  pub write-temporal : (k : Kind) (place : ℕ) (buf : List ℕ) (o : ℕ) (t : Temporal) → Only (writeTemporal k place buf o t) (13 at place ∷ 8 at 0 ∷ [])
-  -- ---- `value`. The place is the one that the caller names, and 0 for a lone value. `is_accepted`, `family_of`, `is_known`, `declared_length`, `metadata_bytes`, `real_type`, `is_numeric`, `has_sign_bit`,
+  pub read-temporal : (k : Storage) (place : ℕ) (s : List ℕ) (o : ℕ) → Only (readTemporal k place s o) (9 at place ∷ 10 at place ∷ [])
+  pub write-temporal : (k : Storage) (place : ℕ) (buf : List ℕ) (o : ℕ) (t : Temporal)
+      → Only (writeTemporal k place t buf o) (13 at place ∷ 8 at 0 ∷ [])
+  -- ---- `value`. The place is the one that the caller names, and 0 for a lone value. `is_accepted`, `family_of`, `is_known`,
+  -- `declared_length`, `metadata_bytes`, `real_type`, `is_numeric`, `has_sign_bit`,
   -- `is_character`, `has_charset` and `is_enum_or_set` refuse nothing
   -- `read_value`, `read_lone`
-  pub read-value : (c : Column) (place : ℕ) (s : List ℕ) (o : ℕ) → Only (readValue (shapeOf c) place s o) (4 at place ∷ 5 at place ∷ 9 at place ∷ 10 at place ∷ [])
+  pub read-value : (c : Column) (place : ℕ) (s : List ℕ) (o : ℕ)
+      → Only (readValue (shapeOf c) place s o) (4 at place ∷ 5 at place ∷ 9 at place ∷ 10 at place ∷ [])
   -- `write_value`, `write_lone`
   pub write-value : (c : Column) (place : ℕ) (lent : List ℕ) (v : Value) (buf : List ℕ) (o : ℕ)
       → Only (writeValue (shapeOf c) place lent v buf o) (4 at place ∷ 5 at place ∷ 13 at place ∷ 8 at 0 ∷ [])
   -- `value_size`, `lone_size`
-  pub value-size : (c : Column) (place : ℕ) (lent : List ℕ) (v : Value) → Only (sizeOf (shapeOf c) place lent v) (4 at place ∷ 5 at place ∷ 13 at place ∷ [])
+  pub value-size : (c : Column) (place : ℕ) (lent : List ℕ) (v : Value)
+      → Only (sizeOf (shapeOf c) place lent v) (4 at place ∷ 5 at place ∷ 13 at place ∷ [])
   -- `shape_of`: the number, without a place, for a column that there is not
   pub shape-of : (c : Column) (n : ℕ) → shapeOf c ≡ NotTaken n → (n ≡ 4) ⊎ (n ≡ 5)
   -- ---- `value_parts`. `kind_of` and `parts_of` refuse nothing
-  -- `value_of`: a kind and parts that make no value
-  pub value-of : (kind : ℕ) (parts : List ℕ) → Only (valueOf kind parts) (13 at 0 ∷ [])
-  -- ---- `table_map`. `Fields::new` and `flag` refuse nothing; `database_name`, `table_name`, `column_types`, `column_metadata`, `nullable_bits` and `optional_metadata` hand back an
-  -- empty part where the event is refused
+  -- `value_of`: a sort and parts that make no value
+  pub value-of : (sort : ℕ) (parts : List ℕ) → Only (valueOf sort parts) (13 at 0 ∷ [])
+  -- ---- `table_map`. `Fields::new` and `flag` refuse nothing; `database_name`, `table_name`, `column_types`, `column_metadata`,
+  -- `nullable_bits` and `optional_metadata` hand back an empty part where the event is refused
   -- `read_event`
   pub read-event : (event : List ℕ) (postHeader : ℕ) → Only (readEvent event postHeader) (eventLines event postHeader)
   -- `write_event`, `event_size`
-  pub write-event : (p : Parts) (buf : List ℕ) → Only (writeEvent p buf) (13 at 0 ∷ 8 at 0 ∷ [])
-  pub event-size : (p : Parts) → Only (eventSize p) (13 at 0 ∷ 8 at 0 ∷ [])
+  pub write-event : (parts : EventParts) (buf : List ℕ) → Only (writeEvent parts buf) (13 at 0 ∷ 8 at 0 ∷ [])
+  pub event-size : (parts : EventParts) → Only (eventSize parts) (13 at 0 ∷ 8 at 0 ∷ [])
   -- `Fields::next`: the field's type byte, or its length's first byte behind it; a cursor past the bytes is 1 where it stands
-  pub next-field : (c : Fields) (s : List ℕ) → Only (fieldStep c s) (1 at c .at ∷ 1 at (c .at + 1) ∷ 2 at (c .at + 1) ∷ 6 at c .at ∷ 7 at c .at ∷ [])
+  pub next-field : (c : Fields) (s : List ℕ)
+      → Only (fieldStep c s) (1 at c .at ∷ 1 at (c .at + 1) ∷ 2 at (c .at + 1) ∷ 6 at c .at ∷ 7 at c .at ∷ [])
   -- `cut_field`: the place asked, if there is no type byte, or its length's first byte behind it
   pub cut-field : (s : List ℕ) (o : ℕ) → Only (cutField s o) (1 at o ∷ 1 at (o + 1) ∷ 2 at (o + 1) ∷ [])
   -- `Fields::judge`: where the cursor stands
-  pub judge-field : (c : Fields) (s : List ℕ) (f : ℕ × Part) → Only (judgeField (c .numeric) (c .columns) s (c .at) f) (6 at c .at ∷ 7 at c .at ∷ [])
+  pub judge-field : (c : Fields) (s : List ℕ) (f : ℕ × Part)
+      → Only (judgeField (c .numeric) (c .columns) s (c .at) f) (6 at c .at ∷ 7 at c .at ∷ [])
   -- `next` of `Integers` and `Strings`: where the cursor stands
   pub next-integer : (s : List ℕ) (o : ℕ) → Only (step integerItem s o) (1 at o ∷ 2 at o ∷ [])
   pub next-string : (s : List ℕ) (o : ℕ) → Only (step stringItem s o) (1 at o ∷ 2 at o ∷ [])
@@ -196,50 +205,61 @@ pub record EveryCall : Type 1 where
   pub default-charset : (value : List ℕ) → Only (defaultCharset value) (1 at 0 ∷ 2 at 0 ∷ [])
   -- ---- `record`. `entry_at`, `entry_in`, `entry_holds` and `column_of` refuse nothing
   -- `read_record`
-  pub read-record : (r : List ℕ) → Only (readRecord r) (11 at 0 ∷ [])
+  pub read-record : (profile : List ℕ) → Only (readRecord profile) (11 at 0 ∷ [])
   -- ---- `map_check`. `name_part` hands back an empty part where there is a refusal
   -- `check`: 1, 2, 6 and 7 at offsets of the event, 4 and 5 at columns
   pub check-map : (d : Dialect) (event : List ℕ) (postHeader : ℕ) (buf : List ℕ)
       → Only (check d event postHeader buf) (checkLines d event postHeader)
-  -- and it gives them whenever they are so, in 01's order: first what reading the event refuses, then that of the map. For room see `Checks`
+  -- and it gives them whenever they are so, in 01's order: first what reading the event refuses, then that of the map. For room see
+  -- `Checks`
   pub event-told : (d : Dialect) (event : List ℕ) (postHeader : ℕ) (buf : List ℕ) (w : Refusal) → readEvent event postHeader ≡ refused w
       → check d event postHeader buf ≡ refused w
   pub map-told : (d : Dialect) (event : List ℕ) (postHeader : ℕ) (buf : List ℕ) (w : Refusal) → Bytes event
       → OneOf (mapLines d event postHeader) w → check d event postHeader buf ≡ refused w
   -- `column_name`: the column asked, or an offset of the list that is looked at
-  pub column-name : (names operator : List ℕ) (c : Place) → Only (columnName names operator c) (nameLines (listOf names operator) (c .0))
+  pub column-name : (names operator : List ℕ) (c : TablePlace)
+      → Only (columnName names operator c) (nameLines (listOf names operator) (c .0))
   -- `names_field`: those of the event, and of its optional fields up to the names
   pub names-field : (d : Dialect) (event : List ℕ) (postHeader : ℕ) → Only (namesField d event postHeader) (namesLines d event postHeader)
-  -- ---- `image`; r is the record, p the presence bits. `count_bits` and `first_set` refuse nothing
+  -- ---- `image`; `profile` is the record. `count_bits` and `first_set` refuse nothing
   -- `read_head`, `first_cursor`
-  pub read-head : (r p : List ℕ) → Only (headOf r p) (11 at 0 ∷ 12 at 0 ∷ [])
-  pub first-cursor : (r p : List ℕ) → Only (firstCursor r p) (11 at 0 ∷ 12 at 0 ∷ [])
-  -- `Cursor::step`: 14 at the cursor's column; 9 at 0 in the null bits, at the cursor's column for an offset past the image, and else, as 10, at one of the record's columns
-  pub step-image : (r p im : List ℕ) (c : Cursor)
-      → Only (stepFrom r p im c) (11 at 0 ∷ 12 at 0 ∷ 14 at c .column ∷ 9 at 0 ∷ 9 at c .column ∷ 9 below countOf r ∷ 10 below countOf r ∷ [])
+  pub read-head : (profile presence : List ℕ) → Only (headOf profile presence) (11 at 0 ∷ 12 at 0 ∷ [])
+  pub first-cursor : (profile presence : List ℕ) → Only (firstCursor profile presence) (11 at 0 ∷ 12 at 0 ∷ [])
+  -- `Cursor::step`: 14 at the cursor's column; 9 at 0 in the null bits, at the cursor's column for an offset past the image, and else, as
+  -- 10, at one of the record's columns
+  pub step-image : (profile presence image : List ℕ) (c : Cursor)
+      → Only (stepFrom profile presence image c)
+      (11 at 0 ∷ 12 at 0 ∷ 14 at c .column ∷ 9 at 0 ∷ 9 at c .column ∷ 9 below countOf profile ∷ 10 below countOf profile ∷ [])
   -- "an offset past the image, its null bits whole, 9 at that column"
-  pub past-told : (r p im : List ℕ) (c : Cursor) → recordValid r ≡ true → length p ≡ bytesFor (countOf r) → c .column ≤ countOf r
-      → bytesFor (countBits p (countOf r)) ≤ length im → length im < c .offset → stepFrom r p im c ≡ refuse 9 (c .column)
+  pub past-told : (profile presence image : List ℕ) (c : Cursor) → recordValid profile ≡ true → length presence ≡ bytesFor (countOf profile)
+      → c .column ≤ countOf profile
+      → bytesFor (countBits presence (countOf profile)) ≤ length image → length image < c .offset
+      → stepFrom profile presence image c ≡ refuse 9 (c .column)
   -- `walk_end`: 9 at 0 in the null bits, and else, as 10, at one of the record's columns
-  pub walk-end : (r p im : List ℕ) → Only (walk r p im .how) (11 at 0 ∷ 12 at 0 ∷ 9 at 0 ∷ 9 below countOf r ∷ 10 below countOf r ∷ [])
+  pub walk-end : (profile presence image : List ℕ)
+      → Only (walkImage profile presence image .how) (11 at 0 ∷ 12 at 0 ∷ 9 at 0 ∷ 9 below countOf profile ∷ 10 below countOf profile ∷ [])
   -- `start`
-  pub start-image : (r p nulls buf : List ℕ) → Only (startImage r p nulls buf) (11 at 0 ∷ 12 at 0 ∷ 8 at 0 ∷ [])
+  pub start-image : (profile presence nulls buf : List ℕ) → Only (startImage profile presence nulls buf) (11 at 0 ∷ 12 at 0 ∷ 8 at 0 ∷ [])
   -- `Cursor::put`: 14 at the cursor's column, 13 at one of the record's columns
-  pub put-value : (r p nulls : List ℕ) (c : Cursor) (lent : List ℕ) (v : Value) (buf : List ℕ)
-      → Only (putFrom r p nulls c lent v buf) (11 at 0 ∷ 12 at 0 ∷ 14 at c .column ∷ 13 below countOf r ∷ 8 at 0 ∷ [])
+  pub put-value : (profile presence nulls : List ℕ) (c : Cursor) (lent : List ℕ) (v : Value) (buf : List ℕ)
+      → Only (putFrom profile presence nulls c lent v buf) (11 at 0 ∷ 12 at 0 ∷ 14 at c .column ∷ 13 below countOf profile ∷ 8 at 0 ∷ [])
   -- "13 where value and bit disagree on it", at the first present column at or after the cursor's
-  pub null-told : (r p nulls : List ℕ) (c : Cursor) (i : Slot) (is : List Slot) (lent : List ℕ) (v : Value) (buf : List ℕ)
-      → recordValid r ≡ true
-      → length p ≡ bytesFor (countOf r) → length nulls ≡ bytesFor (countBits p (countOf r)) → c .column ≤ countOf r
-      → slotsAt r p nulls (c .column) ≡ i ∷ is
-      → (isNull (datumOf lent v) ≡ i .null → ⊥) → putFrom r p nulls c lent v buf ≡ refuse 13 (i .present .column)
+  pub null-told : (profile presence nulls : List ℕ) (c : Cursor) (i : Slot) (is : List Slot) (lent : List ℕ) (v : Value) (buf : List ℕ)
+      → recordValid profile ≡ true
+      → length presence ≡ bytesFor (countOf profile) → length nulls ≡ bytesFor (countBits presence (countOf profile))
+      → c .column ≤ countOf profile
+      → slotsAt profile presence nulls (c .column) ≡ i ∷ is
+      → (isNull (datumOf lent v) ≡ i .null → ⊥) → putFrom profile presence nulls c lent v buf ≡ refuse 13 (i .present .column)
   -- ---- `rows_event`
   -- `read_rows`
-  pub read-rows : (code : ℕ) (r : List ℕ) (id : ℕ) (s : List ℕ) → Only (readRows code r id s) (rowsLines code r s)
+  pub read-rows : (code : ℕ) (profile : List ℕ) (id : ℕ) (s : List ℕ) → Only (readRows code profile id s) (rowsLines code profile s)
   -- `Images::next`: those of `walk_end`
-  pub next-image : (r : List ℕ) (w : Rows) (s : List ℕ) (c : Images) → Only (nextImage r w s c) (11 at 0 ∷ 12 at 0 ∷ 9 at 0 ∷ 9 below countOf r ∷ 10 below countOf r ∷ [])
+  pub next-image : (profile : List ℕ) (w : Rows) (s : List ℕ) (c : Images)
+      → Only (nextImage profile w s c) (11 at 0 ∷ 12 at 0 ∷ 9 at 0 ∷ 9 below countOf profile ∷ 10 below countOf profile ∷ [])
   -- ---- all calls
   -- every refusal so listed has a number of the table
-  pub numbered : {A : Type 0} (answer : Outcome A) (ls : List Line) (w : Refusal) → Only answer ls → answer ≡ refused w → isAmong (w .number) refusalNumbers ≡ true
+  pub numbered : {A : Type 0} (answer : Outcome A) (ls : List Line) (w : Refusal) → Only answer ls → answer ≡ refused w
+      → isAmong (w .number) refusalNumbers ≡ true
   -- where a writer answers a refusal, that is its rule's, and the buffer that it leaves is the one that it was lent
-  pub buffer-kept : {A : Type 0} (buf : List ℕ) (rule : Outcome (A × List ℕ)) (w : Refusal) → answerOf rule ≡ refused w → (rule ≡ refused w) × (leftOf buf rule ≡ buf)
+  pub buffer-kept : {A : Type 0} (buf : List ℕ) (rule : Outcome (A × List ℕ)) (w : Refusal) → answerOf rule ≡ refused w
+      → (rule ≡ refused w) × (leftOf buf rule ≡ buf)

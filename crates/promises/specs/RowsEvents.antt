@@ -1,5 +1,6 @@
--- Rows events, request 1: "Demands 2 and 3 then read for each image in turn; an event is accepted only if images cover it exactly." Under a record r, code and id being the event's code and the map's
--- table id, and s the event. `rows-events` in proofs/RowsEvents.antt proves all of it. Assumes nothing.
+-- Rows events, request 1: "Demands 2 and 3 then read for each image in turn; an event is accepted only if images cover it exactly." Under a
+-- record, which is `profile`, code and id being the event's code and the map's table id, and s the event. `rows-events` in
+-- proofs/RowsEvents.antt proves all of it. Assumes nothing.
 use Prim.Native.Nat.{ℕ}
 use mathlib.Core.Path.{_≡_}
 use mathlib.Core.Logic.{_⊎_}
@@ -11,17 +12,22 @@ use Rattle.wire.specs.Number.{Bytes}
 use Rattle.rows_event.specs.declared.event.Rows.{Rows}
 use Rattle.rows_event.specs.declared.images.Images.{Images}
 use Rattle.rows_event.specs.Events.{readRows}
-use Rattle.rows_event.specs.Images.{nextImage, onward, imagesFrom, imagesOf, Walked}
+use Rattle.rows_event.specs.Images.{nextImage, imagesOnward, imagesFrom, imagesOf, ImagesWalked}
 use Rattle.rows_event.specs.Says.{RowsSay}
 
 pub record RowsEvents : Type 0 where
-  -- the images of an event that was read are what the bytes behind its presence bits say: images that cover them exactly, in whole pairs for updates, each as demand 3 has it; or bytes left over where
-  -- no set has a column; or images and then the refusal of the first that fails
-  pub rows-walked : (code : ℕ) (r : List ℕ) (id : ℕ) (s : List ℕ) (w : Rows) → readRows code r id s ≡ ok w → Bytes s → RowsSay r w s (drop (w .images) s) (imagesOf r w s)
+  -- the images of an event that was read are what the bytes behind its presence bits say: images that cover them exactly, in whole pairs
+  -- for updates, each as demand 3 has it; or bytes left over where no set has a column; or images and then the refusal of the first that
+  -- fails
+  pub rows-walked : (code : ℕ) (profile : List ℕ) (id : ℕ) (s : List ℕ) (w : Rows) → readRows code profile id s ≡ ok w → Bytes s
+      → RowsSay profile w s (drop (w .images) s) (imagesOf profile w s)
   -- exactly so: whatever the bytes say is what the walk gives
-  pub rows-exactly : (code : ℕ) (r : List ℕ) (id : ℕ) (s : List ℕ) (w : Rows) (x : Walked) → readRows code r id s ≡ ok w → RowsSay r w s (drop (w .images) s) x → imagesOf r w s ≡ x
+  pub rows-exactly : (code : ℕ) (profile : List ℕ) (id : ℕ) (s : List ℕ) (w : Rows) (x : ImagesWalked) → readRows code profile id s ≡ ok w
+      → RowsSay profile w s (drop (w .images) s) x → imagesOf profile w s ≡ x
   -- under what was read, no step refuses the record or the presence bits: 9 or 10 alone
-  pub own-record : (code : ℕ) (r : List ℕ) (id : ℕ) (s : List ℕ) (w : Rows) (c : Images) (v : Refusal) → readRows code r id s ≡ ok w → Bytes s → nextImage r w s c ≡ refused v
+  pub own-record : (code : ℕ) (profile : List ℕ) (id : ℕ) (s : List ℕ) (w : Rows) (c : Images) (v : Refusal)
+      → readRows code profile id s ≡ ok w → Bytes s → nextImage profile w s c ≡ refused v
       → (v .number ≡ 9) ⊎ (v .number ≡ 10)
   -- the walk is its steps, which are what the library has, and they come to an end: from any cursor, over any parts, made up or not
-  pub image-by-image : (r : List ℕ) (w : Rows) (s : List ℕ) (c : Images) → imagesFrom r w s c ≡ onward (λ c′. imagesFrom r w s c′) r w s (nextImage r w s c)
+  pub image-by-image : (profile : List ℕ) (w : Rows) (s : List ℕ) (c : Images)
+      → imagesFrom profile w s c ≡ imagesOnward (λ c′. imagesFrom profile w s c′) profile w s (nextImage profile w s c)

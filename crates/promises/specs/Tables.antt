@@ -16,9 +16,9 @@ use Rattle.value.specs.Storing.{writeValue}
 
 infixr 60 _and_
 -- each row of a table holds
-pub data Each {A : Type 0} (P : A → Type 0) : List A → Type 0 where
-  done : Each P []
-  _and_ : {a : A} {l : List A} → P a → Each P l → Each P (a ∷ l)
+pub data EachRow {A : Type 0} (P : A → Type 0) : List A → Type 0 where
+  done : EachRow P []
+  _and_ : {a : A} {l : List A} → P a → EachRow P l → EachRow P (a ∷ l)
 
 -- two things said at once
 abbrev pub both : {A B : Type 0} → A → B → A × B
@@ -46,10 +46,10 @@ refusalNumber (refused w) = w .number
 -- ---- stored values
 -- a column of a type, m0 and m1, not flagged unsigned; and one that is, whose type has no metadata
 abbrev pub column : ℕ → ℕ → ℕ → Column
-column kind m0 m1 = record { kind = kind; m0 = m0; m1 = m1; unsigned = false }
+column real m0 m1 = record { real = real; m0 = m0; m1 = m1; unsigned = false }
 
 abbrev pub unsignedColumn : ℕ → Column
-unsignedColumn kind = record { kind = kind; m0 = 0; m1 = 0; unsigned = true }
+unsignedColumn real = record { real = real; m0 = 0; m1 = 0; unsigned = true }
 
 pub data Stored : Type 0 where
   -- a value of the column, and its stored bytes

@@ -1,5 +1,5 @@
 -- Maps: worked events with every optional field and their records, in each dialect; and worked refusals of the check, one at least for each
--- rule, each with its place. `worked-maps` in proofs/WorkedMaps.antt proves all of it. Assumes nothing.
+-- rule, each with its place. `worked-maps` in proofs/Readings/WorkedMaps.antt proves all of it. Assumes nothing.
 use Prim.Native.Nat.{ℕ, _+_}
 use mathlib.Core.Path.{_≡_}
 use mathlib.Core.List.{List, [], _∷_, _++_}
@@ -10,10 +10,10 @@ use Rattle.wire.specs.Parts.{part}
 use Rattle.value.specs.declared.classes.Dialect.{Dialect}
 use Rattle.value.specs.declared.classes.Dialect.the-variants.{Document, Mysql, Mariadb}
 use Rattle.table_map.specs.Events.{idBytes, readEvent}
-use Rattle.table_map.specs.Writes.{Parts, parts, writeEvent, eventSize}
+use Rattle.table_map.specs.Writes.{EventParts, eventParts, writeEvent, eventSize}
 use Rattle.table_map.specs.Fields.{fieldItem}
 use Rattle.map_check.specs.Check.{check}
-use Rattle.promises.specs.Tables.{Each, bytesThat, worked, workedEvent}
+use Rattle.promises.specs.Tables.{EachRow, bytesThat, worked, workedEvent}
 
 -- ---- accepted maps
 -- a dialect, a post-header length, an event and its record
@@ -358,19 +358,19 @@ abbrev pub IsCut : ℕ × ℕ → Type 0
 IsCut x = check Document (take (x .0) workedEvent) 8 [] ≡ refuse 1 (x .1)
 
 -- ---- the event's own parts, read and written
-abbrev pub workedParts : Parts
+abbrev pub workedParts : EventParts
 workedParts =
-    parts 42 1 (0x74 ∷ []) (0x72 ∷ []) (0x03 ∷ 0x0f ∷ 0x01 ∷ []) (0x14 ∷ 0x00 ∷ []) (0x02 ∷ []) (0x01 ∷ 0x01 ∷ 0x40 ∷ [])
+    eventParts 42 1 (0x74 ∷ []) (0x72 ∷ []) (0x03 ∷ 0x0f ∷ 0x01 ∷ []) (0x14 ∷ 0x00 ∷ []) (0x02 ∷ []) (0x01 ∷ 0x01 ∷ 0x40 ∷ [])
 
 -- no columns, and names of so many bytes
-abbrev pub bare : ℕ → ℕ → ℕ → List ℕ → Parts
-bare id database table bits = parts id 0 (replicate database 0x61) (replicate table 0x61) [] [] bits []
+abbrev pub bare : ℕ → ℕ → ℕ → List ℕ → EventParts
+bare id database table bits = eventParts id 0 (replicate database 0x61) (replicate table 0x61) [] [] bits []
 
 pub record WorkedMaps : Type 0 where
-  pub accepted : Each MapHolds mapTable
-  pub refused : Each IsRefused refusalTable
-  pub taken : Each IsAccepted takenTable
-  pub cut-short : Each IsCut cutPlaces
+  pub accepted : EachRow MapHolds mapTable
+  pub refused : EachRow IsRefused refusalTable
+  pub taken : EachRow IsAccepted takenTable
+  pub cut-short : EachRow IsCut cutPlaces
   -- 2: a count and a metadata length that are no packed integers
   pub count-2 : check Document (tableR (0xfb ∷ [])) 8 [] ≡ refuse 2 14
   pub length-2 : check Document (tableR (0x01 ∷ 0x03 ∷ 0xff ∷ [])) 8 [] ≡ refuse 2 16
@@ -411,8 +411,8 @@ pub record WorkedMaps : Type 0 where
   pub no-database : eventSize (bare 0 256 0 []) ≡ refuse 13 0
   pub no-table : eventSize (bare 0 0 256 []) ≡ refuse 13 0
   pub no-bits : eventSize (bare 0 0 0 (0x00 ∷ [])) ≡ refuse 13 0
-  pub eight-columns : eventSize (parts 0 0 [] [] (replicate 8 3) [] (0x00 ∷ []) []) ≡ ok 23
-  pub nine-columns : eventSize (parts 0 0 [] [] (replicate 9 3) [] (0x00 ∷ []) []) ≡ refuse 13 0
+  pub eight-columns : eventSize (eventParts 0 0 [] [] (replicate 8 3) [] (0x00 ∷ []) []) ≡ ok 23
+  pub nine-columns : eventSize (eventParts 0 0 [] [] (replicate 9 3) [] (0x00 ∷ []) []) ≡ refuse 13 0
   -- "the walk judges contents only so": names and charsets are the check's
   pub walk-names : fieldItem 2 7 (0x04 ∷ 0x00 ∷ []) 0 ≡ ok ((4, part 2 0), 2)
   pub walk-charset : fieldItem 2 7 (0x02 ∷ 0x02 ∷ 0x00 ∷ 0x09 ∷ []) 0 ≡ ok ((2, part 2 2), 4)

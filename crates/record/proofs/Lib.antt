@@ -1,5 +1,6 @@
--- The laws of the crate. `Places`: where an entry stands, as a machine has it. `Looks`: the entry of a column, by the bytes where it stands. `Turns`: entries one by one. `Valid`: what
--- a valid record says. `Made`: the record of columns is valid, and says them. `Views`: no two answers look the same on paper.
+-- The laws of the crate. `Places`: where an entry stands, as a machine has it. `Looks`: the entry of a column, by the bytes where it
+-- stands. `Turns`: entries one by one. `Valid`: what a valid record says. `Made`: the record of columns is valid, and says them. `Views`:
+-- no two answers look the same on paper.
 pub mod Places
 pub mod Looks
 pub mod Turns

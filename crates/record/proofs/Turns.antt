@@ -15,7 +15,8 @@ stops n r j h e =
     rw (k, e)
 
 -- else the rest decides
-pub goes-on : (n : ℕ) (r : List ℕ) (j : ℕ) → j < n → entryHolds (entryIn r j) ≡ true → entriesHold (n - j) r j ≡ entriesHold (n - (j + 1)) r (j + 1)
+pub goes-on : (n : ℕ) (r : List ℕ) (j : ℕ) → j < n → entryHolds (entryIn r j) ≡ true
+    → entriesHold (n - j) r j ≡ entriesHold (n - (j + 1)) r (j + 1)
 unfolding entriesHold
 goes-on n r j h e =
     let k : n - j ≡ suc (n - (j + 1)) = omega arith in

@@ -20,7 +20,8 @@ holds-at (suc m) r j zero e h =
     subst (λ (k : ℕ). entryHolds (entryIn r k) ≡ true) z (both-true (entryHolds (entryIn r j)) _ e .0)
 holds-at (suc m) r j (suc i) e h =
     let z : suc j + i ≡ j + suc i = omega arith in
-    subst (λ (k : ℕ). entryHolds (entryIn r k) ≡ true) z (holds-at m r (suc j) i (both-true (entryHolds (entryIn r j)) _ e .1) (omega arith))
+    subst (λ (k : ℕ). entryHolds (entryIn r k) ≡ true) z
+    (holds-at m r (suc j) i (both-true (entryHolds (entryIn r j)) _ e .1) (omega arith))
 
 -- every entry of a valid record may be there
 pub valid-entry : (r : List ℕ) (j : ℕ) → recordValid r ≡ true → j < countOf r → entryHolds (entryIn r j) ≡ true

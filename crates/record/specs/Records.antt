@@ -1,5 +1,5 @@
--- The record: "Length of the whole record (2 bytes), kind 1 (2), both little-endian, n (1), zero (1), then 6 bytes a column"; "a record with nothing after it is
--- valid if it obeys this". Assumes nothing.
+-- The record: "Length of the whole record (2 bytes), kind 1 (2), both little-endian, n (1), zero (1), then 6 bytes a column"; "a record
+-- with nothing after it is valid if it obeys this". Assumes nothing.
 use Prim.Native.Nat.{ℕ, zero, suc, _+_, _-_, _*_, _^_}
 use mathlib.Core.Bool.{Bool, true, cond, _&&_}
 use mathlib.Core.List.{List, [], _∷_, _++_}
@@ -18,7 +18,7 @@ mostColumns = 255
 
 -- how many it says it has, and where the entry of column j stands
 abbrev pub countOf : List ℕ → ℕ
-countOf r = getD r 4 0
+countOf profile = getD profile 4 0
 
 abbrev pub entryAt : ℕ → ℕ
 entryAt j = 6 + 6 * j
@@ -30,30 +30,30 @@ entryPlace j = cond (ltb (entryAt j) (2 ^ 64)) (entryAt j) (2 ^ 64 - 1)
 -- what it says of column j
 unfoldable pub entryIn : List ℕ → ℕ → Entry
 unfolding entryOf
-entryIn r j = entryOf (drop (entryAt j) r)
+entryIn profile j = entryOf (drop (entryAt j) profile)
 
 -- the m columns from j on
 unfoldable pub entriesHold : ℕ → List ℕ → ℕ → Bool
 unfolding entryHolds entryIn
-entriesHold zero r j = true
-entriesHold (suc m) r j = entryHolds (entryIn r j) && entriesHold m r (suc j)
+entriesHold zero profile j = true
+entriesHold (suc m) profile j = entryHolds (entryIn profile j) && entriesHold m profile (suc j)
 
 unfoldable pub headHolds : List ℕ → Bool
 unfolding leValue
-headHolds r =
-    leb 6 (length r)
-    && (eqb (leValue (take 2 r)) (length r)
-    && (eqb (leValue (take 2 (drop 2 r))) 1
-    && (eqb (getD r 5 0) 0 && eqb (length r) (entryAt (countOf r)))))
+headHolds profile =
+    leb 6 (length profile)
+    && (eqb (leValue (take 2 profile)) (length profile)
+    && (eqb (leValue (take 2 (drop 2 profile))) 1
+    && (eqb (getD profile 5 0) 0 && eqb (length profile) (entryAt (countOf profile)))))
 
 unfoldable pub recordValid : List ℕ → Bool
 unfolding headHolds entriesHold
-recordValid r = headHolds r && entriesHold (countOf r) r 0
+recordValid profile = headHolds profile && entriesHold (countOf profile) profile 0
 
 -- the call: how many columns, or refusal 11
 unfoldable pub readRecord : List ℕ → Outcome ℕ
 unfolding recordValid
-readRecord r = cond (recordValid r) (ok (countOf r)) (refuse 11 0)
+readRecord profile = cond (recordValid profile) (ok (countOf profile)) (refuse 11 0)
 
 -- the six bytes before the entries of n columns
 unfoldable pub headBytes : ℕ → List ℕ
@@ -71,6 +71,6 @@ unfolding headBytes entriesBytes
 recordBytes es = headBytes (length es) ++ entriesBytes es
 
 -- what the answer of the call says
-abbrev pub recordOf : RecordRead → Outcome ℕ
-recordOf (Valid columns) = ok columns
-recordOf (Refused r) = refused r
+abbrev pub recordTold : RecordRead → Outcome ℕ
+recordTold (Valid columns) = ok columns
+recordTold (Refused r) = refused r

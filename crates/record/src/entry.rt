@@ -2,12 +2,12 @@
 use value::Column;
 use wire::Written;
 ghost use mathlib.Core.Path.{_≡_};
-ghost use Rattle.wire.specs.Stored.{store, answerOf, leftOf, writtenOf};
+ghost use Rattle.wire.specs.Stored.{store, answerOf, leftOf, writtenTold};
 ghost use Rattle.record.specs.Entries.{columnOf, flagsHold, charsetHolds, entryHolds, entryBytes};
 
 pub struct Entry {
     // the real type
-    pub kind: u8,
+    pub real: u8,
     // 1 unsigned, 2 nullable, 4 signedness known, 8 visible
     pub flags: u8,
     pub m0: u8,
@@ -21,7 +21,7 @@ pub fn column_of(entry: Entry) -> Column
     ensures { λ r. ⌜ r ≡ columnOf entry ⌝ }
 {
     Column {
-        kind: entry.kind,
+        real: entry.real,
         m0: entry.m0,
         m1: entry.m1,
         unsigned: entry.flags % 2 == 1,
@@ -37,7 +37,7 @@ fn flags_hold(entry: Entry) -> bool
     if 16 <= entry.flags {
         return false;
     }
-    if value::is_numeric(entry.kind) {
+    if value::is_numeric(entry.real) {
         return unsigned <= known;
     }
     if unsigned != 0 {
@@ -50,10 +50,10 @@ fn flags_hold(entry: Entry) -> bool
 fn charset_holds(entry: Entry) -> bool
     ensures { λ r. ⌜ r ≡ charsetHolds entry ⌝ }
 {
-    if value::is_character(entry.kind) {
+    if value::is_character(entry.real) {
         return true;
     }
-    if value::is_enum_or_set(entry.kind) {
+    if value::is_enum_or_set(entry.real) {
         return true;
     }
     entry.charset == 0
@@ -73,12 +73,12 @@ pub fn entry_holds(entry: Entry) -> bool
 }
 
 // Writes the entry's six bytes from at on.
-pub fn write_entry(buf: &mut [u8], at: usize, entry: Entry) -> Written
-    ensures { λ r. ⌜ writtenOf r ≡ answerOf (store (now (buf .entry)) at (entryBytes entry)) ⌝ }
-    ensures { λ _. ⌜ now (buf .exit) ≡ leftOf (now (buf .entry)) (store (now (buf .entry)) at (entryBytes entry)) ⌝ }
+pub fn write_entry(entry: Entry, buf: &mut [u8], at: usize) -> Written
+    ensures { λ r. ⌜ writtenTold r ≡ answerOf (store (entryBytes entry) (now (buf .entry)) at) ⌝ }
+    ensures { λ _. ⌜ now (buf .exit) ≡ leftOf (now (buf .entry)) (store (entryBytes entry) (now (buf .entry)) at) ⌝ }
 {
     let low = (entry.charset % 256) as u8;
     let high = (entry.charset / 256 % 256) as u8;
-    let bytes = [entry.kind, entry.flags, entry.m0, entry.m1, low, high];
-    wire::write_bytes(buf, at, &bytes)
+    let bytes = [entry.real, entry.flags, entry.m0, entry.m1, low, high];
+    wire::write_bytes(&bytes, buf, at)
 }

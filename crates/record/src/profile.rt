@@ -6,8 +6,8 @@ use wire::Written;
 use wire::refusal::BAD_RECORD;
 ghost use mathlib.Core.Path.{_≡_};
 ghost use lib.ListN.{getD};
-ghost use Rattle.wire.specs.Stored.{store, answerOf, leftOf, writtenOf};
-ghost use Rattle.record.specs.Records.{countOf, entryPlace, entryIn, entriesHold, headHolds, readRecord, recordOf, headBytes};
+ghost use Rattle.wire.specs.Stored.{store, answerOf, leftOf, writtenTold};
+ghost use Rattle.record.specs.Records.{countOf, entryPlace, entryIn, entriesHold, headHolds, readRecord, recordTold, headBytes};
 
 // How many columns a record may have.
 pub const MOST_COLUMNS: usize = 255;
@@ -46,7 +46,8 @@ fn count_in(profile: &[u8]) -> usize
     byte_at(profile, 4) as usize
 }
 
-// Where the entry of a column stands. A place that fits no machine number is told as the greatest one, where no slice has a byte either, so that callers need no test of their own.
+// Where the entry of a column stands. A place that fits no machine number is told as the greatest one, where no slice has a byte either, so
+// that callers need no test of their own.
 pub fn entry_at(column: usize) -> usize
     ensures { λ r. ⌜ r ≡ entryPlace column ⌝ }
 {
@@ -63,7 +64,7 @@ pub fn entry_in(profile: &[u8], column: usize) -> Entry
     let at = entry_at(column);
     if profile.len() <= at {
         return Entry {
-            kind: 0,
+            real: 0,
             flags: 0,
             m0: 0,
             m1: 0,
@@ -72,7 +73,7 @@ pub fn entry_in(profile: &[u8], column: usize) -> Entry
     }
     let charset = wire::read_le(profile, at + 4, 2) as u16;
     Entry {
-        kind: byte_at(profile, at),
+        real: byte_at(profile, at),
         flags: byte_at(profile, at + 1),
         m0: byte_at(profile, at + 2),
         m1: byte_at(profile, at + 3),
@@ -115,7 +116,7 @@ fn head_holds(profile: &[u8]) -> bool
 
 // How many columns the record has, if it is valid and nothing stands after it; in one pass over it.
 pub fn read_record(profile: &[u8]) -> RecordRead
-    ensures { λ r. ⌜ recordOf r ≡ readRecord (now (profile .entry)) ⌝ }
+    ensures { λ r. ⌜ recordTold r ≡ readRecord (now (profile .entry)) ⌝ }
 {
     if !head_holds(profile) {
         return RecordRead::Refused(wire::refuse(BAD_RECORD, 0));
@@ -128,13 +129,13 @@ pub fn read_record(profile: &[u8]) -> RecordRead
 }
 
 // Writes the six bytes before the columns, at the buffer's start.
-pub fn write_head(buf: &mut [u8], n: u8) -> Written
-    ensures { λ r. ⌜ writtenOf r ≡ answerOf (store (now (buf .entry)) 0 (headBytes n)) ⌝ }
-    ensures { λ _. ⌜ now (buf .exit) ≡ leftOf (now (buf .entry)) (store (now (buf .entry)) 0 (headBytes n)) ⌝ }
+pub fn write_head(n: u8, buf: &mut [u8]) -> Written
+    ensures { λ r. ⌜ writtenTold r ≡ answerOf (store (headBytes n) (now (buf .entry)) 0) ⌝ }
+    ensures { λ _. ⌜ now (buf .exit) ≡ leftOf (now (buf .entry)) (store (headBytes n) (now (buf .entry)) 0) ⌝ }
 {
     let size = entry_at(n as usize);
     let low = (size % 256) as u8;
     let high = (size / 256 % 256) as u8;
     let bytes = [low, high, 1, 0, n, 0];
-    wire::write_bytes(buf, 0, &bytes)
+    wire::write_bytes(&bytes, buf, 0)
 }

@@ -14,26 +14,29 @@ use Rattle.wire.specs.Outcome.{Outcome, ok, refused, why, refuse}
 use Rattle.wire.specs.Bits.{bytesFor}
 use Rattle.wire.specs.Packed.{readFixed, readPacked}
 use Rattle.wire.specs.Parts.{part, lentPart, within}
-use Rattle.wire.specs.Layouts.{Form as WireForm, integer, sized, Whole, all-bytes, all-sized, Layout, _then_, Starts, count as at-count, behind as behind-part}
+use Rattle.wire.specs.Layouts.{PartForm, integer, sized, Whole, all-bytes, all-sized, Layout, _then_, Starts, count as at-count}
+use Rattle.wire.specs.Layouts.{behind as behind-part}
 use Rattle.wire.proofs.Outcomes.{same-ok, same-refused, ok-not-refused, after-is-ok, after-refuses, test-is-ok, by-test}
 use Rattle.wire.specs.Number.{Bytes}
 use Rattle.wire.proofs.Inverse.{bytes-drop}
 use Rattle.wire.proofs.Parts.{within-ok, part-length, lent-is, fixed-ok}
 use Rattle.record.specs.Records.{countOf, recordValid, readRecord}
 use Rattle.record.proofs.Valid.{read-valid}
-use Rattle.image.specs.Walk.{walk}
-use Rattle.image.specs.Rows.{Refusals, in-nulls, at-column}
-use Rattle.image.proofs.Images.{no-other}
+use Rattle.image.specs.Walk.{walkImage}
+use Rattle.image.specs.Rows.{WalkRefusal, in-nulls, at-column}
+use Rattle.image.proofs.EndLaws.Images.{no-other}
 use Rattle.rows_event.specs.declared.form.Form.{Form}
 use Rattle.rows_event.specs.declared.parts.Extra.{Extra}
 use Rattle.rows_event.specs.declared.parts.Second.{Second}
 use Rattle.rows_event.specs.declared.parts.Sets.{Sets}
-use Rattle.rows_event.specs.declared.parts.Parts.{Parts}
+use Rattle.rows_event.specs.declared.parts.RowsParts.{RowsParts}
 use Rattle.rows_event.specs.declared.event.Rows.{Rows}
 use Rattle.rows_event.specs.declared.images.Images.{Images}
-use Rattle.rows_event.specs.Events.{formOf, extraData, extraAt, secondSet, secondAt, setsAt, readSets, readParts, rowsOf, fitting, readRows}
+use Rattle.rows_event.specs.Events.{formOf, extraData, extraAt, secondSet, secondAt, setsAt, readSets, readParts, rowsOf, fitting}
+use Rattle.rows_event.specs.Events.{readRows}
 use Rattle.rows_event.specs.Layouts.{setsLayout, formLayout}
-use Rattle.rows_event.specs.Images.{isThere, inPairs, secondBits, setOf, isEmpty, Told, image, end, isSecond, behind, nextImage}
+use Rattle.rows_event.specs.Images.{isThere, inPairs, secondBits, setOf, isEmpty, ImageStepped, imageMet, end, isSecond, behindImage}
+use Rattle.rows_event.specs.Images.{nextImage}
 use Rattle.rows_event.proofs.Says.{Fits, cursor-set}
 
 -- a part of n bytes that ends within those lent
@@ -56,7 +59,8 @@ second-sized true n s at x l e =
     subst (λ (y : Second × ℕ). (isThere (y .0) ≡ true → length (secondBits s (y .0)) ≡ n) × (y .1 ≤ length s)) q
     (λ t. lent-length s at n (omega (arith, h .0, h .1)), h .1)
 second-sized false n s at x l e =
-    subst (λ (y : Second × ℕ). (isThere (y .0) ≡ true → length (secondBits s (y .0)) ≡ n) × (y .1 ≤ length s)) (same-ok e) (λ t. absurd (true≢false (sym t)), l)
+    subst (λ (y : Second × ℕ). (isThere (y .0) ≡ true → length (secondBits s (y .0)) ≡ n) × (y .1 ≤ length s)) (same-ok e)
+    (λ t. absurd (true≢false (sym t)), l)
 
 sets-sized : (second : Bool) (count : ℕ) (s : List ℕ) (at : ℕ) (x : Sets) → setsAt second count s at ≡ ok x
     → (x .count ≡ count) × Sized s (bytesFor count) (x .before) (x .after) (x .images)
@@ -70,7 +74,8 @@ sets-sized second count s at x e =
     subst (λ (y : Sets). (y .count ≡ count) × Sized s n (y .before) (y .after) (y .images)) (same-ok (b .2))
     (refl, record { before = lent-length s at n (omega (arith, h .0, h .1)); after = k .0; place = k .1 })
 
-parts-sized : (f : Form) (s : List ℕ) (p : Parts) → readParts f s ≡ ok p → Sized s (bytesFor (p .sets .count)) (p .sets .before) (p .sets .after) (p .sets .images)
+parts-sized : (f : Form) (s : List ℕ) (p : RowsParts) → readParts f s ≡ ok p
+    → Sized s (bytesFor (p .sets .count)) (p .sets .before) (p .sets .after) (p .sets .images)
 unfolding readParts readSets
 parts-sized f s p e =
     let i = after-is-ok (readFixed 6 s 0) _ p e in
@@ -80,7 +85,7 @@ parts-sized f s p e =
     let n = after-is-ok (readPacked s (x .0 .1)) _ (t .0) (t .1) in
     let k = sets-sized (f .second) (n .0 .0) s (n .0 .1) (t .0) (n .2) in
     let z = subst (λ (j : ℕ). Sized s (bytesFor j) (t .0 .before) (t .0 .after) (t .0 .images)) (sym (k .0)) (k .1) in
-    subst (λ (y : Parts). Sized s (bytesFor (y .sets .count)) (y .sets .before) (y .sets .after) (y .sets .images)) (same-ok (t .2)) z
+    subst (λ (y : RowsParts). Sized s (bytesFor (y .sets .count)) (y .sets .before) (y .sets .after) (y .sets .images)) (same-ok (t .2)) z
 
 -- ---- where the count stands: behind the extra data, if there is such
 extra-whole : (s : List ℕ) (x : Extra × ℕ) → extraAt true s 8 ≡ ok x → Whole s sized 8 (x .1)
@@ -97,7 +102,7 @@ extra-whole s x e =
     subst (λ (y : ℕ). Whole s sized 8 y) q (all-sized (sym (f .value)) l (omega (arith, i .0, i .1))))
 
 -- what starts behind it
-pub behind-extra : (has : Bool) (s : List ℕ) (l : Layout) (x : Extra × ℕ) → extraAt has s 8 ≡ ok x → {f : WireForm} {q : ℕ}
+pub behind-extra : (has : Bool) (s : List ℕ) (l : Layout) (x : Extra × ℕ) → extraAt has s 8 ≡ ok x → {f : PartForm} {q : ℕ}
     → Starts s l (x .1) f q
     → Starts s (cond has (sized then l) l) 8 f q
 unfolding extraAt
@@ -106,12 +111,12 @@ behind-extra false s l x e {f} {q} a =
     let z : 8 ≡ x .1 = ap (λ (y : Extra × ℕ). y .1) (same-ok e) in
     subst (λ (o : ℕ). Starts s l o f q) (sym z) a
 
-pub record CountedAt (f : Form) (s : List ℕ) (p : Parts) : Type 0 where
+pub record CountedAt (f : Form) (s : List ℕ) (p : RowsParts) : Type 0 where
   pub starts : Starts s (formLayout f) 0 integer (p .counted)
   pub next : ℕ
   pub read : readPacked s (p .counted) ≡ ok (p .sets .count, next)
 
-pub counted-at : (f : Form) (s : List ℕ) (p : Parts) → readParts f s ≡ ok p → CountedAt f s p
+pub counted-at : (f : Form) (s : List ℕ) (p : RowsParts) → readParts f s ≡ ok p → CountedAt f s p
 unfolding readParts readSets
 counted-at f s p e =
     let i = after-is-ok (readFixed 6 s 0) _ p e in
@@ -124,13 +129,15 @@ counted-at f s p e =
     subst (CountedAt f s) (same-ok (y .2)) (record {
       starts =
           behind-part (all-bytes (omega (arith, b .next-is, b .ends)))
-          (behind-part (all-bytes (omega (arith, b .next-is, b .ends))) (behind-extra (f .extra) s (setsLayout (f .second)) (x .0) (x .1) at-count));
+          (behind-part (all-bytes (omega (arith, b .next-is, b .ends)))
+          (behind-extra (f .extra) s (setsLayout (f .second)) (x .0) (x .1) at-count));
       next = n .0 .1;
       read = n .1 ∙ ap (λ (m : ℕ). ok (m, n .0 .1)) (sym (k .0));
     })
 
 -- ---- the event
-fits-sized : (r : List ℕ) (w : Rows) (s : List ℕ) → recordValid r ≡ true → Sized s (bytesFor (countOf r)) (w .before) (w .after) (w .images) → Fits r w s
+fits-sized : (r : List ℕ) (w : Rows) (s : List ℕ) → recordValid r ≡ true → Sized s (bytesFor (countOf r)) (w .before) (w .after) (w .images)
+    → Fits r w s
 fits-sized r w s v z = record { valid = v; sets = sets }
   where
     sets : (b : Bool) → (inPairs w ≡ false → b ≡ false) → length (setOf w s b) ≡ bytesFor (countOf r)
@@ -142,7 +149,8 @@ fits-sized r w s v z = record { valid = v; sets = sets }
         go false e = absurd (true≢false (g e))
 
 -- of two tests that a chain passed, the second and what it gave
-two-tests : (a b : Bool) (x : Rows) (v v′ : Refusal) (w : Rows) → cond a (cond b (ok x) (refused v)) (refused v′) ≡ ok w → (b ≡ true) × (x ≡ w)
+two-tests : (a b : Bool) (x : Rows) (v v′ : Refusal) (w : Rows) → cond a (cond b (ok x) (refused v)) (refused v′) ≡ ok w
+    → (b ≡ true) × (x ≡ w)
 two-tests true b x v v′ w e = test-is-ok b x v w e
 two-tests false b x v v′ w e = absurd (ok-not-refused (sym e))
 
@@ -155,26 +163,33 @@ accepted code r id s w e =
     let p = after-is-ok (readParts (f .0) s) _ w (f .2) in
     let a = two-tests (eqb (p .0 .id) id) (eqb (p .0 .sets .count) (n .0)) (rowsOf (p .0)) (why 16 (p .0 .counted)) (why 16 0) w (p .2) in
     let c : p .0 .sets .count ≡ countOf r = eqb-true (p .0 .sets .count) (n .0) (a .0) ∙ v .1 in
-    let z = subst (λ (j : ℕ). Sized s (bytesFor j) (p .0 .sets .before) (p .0 .sets .after) (p .0 .sets .images)) c (parts-sized (f .0) s (p .0) (p .1)) in
+    let z =
+    subst (λ (j : ℕ). Sized s (bytesFor j) (p .0 .sets .before) (p .0 .sets .after) (p .0 .sets .images)) c
+    (parts-sized (f .0) s (p .0) (p .1)) in
     let y = subst (λ (x : Rows). Sized s (bytesFor (countOf r)) (x .before) (x .after) (x .images)) (a .1) z in
     (fits-sized r w s (v .0) y, y .place)
 
 -- ---- a step under what was read refuses with 9 or 10 alone
-refusal-number : {r p im : List ℕ} {v : Refusal} → Refusals r p im v → (v .number ≡ 9) ⊎ (v .number ≡ 10)
+refusal-number : {r p im : List ℕ} {v : Refusal} → WalkRefusal r p im v → (v .number ≡ 9) ⊎ (v .number ≡ 10)
 refusal-number (in-nulls l) = inl refl
 refusal-number (at-column n j e a) = e
 
-pub own-record : (r : List ℕ) (w : Rows) (s : List ℕ) (c : Images) (v : Refusal) → Fits r w s → Bytes s → nextImage r w s c ≡ refused v → (v .number ≡ 9) ⊎ (v .number ≡ 10)
+pub own-record : (r : List ℕ) (w : Rows) (s : List ℕ) (c : Images) (v : Refusal) → Fits r w s → Bytes s → nextImage r w s c ≡ refused v
+    → (v .number ≡ 9) ⊎ (v .number ≡ 10)
 unfolding nextImage
 own-record r w s c v f y e =
     by-test (ltb (length s) (c .at)) (refuse 9 0) _ (refused v) e (λ t q. left-short q)
-    (λ t q. by-test (eqb (c .at) (length s) && not (isSecond w c)) (ok end) _ (refused v) q (λ t q. absurd (ok-not-refused q)) (λ t q. read (after-refuses (walk r (setOf w s (isSecond w c)) (drop (c .at) s) .how) _ v q)))
+    (λ t q. by-test (eqb (c .at) (length s) && not (isSecond w c)) (ok end) _ (refused v) q (λ t q. absurd (ok-not-refused q))
+    (λ t q. read (after-refuses (walkImage r (setOf w s (isSecond w c)) (drop (c .at) s) .how) _ v q)))
   where
-    left-short : _≡_ {A = Outcome Told} (refuse 9 0) (refused v) → (v .number ≡ 9) ⊎ (v .number ≡ 10)
+    left-short : _≡_ {A = Outcome ImageStepped} (refuse 9 0) (refused v) → (v .number ≡ 9) ⊎ (v .number ≡ 10)
     left-short q = inl (sym (ap (λ (x : Refusal). x .number) (same-refused q)))
 
-    read : (walk r (setOf w s (isSecond w c)) (drop (c .at) s) .how ≡ refused v)
-        ⊎ ((u : ℕ) × (walk r (setOf w s (isSecond w c)) (drop (c .at) s) .how ≡ ok u)
-        × (cond (isEmpty r w s) (refuse 9 0) (ok (image (part (c .at) u) (isSecond w c) (behind w (c .at + u) (isSecond w c)))) ≡ refused v)) → (v .number ≡ 9) ⊎ (v .number ≡ 10)
-    read (inl q) = refusal-number (no-other r (setOf w s (isSecond w c)) (drop (c .at) s) v (f .valid) (f .sets (isSecond w c) (cursor-set w c)) (bytes-drop (c .at) s y) q)
+    read : (walkImage r (setOf w s (isSecond w c)) (drop (c .at) s) .how ≡ refused v)
+        ⊎ ((u : ℕ) × (walkImage r (setOf w s (isSecond w c)) (drop (c .at) s) .how ≡ ok u)
+        × (cond (isEmpty r w s) (refuse 9 0) (ok (imageMet (part (c .at) u) (isSecond w c) (behindImage w (c .at + u) (isSecond w c))))
+        ≡ refused v)) → (v .number ≡ 9) ⊎ (v .number ≡ 10)
+    read (inl q) =
+        refusal-number (no-other r (setOf w s (isSecond w c)) (drop (c .at) s) v (f .valid) (f .sets (isSecond w c) (cursor-set w c))
+        (bytes-drop (c .at) s y) q)
     read (inr x) = by-test (isEmpty r w s) (refuse 9 0) _ (refused v) (x .2) (λ t q. left-short q) (λ t q. absurd (ok-not-refused q))

@@ -1,4 +1,5 @@
--- The laws of the crate. `Steps`: what a step tells, and that the walk ends. `Says`: the walk gives what the bytes say, and nothing else. `Accepted`: what is known of an event that was read. `Views`: no two answers look the same on paper.
+-- The laws of the crate. `Steps`: what a step tells, and that the walk ends. `Says`: the walk gives what the bytes say, and nothing else.
+-- `Accepted`: what is known of an event that was read. `Views`: no two answers look the same on paper.
 pub mod Steps
 pub mod Says
 pub mod Accepted

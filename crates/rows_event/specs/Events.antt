@@ -1,6 +1,7 @@
--- The rows event, in document 02's order: "Six-byte table id, two flag bytes, in the second edition a two-byte length that counts itself and then extra data, packed column count, presence
--- bits, for updates a second set, then images to the end." One rule for both editions: the extra data is a part that may be absent. "Refusals: 11, then 16 for another code; 1, 2 and 15, an
--- extra length below 2, as met; 16 for a table id unlike the map's, then a column count unlike the record's (15 and 16 at their field, a code at 0)". Assumes nothing.
+-- The rows event, in document 02's order: "Six-byte table id, two flag bytes, in the second edition a two-byte length that counts itself
+-- and then extra data, packed column count, presence bits, for updates a second set, then images to the end." One rule for both editions:
+-- the extra data is a part that may be absent. "Refusals: 11, then 16 for another code; 1, 2 and 15, an extra length below 2, as met; 16
+-- for a table id unlike the map's, then a column count unlike the record's (15 and 16 at their field, a code at 0)". Assumes nothing.
 use Prim.Native.Nat.{ℕ, _+_, _-_}
 use mathlib.Core.Bool.{Bool, true, false, cond}
 use mathlib.Core.List.{List}
@@ -11,27 +12,18 @@ use Rattle.wire.specs.Packed.{readFixed, readPacked}
 use Rattle.wire.specs.Parts.{part, within}
 use Rattle.record.specs.Records.{readRecord}
 use Rattle.rows_event.specs.declared.form.Form.{Form}
-use Rattle.rows_event.specs.declared.form.FormRead.{FormRead}
-use Rattle.rows_event.specs.declared.form.FormRead.the-variants.{Read, Refused}
 use Rattle.rows_event.specs.declared.parts.Extra.{Extra}
 use Rattle.rows_event.specs.declared.parts.Extra.the-variants.{Absent, Data}
 use Rattle.rows_event.specs.declared.parts.Second.{Second}
 use Rattle.rows_event.specs.declared.parts.Second.the-variants.{Absent as Absent₁, Bits}
-use Rattle.rows_event.specs.declared.parts.ExtraRead.{ExtraRead}
-use Rattle.rows_event.specs.declared.parts.ExtraRead.the-variants.{Read as Read₁, Refused as Refused₁}
-use Rattle.rows_event.specs.declared.parts.SecondRead.{SecondRead}
-use Rattle.rows_event.specs.declared.parts.SecondRead.the-variants.{Read as Read₂, Refused as Refused₂}
 use Rattle.rows_event.specs.declared.parts.Sets.{Sets}
-use Rattle.rows_event.specs.declared.parts.SetsRead.{SetsRead}
-use Rattle.rows_event.specs.declared.parts.SetsRead.the-variants.{Read as Read₃, Refused as Refused₃}
-use Rattle.rows_event.specs.declared.parts.Parts.{Parts}
-use Rattle.rows_event.specs.declared.parts.PartsRead.{PartsRead}
-use Rattle.rows_event.specs.declared.parts.PartsRead.the-variants.{Read as Read₄, Refused as Refused₄}
+use Rattle.rows_event.specs.declared.parts.RowsParts.{RowsParts}
 use Rattle.rows_event.specs.declared.event.Rows.{Rows}
 use Rattle.rows_event.specs.declared.event.RowsRead.{RowsRead}
 use Rattle.rows_event.specs.declared.event.RowsRead.the-variants.{Read as Read₅, Refused as Refused₅}
 
--- what the code says: whether there is extra data, and whether there is a second set. 23, 24, 25 are write, update, delete, and 30, 31, 32 the same in the second edition
+-- what the code says: whether there is extra data, and whether there is a second set. 23, 24, 25 are write, update, delete, and 30, 31, 32
+-- the same in the second edition
 abbrev pub form : Bool → Bool → Form
 form extra second = record { extra = extra; second = second }
 
@@ -82,7 +74,7 @@ unfolding readPacked setsAt
 readSets second s at = after (readPacked s at) (λ n. setsAt second (n .0) s (n .1))
 
 -- all parts in order
-unfoldable pub readParts : Form → List ℕ → Outcome Parts
+unfoldable pub readParts : Form → List ℕ → Outcome RowsParts
 unfolding readFixed extraAt readSets
 readParts f s =
     after (readFixed 6 s 0) (λ id.
@@ -92,42 +84,21 @@ readParts f s =
     ok (record { id = id .0; flags = flags .0; extra = x .0; counted = x .1; sets = sets })))))
 
 -- what is handed on of them
-abbrev pub rowsOf : Parts → Rows
+abbrev pub rowsOf : RowsParts → Rows
 rowsOf p = record { flags = p .flags; extra = p .extra; before = p .sets .before; after = p .sets .after; images = p .sets .images }
 
 -- an event of the map's table and of the record's columns
-unfoldable pub fitting : Parts → ℕ → ℕ → Outcome Rows
+unfoldable pub fitting : RowsParts → ℕ → ℕ → Outcome Rows
 fitting p id columns = cond (eqb (p .id) id) (cond (eqb (p .sets .count) columns) (ok (rowsOf p)) (refuse 16 (p .counted))) (refuse 16 0)
 
--- the call: the record r, the code, the map's table id, and the event's bytes
+-- the call: the code, the record, the map's table id, and the event's bytes
 unfoldable pub readRows : ℕ → List ℕ → ℕ → List ℕ → Outcome Rows
 unfolding readRecord formOf readParts fitting
-readRows code r id s =
-    after (readRecord r) (λ columns.
+readRows code profile id s =
+    after (readRecord profile) (λ columns.
     after (formOf code) (λ f.
     after (readParts f s) (λ p.
     fitting p id columns)))
-
--- ---- what the answers say
-abbrev pub formTold : FormRead → Outcome Form
-formTold (Read f) = ok f
-formTold (Refused v) = refused v
-
-abbrev pub extraTold : ExtraRead → Outcome (Extra × ℕ)
-extraTold (Read₁ c) = ok (c .extra, c .next)
-extraTold (Refused₁ v) = refused v
-
-abbrev pub secondTold : SecondRead → Outcome (Second × ℕ)
-secondTold (Read₂ c) = ok (c .second, c .next)
-secondTold (Refused₂ v) = refused v
-
-abbrev pub setsTold : SetsRead → Outcome Sets
-setsTold (Read₃ x) = ok x
-setsTold (Refused₃ v) = refused v
-
-abbrev pub partsTold : PartsRead → Outcome Parts
-partsTold (Read₄ p) = ok p
-partsTold (Refused₄ v) = refused v
 
 abbrev pub rowsTold : RowsRead → Outcome Rows
 rowsTold (Read₅ w) = ok w

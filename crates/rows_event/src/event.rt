@@ -2,8 +2,8 @@
 use crate::form::FormRead;
 use crate::form::form_of;
 use crate::parts::Extra;
-use crate::parts::Parts;
-use crate::parts::PartsRead;
+use crate::parts::RowsParts;
+use crate::parts::RowsPartsRead;
 use crate::parts::Second;
 use crate::parts::read_parts;
 use record::RecordRead;
@@ -30,7 +30,7 @@ pub enum RowsRead {
 }
 
 // The event, if it is one of the map's table and of the record's columns.
-fn fit(parts: Parts, table: u64, columns: usize) -> RowsRead
+fn fit(parts: RowsParts, table: u64, columns: usize) -> RowsRead
     ensures { λ r. ⌜ rowsTold r ≡ fitting parts table columns ⌝ }
 {
     if parts.id != table {
@@ -52,7 +52,8 @@ fn fit(parts: Parts, table: u64, columns: usize) -> RowsRead
     })
 }
 
-// The rows event of the code `code` in the lent bytes, which are its body without header and checksum. `profile` is the record of its map, and `table` the map's table id.
+// The rows event of the code `code` in the lent bytes, which are its body without header and checksum. `profile` is the record of its map,
+// and `table` the map's table id.
 pub fn read_rows(code: u64, profile: &[u8], table: u64, event: &[u8]) -> RowsRead
     ensures { λ r. ⌜ rowsTold r ≡ readRows code (now (profile .entry)) table (now (event .entry)) ⌝ }
 {
@@ -65,7 +66,7 @@ pub fn read_rows(code: u64, profile: &[u8], table: u64, event: &[u8]) -> RowsRea
         FormRead::Refused(r) => return RowsRead::Refused(r),
     };
     match read_parts(form, event) {
-        PartsRead::Read(parts) => fit(parts, table, columns),
-        PartsRead::Refused(r) => RowsRead::Refused(r),
+        RowsPartsRead::Read(parts) => fit(parts, table, columns),
+        RowsPartsRead::Refused(r) => RowsRead::Refused(r),
     }
 }

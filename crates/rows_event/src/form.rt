@@ -3,7 +3,8 @@ use wire::Refusal;
 use wire::refusal::OTHER_EVENT;
 ghost use mathlib.Core.Path.{_≡_};
 ghost use Rattle.wire.specs.Outcome.{ok};
-ghost use Rattle.rows_event.specs.Events.{form, formOf, formTold};
+ghost use Rattle.rows_event.specs.Events.{form, formOf};
+ghost use Rattle.rows_event.specs.Inner.Events.{formTold};
 
 // Write, update and delete, in the first edition and in the second.
 const WRITE_ROWS_V1: u64 = 23;

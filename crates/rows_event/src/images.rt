@@ -12,7 +12,7 @@ ghost use Prim.Native.Nat.{_≤_};
 ghost use lib.ListN.{length, drop};
 ghost use lib.Dec.{eqb};
 ghost use Rattle.record.specs.Records.{recordValid};
-ghost use Rattle.rows_event.specs.Images.{isThere, inPairs, secondBits, setOf, isEmpty, imageAt, nextImage, toldImage};
+ghost use Rattle.rows_event.specs.Images.{isThere, inPairs, secondBits, setOf, isEmpty, imageAt, nextImage, imageTold};
 
 // Where the walk over the images stands: an offset of the event, and whether the image there stands under the second set.
 // A walk begins with `Images { at: rows.images, second: false }`.
@@ -124,7 +124,7 @@ fn is_second(rows: Rows, second: bool) -> bool
 // The image at a place of the event, under one of its sets.
 fn image_at(profile: &[u8], rows: Rows, event: &[u8], at: usize, second: bool) -> ImageStep
     requires { ⌜ at ≤ length (now event) ⌝ }
-    ensures { λ r. ⌜ toldImage r ≡ imageAt (now (profile .entry)) rows (now (event .entry)) at second ⌝ }
+    ensures { λ r. ⌜ imageTold r ≡ imageAt (now (profile .entry)) rows (now (event .entry)) at second ⌝ }
 {
     let used = match image::walk_end(profile, set_of(rows, event, second), rest_from(event, at)) {
         WalkEnd::Ends { used } => used,
@@ -151,7 +151,7 @@ fn image_at(profile: &[u8], rows: Rows, event: &[u8], at: usize, second: bool) -
 impl Images {
     // The image at this cursor. A made-up cursor obeys the same rule, and so do made-up rows.
     pub fn next(self, rows: Rows, profile: &[u8], event: &[u8]) -> ImageStep
-        ensures { λ r. ⌜ toldImage r ≡ nextImage (now (profile .entry)) rows (now (event .entry)) self ⌝ }
+        ensures { λ r. ⌜ imageTold r ≡ nextImage (now (profile .entry)) rows (now (event .entry)) self ⌝ }
     {
         let at = self.at;
         if event.len() < at {

@@ -6,7 +6,8 @@ use wire::Reach;
 use wire::Refusal;
 use wire::refusal::BAD_EXTRA;
 ghost use mathlib.Core.Path.{_≡_};
-ghost use Rattle.rows_event.specs.Events.{extraData, extraAt, extraTold, secondSet, secondAt, secondTold, setsAt, readSets, setsTold, readParts, partsTold};
+ghost use Rattle.rows_event.specs.Events.{extraData, extraAt, secondSet, secondAt, setsAt, readSets, readParts};
+ghost use Rattle.rows_event.specs.Inner.Events.{extraTold, secondTold, setsTold, rowsPartsTold};
 
 // How many bytes the table id has, and how many the flags and the length of the extra data.
 const ID_BYTES: usize = 6;
@@ -63,7 +64,7 @@ pub(crate) enum SetsRead {
     Refused(Refusal),
 }
 
-pub(crate) struct Parts {
+pub(crate) struct RowsParts {
     pub id: u64,
     pub flags: u16,
     pub extra: Extra,
@@ -72,8 +73,8 @@ pub(crate) struct Parts {
     pub sets: Sets,
 }
 
-pub(crate) enum PartsRead {
-    Read(Parts),
+pub(crate) enum RowsPartsRead {
+    Read(RowsParts),
     Refused(Refusal),
 }
 
@@ -178,29 +179,29 @@ fn read_sets(second: bool, event: &[u8], at: usize) -> SetsRead
 }
 
 // All parts, in both editions by one rule.
-pub(crate) fn read_parts(form: Form, event: &[u8]) -> PartsRead
-    ensures { λ r. ⌜ partsTold r ≡ readParts form (now (event .entry)) ⌝ }
+pub(crate) fn read_parts(form: Form, event: &[u8]) -> RowsPartsRead
+    ensures { λ r. ⌜ rowsPartsTold r ≡ readParts form (now (event .entry)) ⌝ }
 {
     let id = match wire::read_fixed(event, 0, ID_BYTES) {
         Packed::Value { value, next: _ } => value,
-        Packed::Refused(r) => return PartsRead::Refused(r),
+        Packed::Refused(r) => return RowsPartsRead::Refused(r),
     };
     match wire::within(event, ID_BYTES, SHORT_BYTES, ID_BYTES) {
         Reach::At(_) => {}
-        Reach::Refused(r) => return PartsRead::Refused(r),
+        Reach::Refused(r) => return RowsPartsRead::Refused(r),
     }
     let flags = wire::read_le(event, ID_BYTES, SHORT_BYTES) as u16;
     let cut = match extra_at(form.extra, event, HEAD_BYTES) {
         ExtraRead::Read(cut) => cut,
-        ExtraRead::Refused(r) => return PartsRead::Refused(r),
+        ExtraRead::Refused(r) => return RowsPartsRead::Refused(r),
     };
     let counted = cut.next;
     let sets = match read_sets(form.second, event, counted) {
         SetsRead::Read(sets) => sets,
-        SetsRead::Refused(r) => return PartsRead::Refused(r),
+        SetsRead::Refused(r) => return RowsPartsRead::Refused(r),
     };
     let extra = cut.extra;
-    PartsRead::Read(Parts {
+    RowsPartsRead::Read(RowsParts {
         id,
         flags,
         extra,

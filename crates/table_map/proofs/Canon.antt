@@ -12,7 +12,7 @@ use lib.Dec.{eqb}
 use Rattle.wire.specs.Bits.{bytesFor}
 use Rattle.wire.specs.Outcome.{ok}
 use Rattle.wire.specs.Number.{Bytes, leValue, leBytes}
-use Rattle.wire.specs.Packed.{readPacked, formOf, packedBytes}
+use Rattle.wire.specs.Packed.{readPacked, packedForm, packedBytes}
 use Rattle.wire.specs.Parts.{partOf}
 use Rattle.wire.specs.declared.part.Part.{Part}
 use Rattle.wire.proofs.Outcomes.{same-ok}
@@ -21,8 +21,9 @@ use Rattle.wire.proofs.Inverse.{bytes-take, bytes-drop, le-sound, le-back, le-b
 use Rattle.wire.proofs.Forms.{read-moves, read-only, read-shortest}
 use Rattle.table_map.specs.declared.event.Event.{Event}
 use Rattle.table_map.specs.Events.{idBytes, readEvent}
-use Rattle.table_map.specs.Writes.{Parts, nameBytes, eventBytes, columnBytes, isEvent}
-use Rattle.table_map.specs.Canonical.{partsOf, Canonical}
+use Rattle.table_map.specs.Writes.{EventParts, nameBytes, eventBytes, isEvent}
+use Rattle.table_map.specs.Inner.Writes.{columnBytes}
+use Rattle.table_map.specs.Canonical.{eventPartsOf, Canonical}
 use Rattle.table_map.proofs.Chains.{Named, Laid, laid, Within, each-within, Ordered, parts-within}
 use Rattle.table_map.proofs.Puts.{event-length}
 use Rattle.table_map.proofs.Trips.{From, from-part, from-first, from-id, from-flags, from-names, names-back, short-back, behindFlags}
@@ -37,13 +38,16 @@ rest-split s at n = sym (take-append-drop n (drop at s)) ∙ ap (λ (l : List �
 first-split : (s : List ℕ) (at : ℕ) → at < length s → drop at s ≡ getD s at 0 ∷ drop (at + 1) s
 first-split s at h = drop-cons s at 0 h ∙ ap (λ (k : ℕ). getD s at 0 ∷ drop k s) (sym (add-one at))
 
-number-split : (s : List ℕ) (at k : ℕ) → Bytes s → at + k ≤ length s → drop at s ≡ leBytes k (leValue (take k (drop at s))) ++ drop (at + k) s
+number-split : (s : List ℕ) (at k : ℕ) → Bytes s → at + k ≤ length s
+    → drop at s ≡ leBytes k (leValue (take k (drop at s))) ++ drop (at + k) s
 number-split s at k h l =
     let n : length (take k (drop at s)) ≡ k = length-take-le k (drop at s) (rw length-drop (omega arith)) in
-    let b : leBytes k (leValue (take k (drop at s))) ≡ take k (drop at s) = rw n at (le-sound (take k (drop at s)) (bytes-take k (drop at s) (bytes-drop at s h))) in
+    let b : leBytes k (leValue (take k (drop at s))) ≡ take k (drop at s) =
+    rw n at (le-sound (take k (drop at s)) (bytes-take k (drop at s) (bytes-drop at s h))) in
     rest-split s at k ∙ ap (λ (l : List ℕ). l ++ drop (at + k) s) (sym b)
 
-name-split : (s : List ℕ) (at : ℕ) (p : Part) → Named s at p (p .start + p .len) → p .start + p .len < length s → getD s (p .start + p .len) 0 ≡ 0
+name-split : (s : List ℕ) (at : ℕ) (p : Part) → Named s at p (p .start + p .len) → p .start + p .len < length s
+    → getD s (p .start + p .len) 0 ≡ 0
     → drop at s ≡ nameBytes (partOf s p) ++ drop (p .start + p .len + 1) s
 unfolding nameBytes
 name-split s at p n h z =
@@ -57,7 +61,8 @@ name-split s at p n h z =
     ∙ ap (λ (r : List ℕ). length (partOf s p) ∷ r)
     (rest-split s (p .start) (p .len) ∙ ap (λ (r : List ℕ). partOf s p ++ r) q ∙ sym (append-assoc (partOf s p) (0 ∷ []) (drop (e + 1) s)))
 
-packed-split : (s : List ℕ) (at v next : ℕ) → Bytes s → readPacked s at ≡ ok (v, next) → next ≡ at + length (packedBytes v) → drop at s ≡ packedBytes v ++ drop next s
+packed-split : (s : List ℕ) (at v next : ℕ) → Bytes s → readPacked s at ≡ ok (v, next) → next ≡ at + length (packedBytes v)
+    → drop at s ≡ packedBytes v ++ drop next s
 packed-split s at v next h e n =
     let m : at + (next - at) ≡ next = omega arith in
     rest-split s at (next - at)
@@ -65,7 +70,8 @@ packed-split s at v next h e n =
     ∙ ap (λ (k : ℕ). packedBytes v ++ drop k s) m
 
 -- ---- an event as a writer writes it is written again as it was
-pub canonical-same : (s : List ℕ) (postHeader : ℕ) (e : Event) → Bytes s → readEvent s postHeader ≡ ok e → Canonical s postHeader e → eventBytes (partsOf s e) ≡ s
+pub canonical-same : (s : List ℕ) (postHeader : ℕ) (e : Event) → Bytes s → readEvent s postHeader ≡ ok e → Canonical s postHeader e
+    → eventBytes (eventPartsOf s e) ≡ s
 unfolding eventBytes
 canonical-same s postHeader e h r c =
     let l : Laid s 6 e = subst (λ (w : ℕ). Laid s w e) (c .id) (laid s postHeader e r) in
@@ -81,24 +87,31 @@ canonical-same s postHeader e h r c =
     let x₉ : partOf s (e .optional) ≡ drop bn s =
     take-all (e .optional .len) (drop (e .optional .start) s) (rw length-drop (omega arith)) ∙ ap (λ (k : ℕ). drop k s) (o .optional) in
     let x₈ : partOf s (e .bits) ++ partOf s (e .optional) ≡ drop mn s =
-    ap (λ (z : List ℕ). partOf s (e .bits) ++ z) x₉ ∙ sym (rest-split s (e .bits .start) (e .bits .len)) ∙ ap (λ (k : ℕ). drop k s) (o .bits) in
+    ap (λ (z : List ℕ). partOf s (e .bits) ++ z) x₉ ∙ sym (rest-split s (e .bits .start) (e .bits .len))
+    ∙ ap (λ (k : ℕ). drop k s) (o .bits) in
     let x₇ : partOf s (e .metadata) ++ (partOf s (e .bits) ++ partOf s (e .optional)) ≡ drop (e .metadata .start) s =
     ap (λ (z : List ℕ). partOf s (e .metadata) ++ z) x₈ ∙ sym (rest-split s (e .metadata .start) (e .metadata .len)) in
-    let x₆ : packedBytes (length (partOf s (e .metadata))) ++ (partOf s (e .metadata) ++ (partOf s (e .bits) ++ partOf s (e .optional))) ≡ drop yn s =
+    let x₆ : packedBytes (length (partOf s (e .metadata))) ++ (partOf s (e .metadata) ++ (partOf s (e .bits) ++ partOf s (e .optional)))
+    ≡ drop yn s =
     ap (λ (z : List ℕ). packedBytes (length (partOf s (e .metadata))) ++ z) x₇
     ∙ ap (λ (k : ℕ). packedBytes k ++ drop (e .metadata .start) s) lm
     ∙ sym (packed-split s yn (e .metadata .len) (e .metadata .start) h (l .columns .announced) (c .metadata)) in
-    let x₅ : partOf s (e .types) ++ (packedBytes (length (partOf s (e .metadata))) ++ (partOf s (e .metadata) ++ (partOf s (e .bits) ++ partOf s (e .optional)))) ≡ drop (e .types .start) s =
+    let x₅ : partOf s (e .types)
+    ++ (packedBytes (length (partOf s (e .metadata))) ++ (partOf s (e .metadata) ++ (partOf s (e .bits) ++ partOf s (e .optional))))
+    ≡ drop (e .types .start) s =
     ap (λ (z : List ℕ). partOf s (e .types) ++ z) x₆ ∙ sym (rest-split s (e .types .start) (e .types .len)) in
     let x₄ : columnBytes (partOf s (e .types)) (partOf s (e .metadata)) (partOf s (e .bits)) (partOf s (e .optional)) ≡ drop (tn + 1) s =
     ap (λ (z : List ℕ). packedBytes (length (partOf s (e .types))) ++ z) x₅
     ∙ ap (λ (k : ℕ). packedBytes k ++ drop (e .types .start) s) ly
     ∙ sym (packed-split s (tn + 1) (e .types .len) (e .types .start) h (l .columns .count) (c .count)) in
-    let x₃ : nameBytes (partOf s (e .table)) ++ columnBytes (partOf s (e .types)) (partOf s (e .metadata)) (partOf s (e .bits)) (partOf s (e .optional)) ≡ drop (dn + 1) s =
-    ap (λ (z : List ℕ). nameBytes (partOf s (e .table)) ++ z) x₄ ∙ sym (name-split s (dn + 1) (e .table) (l .names .two) (omega arith) (c .table)) in
-    let x₂ : behindFlags (partsOf s e) ≡ drop 8 s =
-    ap (λ (z : List ℕ). nameBytes (partOf s (e .database)) ++ z) x₃ ∙ sym (name-split s 8 (e .database) (l .names .one) (omega arith) (c .database)) in
-    let x₁ : leBytes 2 (e .flags) ++ behindFlags (partsOf s e) ≡ drop 6 s =
+    let x₃ : nameBytes (partOf s (e .table))
+    ++ columnBytes (partOf s (e .types)) (partOf s (e .metadata)) (partOf s (e .bits)) (partOf s (e .optional)) ≡ drop (dn + 1) s =
+    ap (λ (z : List ℕ). nameBytes (partOf s (e .table)) ++ z) x₄
+    ∙ sym (name-split s (dn + 1) (e .table) (l .names .two) (omega arith) (c .table)) in
+    let x₂ : behindFlags (eventPartsOf s e) ≡ drop 8 s =
+    ap (λ (z : List ℕ). nameBytes (partOf s (e .database)) ++ z) x₃
+    ∙ sym (name-split s 8 (e .database) (l .names .one) (omega arith) (c .database)) in
+    let x₁ : leBytes 2 (e .flags) ++ behindFlags (eventPartsOf s e) ≡ drop 6 s =
     ap (λ (z : List ℕ). leBytes 2 (e .flags) ++ z) x₂
     ∙ ap (λ (k : ℕ). leBytes 2 k ++ drop 8 s) (l .flags)
     ∙ sym (number-split s 6 2 h (omega arith)) in
@@ -108,25 +121,35 @@ canonical-same s postHeader e h r c =
 
 -- ---- the other way
 -- the event's bytes, from the flags' end on, of bytes that are as written
-names-from : (s : List ℕ) (p : Parts) → eventBytes p ≡ s → From s 8 (behindFlags p)
+names-from : (s : List ℕ) (p : EventParts) → eventBytes p ≡ s → From s 8 (behindFlags p)
 names-from s p q = subst (λ (z : List ℕ). From z 8 (behindFlags p)) q (from-names p)
 
 -- how long what is written again is
-again-length : (s : List ℕ) (e : Event) → Within s e → length (eventBytes (partsOf s e))
+again-length : (s : List ℕ) (e : Event) → Within s e → length (eventBytes (eventPartsOf s e))
     ≡ 12 + e .database .len + e .table .len
-    + (length (packedBytes (e .types .len)) + (e .types .len + (length (packedBytes (e .metadata .len)) + (e .metadata .len + (e .bits .len + e .optional .len)))))
+    + (length (packedBytes (e .types .len))
+    + (e .types .len + (length (packedBytes (e .metadata .len)) + (e .metadata .len + (e .bits .len + e .optional .len)))))
 again-length s e w =
-    event-length (partsOf s e)
-    ∙ rw (part-length s (e .database) (w .database), part-length s (e .table) (w .table), part-length s (e .types) (w .types), part-length s (e .metadata) (w .metadata), part-length s (e .bits) (w .bits), part-length s (e .optional) (w .optional))
+    event-length (eventPartsOf s e)
+    ∙ rw (
+      part-length s (e .database) (w .database),
+      part-length s (e .table) (w .table),
+      part-length s (e .types) (w .types),
+      part-length s (e .metadata) (w .metadata),
+      part-length s (e .bits) (w .bits),
+      part-length s (e .optional) (w .optional),
+    )
 
-same-six : (s : List ℕ) (postHeader : ℕ) (e : Event) → Bytes s → readEvent s postHeader ≡ ok e → idBytes postHeader ≡ 6 → eventBytes (partsOf s e) ≡ s → Canonical s postHeader e
+same-six : (s : List ℕ) (postHeader : ℕ) (e : Event) → Bytes s → readEvent s postHeader ≡ ok e → idBytes postHeader ≡ 6
+    → eventBytes (eventPartsOf s e) ≡ s → Canonical s postHeader e
 same-six s postHeader e h r i q =
     let l : Laid s 6 e = subst (λ (w : ℕ). Laid s w e) i (laid s postHeader e r) in
     let o : Ordered s 6 e = subst (λ (w : ℕ). Ordered s w e) i (parts-within s postHeader e r) in
     let w : Within s e = each-within s postHeader e r in
-    let p = partsOf s e in
+    let p = eventPartsOf s e in
     let a : length s ≡ 12 + e .database .len + e .table .len
-    + (length (packedBytes (e .types .len)) + (e .types .len + (length (packedBytes (e .metadata .len)) + (e .metadata .len + (e .bits .len + e .optional .len))))) =
+    + (length (packedBytes (e .types .len))
+    + (e .types .len + (length (packedBytes (e .metadata .len)) + (e .metadata .len + (e .bits .len + e .optional .len))))) =
     ap length (sym q) ∙ again-length s e w in
     let y = read-shortest s (e .table .start + e .table .len + 1) (e .types .len) (e .types .start) h (l .columns .count) in
     let m = read-shortest s (e .types .start + e .types .len) (e .metadata .len) (e .metadata .start) h (l .columns .announced) in
@@ -147,7 +170,7 @@ same-six s postHeader e h r i q =
 
 -- a packed integer whose first byte is 0
 packed-zero : (s : List ℕ) (at : ℕ) → at < length s → getD s at 0 ≡ 0 → readPacked s at ≡ ok (0, at + 1)
-unfolding readPacked formOf
+unfolding readPacked packedForm
 packed-zero s at h z = rw (lt-leb (length s) at h, z)
 
 one-byte : length (packedBytes 0) ≡ 1
@@ -167,25 +190,30 @@ first-bound s k h l =
     subst (λ (j : ℕ). leValue (take k s) < 256 ^ j) n (le-bound (take k s) (bytes-take k s h))
 
 -- an id of 4 bytes and the flags, read again as one of 6: so the flags are 0
-no-flags : (s : List ℕ) (e : Event) → Bytes s → 4 ≤ length s → e .id ≡ leValue (take 4 s) → e .flags ≡ leValue (take 2 (drop 4 s)) → take 6 s ≡ leBytes 6 (e .id) → e .flags ≡ 0
+no-flags : (s : List ℕ) (e : Event) → Bytes s → 4 ≤ length s → e .id ≡ leValue (take 4 s) → e .flags ≡ leValue (take 2 (drop 4 s))
+    → take 6 s ≡ leBytes 6 (e .id) → e .flags ≡ 0
 no-flags s e h l i f t =
     let n : length (take 4 s) ≡ 4 = length-take-le 4 s l in
     let b : leValue (take 4 s) < 256 ^ 4 = first-bound s 4 h l in
     let b₆ : e .id < 256 ^ 6 = wider 4 6 (e .id) (omega arith) (subst (λ (k : ℕ). k < 256 ^ 4) (sym i) b) in
     let v : leValue (take 6 s) ≡ e .id = ap leValue t ∙ le-back 6 (e .id) b₆ in
     let j : leValue (take 6 s) ≡ leValue (take 4 s) + 4294967296 * leValue (take 2 (drop 4 s)) =
-    ap leValue (take-add 4 2 s) ∙ le-join (take 4 s) (take 2 (drop 4 s)) ∙ ap (λ (k : ℕ). leValue (take 4 s) + 256 ^ k * leValue (take 2 (drop 4 s))) n in
+    ap leValue (take-add 4 2 s) ∙ le-join (take 4 s) (take 2 (drop 4 s))
+    ∙ ap (λ (k : ℕ). leValue (take 4 s) + 256 ^ k * leValue (take 2 (drop 4 s))) n in
     omega arith
 
--- what was read with an id of 4 bytes is never written again as it was: all of it would be zero up to the optional bytes, which would stand 2 further on
-never-four : (s : List ℕ) (e : Event) → Bytes s → Laid s 4 e → Ordered s 4 e → Within s e → eventBytes (partsOf s e) ≡ s → ⊥
+-- what was read with an id of 4 bytes is never written again as it was: all of it would be zero up to the optional bytes, which would stand
+-- 2 further on
+never-four : (s : List ℕ) (e : Event) → Bytes s → Laid s 4 e → Ordered s 4 e → Within s e → eventBytes (eventPartsOf s e) ≡ s → ⊥
 never-four s e h l o w q =
-    let p = partsOf s e in
+    let p = eventPartsOf s e in
     let b = columnBytes (p .types) (p .metadata) (p .bits) (p .optional) in
     let f₀ : From s 0 (leBytes 6 (e .id) ++ (leBytes 2 (e .flags) ++ behindFlags p)) =
     subst (λ (z : List ℕ). From z 0 (leBytes 6 (e .id) ++ (leBytes 2 (e .flags) ++ behindFlags p))) q (from-id p) in
-    let f₁ : From s 6 (leBytes 2 (e .flags) ++ behindFlags p) = subst (λ (z : List ℕ). From z 6 (leBytes 2 (e .flags) ++ behindFlags p)) q (from-flags p) in
-    let t₆ : take 6 s ≡ leBytes 6 (e .id) = from-part (leBytes 6 (e .id)) (leBytes 2 (e .flags) ++ behindFlags p) 6 (leBytes-length 6 (e .id)) f₀ in
+    let f₁ : From s 6 (leBytes 2 (e .flags) ++ behindFlags p) =
+    subst (λ (z : List ℕ). From z 6 (leBytes 2 (e .flags) ++ behindFlags p)) q (from-flags p) in
+    let t₆ : take 6 s ≡ leBytes 6 (e .id) =
+    from-part (leBytes 6 (e .id)) (leBytes 2 (e .flags) ++ behindFlags p) 6 (leBytes-length 6 (e .id)) f₀ in
     let z : e .flags ≡ 0 = no-flags s e h (omega arith) (l .id) (l .flags) t₆ in
     let ld : length (p .database) ≡ e .database .len = part-length s (e .database) (w .database) in
     let lt : length (p .table) ≡ e .table .len = part-length s (e .table) (w .table) in
@@ -213,19 +241,22 @@ never-four s e h l o w q =
     let k₂ : length (packedBytes (e .metadata .len)) ≡ 1 = ap (λ (v : ℕ). length (packedBytes v)) ul ∙ one-byte in
     let bl : e .bits .len ≡ 0 = l .columns .bits-len ∙ ap bytesFor cl in
     let a : length s ≡ 12 + e .database .len + e .table .len
-    + (length (packedBytes (e .types .len)) + (e .types .len + (length (packedBytes (e .metadata .len)) + (e .metadata .len + (e .bits .len + e .optional .len))))) =
+    + (length (packedBytes (e .types .len))
+    + (e .types .len + (length (packedBytes (e .metadata .len)) + (e .metadata .len + (e .bits .len + e .optional .len))))) =
     ap length (sym q) ∙ again-length s e w in
     omega arith
 
 -- what is written again as it was is as a writer writes it
-pub same-canonical : (s : List ℕ) (postHeader : ℕ) (e : Event) → Bytes s → readEvent s postHeader ≡ ok e → eventBytes (partsOf s e) ≡ s → Canonical s postHeader e
+pub same-canonical : (s : List ℕ) (postHeader : ℕ) (e : Event) → Bytes s → readEvent s postHeader ≡ ok e → eventBytes (eventPartsOf s e) ≡ s
+    → Canonical s postHeader e
 same-canonical s postHeader e h r q = go (eqb postHeader 6) refl
   where
     go : (t : Bool) → eqb postHeader 6 ≡ t → Canonical s postHeader e
     go true t =
         let i : idBytes postHeader ≡ 4 = rw t in
         absurd
-        (never-four s e h (subst (λ (w : ℕ). Laid s w e) i (laid s postHeader e r)) (subst (λ (w : ℕ). Ordered s w e) i (parts-within s postHeader e r))
+        (never-four s e h (subst (λ (w : ℕ). Laid s w e) i (laid s postHeader e r))
+        (subst (λ (w : ℕ). Ordered s w e) i (parts-within s postHeader e r))
         (each-within s postHeader e r) q)
     go false t =
         let i : idBytes postHeader ≡ 6 = rw t in
@@ -243,7 +274,7 @@ id-fits s postHeader h l = go (eqb postHeader 6) refl
         let i : idBytes postHeader ≡ 6 = rw t in
         rw i (omega (arith, first-bound s 6 h (omega arith)))
 
-pub read-taken : (s : List ℕ) (postHeader : ℕ) (e : Event) → Bytes s → readEvent s postHeader ≡ ok e → isEvent (partsOf s e) ≡ true
+pub read-taken : (s : List ℕ) (postHeader : ℕ) (e : Event) → Bytes s → readEvent s postHeader ≡ ok e → isEvent (eventPartsOf s e) ≡ true
 unfolding isEvent
 read-taken s postHeader e h r =
     let l = laid s postHeader e r in
@@ -259,5 +290,5 @@ read-taken s postHeader e h r =
 
 -- both ways
 pub read-write : (s : List ℕ) (postHeader : ℕ) (e : Event) → Bytes s → readEvent s postHeader ≡ ok e
-    → (Canonical s postHeader e → eventBytes (partsOf s e) ≡ s) × (eventBytes (partsOf s e) ≡ s → Canonical s postHeader e)
+    → (Canonical s postHeader e → eventBytes (eventPartsOf s e) ≡ s) × (eventBytes (eventPartsOf s e) ≡ s → Canonical s postHeader e)
 read-write s postHeader e h r = (canonical-same s postHeader e h r, same-canonical s postHeader e h r)

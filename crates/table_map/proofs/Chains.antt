@@ -18,7 +18,8 @@ use Rattle.wire.proofs.Parts.{within-ok}
 use Rattle.wire.proofs.Forms.{read-moves}
 use Rattle.table_map.specs.declared.event.Event.{Event}
 use Rattle.table_map.specs.Parts.{shortPart, longPart}
-use Rattle.table_map.specs.Events.{idBytes, readNames, readColumns, readEvent, noEvent, orNone, partIn}
+use Rattle.table_map.specs.Events.{idBytes, readNames, readColumns, readEvent, partIn}
+use Rattle.table_map.specs.Inner.Events.{noEvent, orNone}
 
 -- a name, and the place after it
 pub record Named (s : List ℕ) (at : ℕ) (p : Part) (next : ℕ) : Type 0 where
@@ -159,7 +160,8 @@ laid s postHeader e r =
     let q8 : length s - y .0 .3 ≡ e .optional .len = ap (λ (z : Event). z .optional .len) q in
     let k′ : TwoNamed s (idBytes postHeader + 2) (e .database) (e .table) (x .0 .2) =
     subst (λ (v : ℕ). TwoNamed s v (e .database) (e .table) (x .0 .2)) w2
-    (subst (λ (p : Part). TwoNamed s (b .0) (e .database) p (x .0 .2)) q3 (subst (λ (p : Part). TwoNamed s (b .0) p (x .0 .1) (x .0 .2)) q2 k)) in
+    (subst (λ (p : Part). TwoNamed s (b .0) (e .database) p (x .0 .2)) q3
+    (subst (λ (p : Part). TwoNamed s (b .0) p (x .0 .1) (x .0 .2)) q2 k)) in
     let l′ : Columned s (x .0 .2) (e .types) (e .metadata) (e .bits) (y .0 .3) =
     subst (λ (p : Part). Columned s (x .0 .2) (e .types) (e .metadata) p (y .0 .3)) q6
     (subst (λ (p : Part). Columned s (x .0 .2) (e .types) p (y .0 .2) (y .0 .3)) q5
@@ -227,10 +229,19 @@ pub record Within (s : List ℕ) (e : Event) : Type 0 where
 pub each-within : (s : List ℕ) (postHeader : ℕ) (e : Event) → readEvent s postHeader ≡ ok e → Within s e
 each-within s postHeader e r =
     let o = parts-within s postHeader e r in
-    record { database = omega arith; table = omega arith; types = omega arith; metadata = omega arith; bits = omega arith; optional = omega arith }
+    record {
+      database =
+          omega arith;
+      table = omega arith;
+      types = omega arith;
+      metadata = omega arith;
+      bits = omega arith;
+      optional = omega arith;
+    }
 
 -- so to lend a part of what was read is to say its bytes: none where the event is refused
-pub lent-is-part : (f : Event → Part) → f noEvent ≡ part 0 0 → (s : List ℕ) (postHeader : ℕ) → ((e : Event) → Within s e → f e .start + f e .len ≤ length s)
+pub lent-is-part : (f : Event → Part) → f noEvent ≡ part 0 0 → (s : List ℕ) (postHeader : ℕ)
+    → ((e : Event) → Within s e → f e .start + f e .len ≤ length s)
     → lentPart s (f (orNone (readEvent s postHeader))) ≡ partIn f s (readEvent s postHeader)
 lent-is-part f none s postHeader ends = go (readEvent s postHeader) refl
   where

@@ -1,5 +1,5 @@
--- The items of lists: what the loop over strings turns on, that nothing is read past the bytes, and that every item takes bytes and ends within them. Assumes
--- nothing.
+-- The items of lists: what the loop over strings turns on, that nothing is read past the bytes, and that every item takes bytes and ends
+-- within them. Assumes nothing.
 use Prim.Native.Nat.{ℕ, zero, suc, _+_, _-_, _≤_, _<_}
 use mathlib.Core.Path.{_≡_, sym, ap, subst}
 use mathlib.Core.List.{List}
@@ -52,7 +52,8 @@ pub record Moves {A : Type 0} (rule : Rule A) : Type 0 where
   pub moves : (s : List ℕ) (at : ℕ) (a : A) (next : ℕ) → rule s at ≡ ok (a, next) → (at < next) × (next ≤ length s)
 
 -- a part behind its length: it starts behind it
-pub long-moves : (s : List ℕ) (at : ℕ) (p : Part) (next : ℕ) → longPart s at ≡ ok (p, next) → (at < p .start) × (p .start + p .len ≡ next) × (next ≤ length s)
+pub long-moves : (s : List ℕ) (at : ℕ) (p : Part) (next : ℕ) → longPart s at ≡ ok (p, next)
+    → (at < p .start) × (p .start + p .len ≡ next) × (next ≤ length s)
 long-moves s at p next e =
     let x = long-named s at (p, next) e in
     (read-moves s at (p .len) (p .start) (x .0) .0, sym (x .1), x .2)
@@ -122,7 +123,8 @@ group-strings s at count first next e =
     subst (λ (w : (ℕ × ℕ) × ℕ). (readPacked s at ≡ ok (w .0)) × (strings (w .0 .0) s (w .0 .1) ≡ ok (w .1))) (same-ok (y .2)) (x .1, y .1)
 
 -- how many strings a group has at most
-pub group-count : (s : List ℕ) (at count first next : ℕ) → groupItem s at ≡ ok ((count, first), next) → (at < first) × (first + count ≤ next)
+pub group-count : (s : List ℕ) (at count first next : ℕ) → groupItem s at ≡ ok ((count, first), next)
+    → (at < first) × (first + count ≤ next)
 group-count s at count first next e =
     let x = group-strings s at count first next e in
     (read-moves s at count first (x .0) .0, strings-take count s first next (x .1))

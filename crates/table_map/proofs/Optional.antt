@@ -1,5 +1,5 @@
--- Optional fields: how many columns have a signedness bit; what a field that was cut out is; what a step answers, by what it met; what a field that was read is; that fields move. Assumes
--- nothing.
+-- Optional fields: how many columns have a signedness bit; what a field that was cut out is; what a step answers, by what it met; what a
+-- field that was read is; that fields move. Assumes nothing.
 use Prim.Native.Nat.{ℕ, suc, _+_, _≤_, _<_}
 use mathlib.Core.Path.{_≡_, refl, sym, subst}
 use mathlib.Core.Logic.{_⊎_, ⊎-elim}
@@ -22,7 +22,8 @@ use Rattle.value.specs.Classes.{hasSignBit}
 use Rattle.table_map.specs.declared.field.Fields.{Fields}
 use Rattle.table_map.specs.Parts.{longPart}
 use Rattle.table_map.specs.Lists.{Stepped, end, item, step, defaultCharset}
-use Rattle.table_map.specs.Fields.{signBits, countSignBits, isField, isRead, contentsHold, cutField, judgeField, fieldItem, withCursor, fieldStep}
+use Rattle.table_map.specs.Fields.{signBits, countSignBits, isField, isRead, contentsHold, cutField, judgeField, fieldItem}
+use Rattle.table_map.specs.Fields.{withCursor, fieldStep}
 use Rattle.table_map.proofs.Steps.{Early, step-else}
 use Rattle.table_map.proofs.Items.{Moves, long-moves}
 
@@ -54,7 +55,8 @@ unfolding countSignBits
 signed-none d = refl
 
 -- ---- a field that was cut out: its type byte, and its value behind a length behind that
-pub cut-read : (s : List ℕ) (at : ℕ) (a : ℕ × Part) (next : ℕ) → cutField s at ≡ ok (a, next) → (getD s at 0 ≡ a .0) × (longPart s (at + 1) ≡ ok (a .1, next))
+pub cut-read : (s : List ℕ) (at : ℕ) (a : ℕ × Part) (next : ℕ) → cutField s at ≡ ok (a, next)
+    → (getD s at 0 ≡ a .0) × (longPart s (at + 1) ≡ ok (a .1, next))
 unfolding cutField
 cut-read s at a next e =
     let kind = getD s at 0 in
@@ -101,7 +103,8 @@ unfolding fieldItem
 not-cut c s w n e = rw (step-by-item c s n, e)
 
 -- its type is unknown, or its contents break a rule
-pub not-held : (c : Fields) (s : List ℕ) (f : ℕ × Part) (next : ℕ) (w : Refusal) → (c .at ≡ length s → ⊥) → cutField s (c .at) ≡ ok (f, next)
+pub not-held : (c : Fields) (s : List ℕ) (f : ℕ × Part) (next : ℕ) (w : Refusal) → (c .at ≡ length s → ⊥)
+    → cutField s (c .at) ≡ ok (f, next)
     → judgeField (c .numeric) (c .columns) s (c .at) f ≡ refused w → fieldStep c s ≡ refused w
 unfolding fieldItem
 not-held c s f next w n e j = rw (step-by-item c s n, e, j)
@@ -115,7 +118,8 @@ a-field c s f next n e j = rw (step-by-item c s n, e, j)
 
 -- ---- the other way: a step from a cursor is the walk's step at its place, and keeps its counts
 pub field-stepped : (c : Fields) (s : List ℕ) (a : ℕ × Part) (next : Fields) → fieldStep c s ≡ ok (item a next)
-    → (step (fieldItem (c .numeric) (c .columns)) s (c .at) ≡ ok (item a (next .at))) × (next .numeric ≡ c .numeric) × (next .columns ≡ c .columns)
+    → (step (fieldItem (c .numeric) (c .columns)) s (c .at) ≡ ok (item a (next .at))) × (next .numeric ≡ c .numeric)
+    × (next .columns ≡ c .columns)
 unfolding fieldStep
 field-stepped c s a next e = go (step (fieldItem (c .numeric) (c .columns)) s (c .at)) e
   where
@@ -137,7 +141,8 @@ field-ended c s e = go (step (fieldItem (c .numeric) (c .columns)) s (c .at)) e
     go (ok (item b at)) f = let z : _≡_ {A = ℕ} 0 1 = cc in absurd (omega arith)
     go (refused w) f = absurd (ok-not-refused (sym f))
 
-pub field-broken : (c : Fields) (s : List ℕ) (w : Refusal) → fieldStep c s ≡ refused w → step (fieldItem (c .numeric) (c .columns)) s (c .at) ≡ refused w
+pub field-broken : (c : Fields) (s : List ℕ) (w : Refusal) → fieldStep c s ≡ refused w
+    → step (fieldItem (c .numeric) (c .columns)) s (c .at) ≡ refused w
 unfolding fieldStep
 field-broken c s w e = go (step (fieldItem (c .numeric) (c .columns)) s (c .at)) e
   where
@@ -160,7 +165,8 @@ judge-read : (numeric columns : ℕ) (s : List ℕ) (at : ℕ) (f : ℕ × Part)
 unfolding judgeField
 judge-read numeric columns s at f e =
     by-test (isField (f .0)) _ _ _ e
-    (λ t g. by-test (contentsHold numeric columns (f .0) (lentPart s (f .1))) _ _ _ g (λ u i. (t, u)) (λ u i. absurd (ok-not-refused (sym i))))
+    (λ t g. by-test (contentsHold numeric columns (f .0) (lentPart s (f .1))) _ _ _ g (λ u i. (t, u))
+    (λ u i. absurd (ok-not-refused (sym i))))
     (λ t g. absurd (ok-not-refused (sym g)))
 
 -- one that was read was cut out, and passed

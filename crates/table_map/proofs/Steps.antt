@@ -26,7 +26,8 @@ step-past rule s at h =
     simp (ne-eqb at (length s) n, lt-ltb (length s) at h)
 
 -- before it, what the rule says
-pub step-before : {A : Type 0} (rule : Rule A) (s : List ℕ) (at : ℕ) → at < length s → step rule s at ≡ after (rule s at) (λ x. ok (item (x .0) (x .1)))
+pub step-before : {A : Type 0} (rule : Rule A) (s : List ℕ) (at : ℕ) → at < length s
+    → step rule s at ≡ after (rule s at) (λ x. ok (item (x .0) (x .1)))
 unfolding step
 step-before rule s at h =
     let n : at ≡ length s → ⊥ = λ (e : at ≡ length s). omega arith in
@@ -50,7 +51,8 @@ step-else rule r s at n =
 end-not-item : {A : Type 0} {a : A} {n : ℕ} → _≡_ {A = Stepped A ℕ} end (item a n) → ⊥
 end-not-item e = let z : _≡_ {A = ℕ} 0 1 = cc in omega arith
 
-handed-item : {A : Type 0} {a : A} {next : ℕ} (o : Outcome (A × ℕ)) → after o (λ x. ok (item (x .0) (x .1))) ≡ ok (item a next) → o ≡ ok (a, next)
+handed-item : {A : Type 0} {a : A} {next : ℕ} (o : Outcome (A × ℕ)) → after o (λ x. ok (item (x .0) (x .1))) ≡ ok (item a next)
+    → o ≡ ok (a, next)
 handed-item {A} {a} {next} (ok x) e =
     let p : _≡_ {A = A × ℕ} (x .0, x .1) (a, next) = cc in
     ap (λ (z : A × ℕ). ok z) p

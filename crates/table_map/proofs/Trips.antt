@@ -23,8 +23,9 @@ use Rattle.wire.proofs.Forms.{read-back}
 use Rattle.table_map.specs.declared.event.Event.{Event}
 use Rattle.table_map.specs.Parts.{shortPart, longPart}
 use Rattle.table_map.specs.Events.{readNames, readColumns, readEvent}
-use Rattle.table_map.specs.Writes.{Parts, nameBytes, eventBytes, isEvent, writeEvent, eventSize, columnBytes}
-use Rattle.table_map.specs.Canonical.{partsOf}
+use Rattle.table_map.specs.Writes.{EventParts, nameBytes, eventBytes, isEvent, writeEvent, eventSize}
+use Rattle.table_map.specs.Inner.Writes.{columnBytes}
+use Rattle.table_map.specs.Canonical.{eventPartsOf}
 use Rattle.table_map.proofs.Puts.{taken, size-is}
 
 -- from `at` on, s is rest
@@ -47,9 +48,11 @@ from-within a b n place {s} {at} l f =
     rw (le-leb _ _ h)
 
 pub from-first : (x : ℕ) (b : List ℕ) {s : List ℕ} {at : ℕ} → From s at (x ∷ b) → getD s at 0 ≡ x
-from-first x b {s} {at} f = ap (λ (k : ℕ). getD s k 0) (sym (add-zero at)) ∙ sym (getD-drop at s 0 0) ∙ ap (λ (l : List ℕ). getD l 0 0) (f .is)
+from-first x b {s} {at} f =
+    ap (λ (k : ℕ). getD s k 0) (sym (add-zero at)) ∙ sym (getD-drop at s 0 0) ∙ ap (λ (l : List ℕ). getD l 0 0) (f .is)
 
-from-packed : (v : ℕ) (b : List ℕ) {s : List ℕ} {at : ℕ} → v < 2 ^ 64 → From s at (packedBytes v ++ b) → readPacked s at ≡ ok (v, at + length (packedBytes v))
+from-packed : (v : ℕ) (b : List ℕ) {s : List ℕ} {at : ℕ} → v < 2 ^ 64 → From s at (packedBytes v ++ b)
+    → readPacked s at ≡ ok (v, at + length (packedBytes v))
 from-packed v b {s} {at} h f =
     let n : length (take at s) ≡ at = length-take-le at s (omega arith) in
     let w : take at s ++ (packedBytes v ++ b) ≡ s = ap (λ (l : List ℕ). take at s ++ l) (sym (f .is)) ∙ take-append-drop at s in
@@ -74,7 +77,11 @@ short-back name b {s} {at} f =
     (g, rw (w₁, g, w₂), f₂, from-more name (0 ∷ b) (length name) refl f₂)
 
 pub names-back : (database table b : List ℕ) {s : List ℕ} {at : ℕ} → From s at (nameBytes database ++ (nameBytes table ++ b))
-    → (readNames s at ≡ ok (part (at + 1) (length database), part (at + 1 + length database + 1 + 1) (length table), at + 1 + length database + 1 + 1 + length table + 1))
+    → (readNames s at ≡ ok (
+      part (at + 1) (length database),
+      part (at + 1 + length database + 1 + 1) (length table),
+      at + 1 + length database + 1 + 1 + length table + 1,
+    ))
     × (partOf s (part (at + 1) (length database)) ≡ database)
     × (partOf s (part (at + 1 + length database + 1 + 1) (length table)) ≡ table)
     × From s (at + 1 + length database + 1) (nameBytes table ++ b)
@@ -97,7 +104,10 @@ names-back database table b {s} {at} f =
 
 -- ---- columns
 long-back : (bytes b : List ℕ) {s : List ℕ} {at : ℕ} → length bytes < 2 ^ 64 → From s at (packedBytes (length bytes) ++ (bytes ++ b))
-    → (longPart s at ≡ ok (part (at + length (packedBytes (length bytes))) (length bytes), at + length (packedBytes (length bytes)) + length bytes))
+    → (longPart s at ≡ ok (
+      part (at + length (packedBytes (length bytes))) (length bytes),
+      at + length (packedBytes (length bytes)) + length bytes,
+    ))
     × From s (at + length (packedBytes (length bytes))) (bytes ++ b)
 unfolding longPart
 long-back bytes b {s} {at} h f =
@@ -108,22 +118,28 @@ long-back bytes b {s} {at} h f =
     (rw (r, w), g)
 
 -- where types, metadata, bits and the rest stand behind `at`
-abbrev typesAt : ℕ → Parts → ℕ
+abbrev typesAt : ℕ → EventParts → ℕ
 typesAt at p = at + length (packedBytes (length (p .types)))
 
-abbrev metadataAt : ℕ → Parts → ℕ
+abbrev metadataAt : ℕ → EventParts → ℕ
 metadataAt at p = typesAt at p + length (p .types) + length (packedBytes (length (p .metadata)))
 
-abbrev bitsAt : ℕ → Parts → ℕ
+abbrev bitsAt : ℕ → EventParts → ℕ
 bitsAt at p = metadataAt at p + length (p .metadata)
 
-abbrev restAt : ℕ → Parts → ℕ
+abbrev restAt : ℕ → EventParts → ℕ
 restAt at p = bitsAt at p + bytesFor (length (p .types))
 
-columns-back : (p : Parts) {s : List ℕ} {at : ℕ} → length (p .types) < 2 ^ 64 → length (p .metadata) < 2 ^ 64 → length (p .bits) ≡ bytesFor (length (p .types))
+columns-back : (p : EventParts) {s : List ℕ} {at : ℕ} → length (p .types) < 2 ^ 64 → length (p .metadata) < 2 ^ 64
+    → length (p .bits) ≡ bytesFor (length (p .types))
     → From s at (columnBytes (p .types) (p .metadata) (p .bits) (p .optional))
     → (readColumns s at
-    ≡ ok (part (typesAt at p) (length (p .types)), part (metadataAt at p) (length (p .metadata)), part (bitsAt at p) (bytesFor (length (p .types))), restAt at p))
+    ≡ ok (
+      part (typesAt at p) (length (p .types)),
+      part (metadataAt at p) (length (p .metadata)),
+      part (bitsAt at p) (bytesFor (length (p .types))),
+      restAt at p,
+    ))
     × (partOf s (part (typesAt at p) (length (p .types))) ≡ p .types)
     × (partOf s (part (metadataAt at p) (length (p .metadata))) ≡ p .metadata)
     × (partOf s (part (bitsAt at p) (bytesFor (length (p .types)))) ≡ p .bits)
@@ -134,13 +150,15 @@ columns-back p {s} {at} h k l f =
     let r₁ = packedBytes (length (p .metadata)) ++ (p .metadata ++ r₂) in
     let a = typesAt at p in
     let n : readPacked s at ≡ ok (length (p .types), a) = from-packed (length (p .types)) (p .types ++ r₁) h f in
-    let f₁ : From s a (p .types ++ r₁) = from-more (packedBytes (length (p .types))) (p .types ++ r₁) (length (packedBytes (length (p .types)))) refl f in
+    let f₁ : From s a (p .types ++ r₁) =
+    from-more (packedBytes (length (p .types))) (p .types ++ r₁) (length (packedBytes (length (p .types)))) refl f in
     let w₁ : within s a (length (p .types)) a ≡ ok (a + length (p .types)) = from-within (p .types) r₁ (length (p .types)) a refl f₁ in
     let f₂ : From s (a + length (p .types)) r₁ = from-more (p .types) r₁ (length (p .types)) refl f₁ in
     let m = long-back (p .metadata) r₂ k f₂ in
     let b = bitsAt at p in
     let f₃ : From s b r₂ = from-more (p .metadata) r₂ (length (p .metadata)) refl (m .1) in
-    let w₂ : within s b (bytesFor (length (p .types))) b ≡ ok (b + bytesFor (length (p .types))) = from-within (p .bits) (p .optional) (bytesFor (length (p .types))) b l f₃ in (
+    let w₂ : within s b (bytesFor (length (p .types))) b ≡ ok (b + bytesFor (length (p .types))) =
+    from-within (p .bits) (p .optional) (bytesFor (length (p .types))) b l f₃ in (
       rw (n, w₁, m .0, w₂),
       from-part (p .types) r₁ (length (p .types)) refl f₁,
       from-part (p .metadata) r₂ (length (p .metadata)) refl (m .1),
@@ -149,32 +167,34 @@ columns-back p {s} {at} h k l f =
     )
 
 -- ---- the event
-abbrev pub behindFlags : Parts → List ℕ
+abbrev pub behindFlags : EventParts → List ℕ
 behindFlags p = nameBytes (p .database) ++ (nameBytes (p .table) ++ columnBytes (p .types) (p .metadata) (p .bits) (p .optional))
 
-pub from-id : (p : Parts) → From (eventBytes p) 0 (leBytes 6 (p .id) ++ (leBytes 2 (p .flags) ++ behindFlags p))
+pub from-id : (p : EventParts) → From (eventBytes p) 0 (leBytes 6 (p .id) ++ (leBytes 2 (p .flags) ++ behindFlags p))
 unfolding eventBytes
 from-id p = record { is = refl; ends = omega arith }
 
-pub from-flags : (p : Parts) → From (eventBytes p) 6 (leBytes 2 (p .flags) ++ behindFlags p)
+pub from-flags : (p : EventParts) → From (eventBytes p) 6 (leBytes 2 (p .flags) ++ behindFlags p)
 from-flags p = from-more (leBytes 6 (p .id)) (leBytes 2 (p .flags) ++ behindFlags p) 6 (leBytes-length 6 (p .id)) (from-id p)
 
-pub from-names : (p : Parts) → From (eventBytes p) 8 (behindFlags p)
+pub from-names : (p : EventParts) → From (eventBytes p) 8 (behindFlags p)
 from-names p = from-more (leBytes 2 (p .flags)) (behindFlags p) 2 (leBytes-length 2 (p .flags)) (from-flags p)
 
 -- what is written is read back: every part, wherever it stands
-pub write-read : (p : Parts) → isEvent p ≡ true → p .flags < 2 ^ 16 → length (p .types) < 2 ^ 64 → length (p .metadata) < 2 ^ 64
-    → (e : Event) × (readEvent (eventBytes p) 8 ≡ ok e) × (partsOf (eventBytes p) e ≡ p)
+pub write-read : (p : EventParts) → isEvent p ≡ true → p .flags < 2 ^ 16 → length (p .types) < 2 ^ 64 → length (p .metadata) < 2 ^ 64
+    → (e : Event) × (readEvent (eventBytes p) 8 ≡ ok e) × (eventPartsOf (eventBytes p) e ≡ p)
 unfolding readEvent
 write-read p t g h k =
     let s = eventBytes p in
     let q = taken p t in
     let f₀ = from-id p in
     let f₁ = from-flags p in
-    let w₁ : within s 0 6 0 ≡ ok 6 = from-within (leBytes 6 (p .id)) (leBytes 2 (p .flags) ++ behindFlags p) 6 0 (leBytes-length 6 (p .id)) f₀ in
+    let w₁ : within s 0 6 0 ≡ ok 6 =
+    from-within (leBytes 6 (p .id)) (leBytes 2 (p .flags) ++ behindFlags p) 6 0 (leBytes-length 6 (p .id)) f₀ in
     let w₂ : within s 6 2 6 ≡ ok 8 = from-within (leBytes 2 (p .flags)) (behindFlags p) 2 6 (leBytes-length 2 (p .flags)) f₁ in
     let i : leValue (take 6 s) ≡ p .id =
-    ap leValue (from-part (leBytes 6 (p .id)) (leBytes 2 (p .flags) ++ behindFlags p) 6 (leBytes-length 6 (p .id)) f₀) ∙ le-back 6 (p .id) (q .id) in
+    ap leValue (from-part (leBytes 6 (p .id)) (leBytes 2 (p .flags) ++ behindFlags p) 6 (leBytes-length 6 (p .id)) f₀)
+    ∙ le-back 6 (p .id) (q .id) in
     let j : leValue (take 2 (drop 6 s)) ≡ p .flags =
     ap leValue (from-part (leBytes 2 (p .flags)) (behindFlags p) 2 (leBytes-length 2 (p .flags)) f₁) ∙ le-back 2 (p .flags) g in
     let n = names-back (p .database) (p .table) (columnBytes (p .types) (p .metadata) (p .bits) (p .optional)) (from-names p) in
@@ -201,30 +221,31 @@ write-read p t g h k =
 
 -- ---- from a buffer
 -- what a write that was done says: the parts are taken, the size is that of the event's bytes, and they stand at the buffer's start
-pub wrote-event : (p : Parts) (d x : List ℕ) (n : ℕ) → writeEvent p d ≡ ok (n, x)
+pub wrote-event : (p : EventParts) (d x : List ℕ) (n : ℕ) → writeEvent p d ≡ ok (n, x)
     → (isEvent p ≡ true) × (length (eventBytes p) ≡ n) × (n ≤ length d) × (take n x ≡ eventBytes p)
 unfolding writeEvent store
 wrote-event p d x n e =
     by-test (isEvent p) _ _ _ e
     (λ t e₁.
     let s = eventBytes p in
-    let y = test-is-ok (leb (0 + length s) (length d)) (0 + length s, stored d 0 s) (why 8 0) (n, x) e₁ in
+    let y = test-is-ok (leb (0 + length s) (length d)) (0 + length s, stored s d 0) (why 8 0) (n, x) e₁ in
     let i : 0 + length s ≡ n = ap (λ (v : ℕ × List ℕ). v .0) (y .1) in
-    let j : stored d 0 s ≡ x = ap (λ (v : ℕ × List ℕ). v .1) (y .1) in
+    let j : stored s d 0 ≡ x = ap (λ (v : ℕ × List ℕ). v .1) (y .1) in
     let r : 0 + length s ≤ length d = leb-true (0 + length s) (length d) (y .0) in
     let l : length s ≡ n = omega arith in
-    (t, l, omega arith, ap (take n) (sym j) ∙ ap (λ (k : ℕ). take k (stored d 0 s)) (sym l) ∙ stored-part d 0 s (omega arith)))
+    (t, l, omega arith, ap (take n) (sym j) ∙ ap (λ (k : ℕ). take k (stored s d 0)) (sym l) ∙ stored-part d 0 s (omega arith)))
     (λ t e₁. absurd (ok-not-refused (sym e₁)))
 
 -- the size is exactly what is written, in any buffer that holds it
-pub size-written : (p : Parts) (d x : List ℕ) (n : ℕ) → length d < 2 ^ 64 → writeEvent p d ≡ ok (n, x) → eventSize p ≡ ok n
+pub size-written : (p : EventParts) (d x : List ℕ) (n : ℕ) → length d < 2 ^ 64 → writeEvent p d ≡ ok (n, x) → eventSize p ≡ ok n
 size-written p d x n h e =
     let w = wrote-event p d x n e in
     size-is p n (w .0) (w .1) (omega arith)
 
 -- what was written into a buffer is read back from it
-pub buffer-read : (p : Parts) (d x : List ℕ) (n : ℕ) → writeEvent p d ≡ ok (n, x) → p .flags < 2 ^ 16 → length (p .types) < 2 ^ 64 → length (p .metadata) < 2 ^ 64
-    → (e : Event) × (readEvent (take n x) 8 ≡ ok e) × (partsOf (take n x) e ≡ p)
+pub buffer-read : (p : EventParts) (d x : List ℕ) (n : ℕ) → writeEvent p d ≡ ok (n, x) → p .flags < 2 ^ 16 → length (p .types) < 2 ^ 64
+    → length (p .metadata) < 2 ^ 64
+    → (e : Event) × (readEvent (take n x) 8 ≡ ok e) × (eventPartsOf (take n x) e ≡ p)
 buffer-read p d x n w g h k =
     let y = wrote-event p d x n w in
-    subst (λ (s : List ℕ). (e : Event) × (readEvent s 8 ≡ ok e) × (partsOf s e ≡ p)) (sym (y .3)) (write-read p (y .0) g h k)
+    subst (λ (s : List ℕ). (e : Event) × (readEvent s 8 ≡ ok e) × (eventPartsOf s e ≡ p)) (sym (y .3)) (write-read p (y .0) g h k)

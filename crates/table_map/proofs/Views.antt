@@ -21,9 +21,9 @@ use Rattle.table_map.specs.declared.list.GroupStep.{GroupStep}
 use Rattle.table_map.specs.declared.list.GroupStep.the-variants.{Item as Item₄, End as End₄, Refused as Refused₄}
 use Rattle.table_map.specs.declared.list.DefaultCharset.{DefaultCharset}
 use Rattle.table_map.specs.declared.list.DefaultCharset.the-variants.{Read, Refused as Refused₆}
-use Rattle.table_map.specs.Events.{eventOf}
-use Rattle.table_map.specs.Lists.{Stepped, end, item, integerOf, pairOf, stringOf, groupOf, charsetOf}
-use Rattle.table_map.specs.Fields.{fieldOf, fieldCutOf, judgedOf}
+use Rattle.table_map.specs.Events.{eventTold}
+use Rattle.table_map.specs.Lists.{Stepped, end, item, integerTold, pairTold, stringTold, groupTold, charsetTold}
+use Rattle.table_map.specs.Fields.{fieldTold, fieldCutTold, judgedTold}
 
 -- the way back from what a step says
 abbrev back-step : {A C S : Type 0} → (A → C → S) → S → (Refusal → S) → Outcome (Stepped A C) → S
@@ -31,79 +31,79 @@ back-step it ended refuse (ok end) = ended
 back-step it ended refuse (ok (item a next)) = it a next
 back-step it ended refuse (refused r) = refuse r
 
-integer-way : (a : IntegerStep) → back-step (λ value next. Item value (record { at = next })) End Refused (integerOf a) ≡ a
+integer-way : (a : IntegerStep) → back-step (λ value next. Item value (record { at = next })) End Refused (integerTold a) ≡ a
 integer-way (Item value next) = refl
 integer-way End = refl
 integer-way (Refused r) = refl
 
 -- of integers
-pub same-integer : (a b : IntegerStep) → integerOf a ≡ integerOf b → a ≡ b
-same-integer = same-by-back integerOf (back-step (λ value next. Item value (record { at = next })) End Refused) integer-way
+pub same-integer : (a b : IntegerStep) → integerTold a ≡ integerTold b → a ≡ b
+same-integer = same-by-back integerTold (back-step (λ value next. Item value (record { at = next })) End Refused) integer-way
 
-pair-way : (a : PairStep) → back-step (λ x next. Item₂ (x .0) (x .1) (record { at = next })) End₂ Refused₂ (pairOf a) ≡ a
+pair-way : (a : PairStep) → back-step (λ x next. Item₂ (x .0) (x .1) (record { at = next })) End₂ Refused₂ (pairTold a) ≡ a
 pair-way (Item₂ first second next) = refl
 pair-way End₂ = refl
 pair-way (Refused₂ r) = refl
 
 -- of pairs
-pub same-pair : (a b : PairStep) → pairOf a ≡ pairOf b → a ≡ b
-same-pair = same-by-back pairOf (back-step (λ x next. Item₂ (x .0) (x .1) (record { at = next })) End₂ Refused₂) pair-way
+pub same-pair : (a b : PairStep) → pairTold a ≡ pairTold b → a ≡ b
+same-pair = same-by-back pairTold (back-step (λ x next. Item₂ (x .0) (x .1) (record { at = next })) End₂ Refused₂) pair-way
 
-string-way : (a : StringStep) → back-step (λ value next. Item₃ value (record { at = next })) End₃ Refused₃ (stringOf a) ≡ a
+string-way : (a : StringStep) → back-step (λ value next. Item₃ value (record { at = next })) End₃ Refused₃ (stringTold a) ≡ a
 string-way (Item₃ value next) = refl
 string-way End₃ = refl
 string-way (Refused₃ r) = refl
 
 -- of strings
-pub same-string : (a b : StringStep) → stringOf a ≡ stringOf b → a ≡ b
-same-string = same-by-back stringOf (back-step (λ value next. Item₃ value (record { at = next })) End₃ Refused₃) string-way
+pub same-string : (a b : StringStep) → stringTold a ≡ stringTold b → a ≡ b
+same-string = same-by-back stringTold (back-step (λ value next. Item₃ value (record { at = next })) End₃ Refused₃) string-way
 
-group-way : (a : GroupStep) → back-step (λ x next. Item₄ (x .0) (x .1) (record { at = next })) End₄ Refused₄ (groupOf a) ≡ a
+group-way : (a : GroupStep) → back-step (λ x next. Item₄ (x .0) (x .1) (record { at = next })) End₄ Refused₄ (groupTold a) ≡ a
 group-way (Item₄ count first next) = refl
 group-way End₄ = refl
 group-way (Refused₄ r) = refl
 
 -- of groups
-pub same-group : (a b : GroupStep) → groupOf a ≡ groupOf b → a ≡ b
-same-group = same-by-back groupOf (back-step (λ x next. Item₄ (x .0) (x .1) (record { at = next })) End₄ Refused₄) group-way
+pub same-group : (a b : GroupStep) → groupTold a ≡ groupTold b → a ≡ b
+same-group = same-by-back groupTold (back-step (λ x next. Item₄ (x .0) (x .1) (record { at = next })) End₄ Refused₄) group-way
 
-field-way : (a : FieldStep) → back-step (λ x next. Field (x .0) (x .1) next) End₅ Refused₅ (fieldOf a) ≡ a
+field-way : (a : FieldStep) → back-step (λ x next. Field (x .0) (x .1) next) End₅ Refused₅ (fieldTold a) ≡ a
 field-way (Field kind value next) = refl
 field-way End₅ = refl
 field-way (Refused₅ r) = refl
 
 -- of fields
-pub same-field : (a b : FieldStep) → fieldOf a ≡ fieldOf b → a ≡ b
-same-field = same-by-back fieldOf (back-step (λ x next. Field (x .0) (x .1) next) End₅ Refused₅) field-way
+pub same-field : (a b : FieldStep) → fieldTold a ≡ fieldTold b → a ≡ b
+same-field = same-by-back fieldTold (back-step (λ x next. Field (x .0) (x .1) next) End₅ Refused₅) field-way
 
-cut-way : (a : FieldCut) → back-read (λ x. Cut (x .0 .0) (x .0 .1) (x .1)) Refused₈ (fieldCutOf a) ≡ a
+cut-way : (a : FieldCut) → back-read (λ x. Cut (x .0 .0) (x .0 .1) (x .1)) Refused₈ (fieldCutTold a) ≡ a
 cut-way (Cut kind value next) = refl
 cut-way (Refused₈ r) = refl
 
 -- of fields cut out
-pub same-cut : (a b : FieldCut) → fieldCutOf a ≡ fieldCutOf b → a ≡ b
-same-cut = same-by-back fieldCutOf (back-read (λ x. Cut (x .0 .0) (x .0 .1) (x .1)) Refused₈) cut-way
+pub same-cut : (a b : FieldCut) → fieldCutTold a ≡ fieldCutTold b → a ≡ b
+same-cut = same-by-back fieldCutTold (back-read (λ x. Cut (x .0 .0) (x .0 .1) (x .1)) Refused₈) cut-way
 
-judged-way : (a : Judged) → back-read (λ x. Holds) Refused₉ (judgedOf a) ≡ a
+judged-way : (a : Judged) → back-read (λ x. Holds) Refused₉ (judgedTold a) ≡ a
 judged-way Holds = refl
 judged-way (Refused₉ r) = refl
 
 -- of judging
-pub same-judged : (a b : Judged) → judgedOf a ≡ judgedOf b → a ≡ b
-same-judged = same-by-back judgedOf (back-read (λ x. Holds) Refused₉) judged-way
+pub same-judged : (a b : Judged) → judgedTold a ≡ judgedTold b → a ≡ b
+same-judged = same-by-back judgedTold (back-read (λ x. Holds) Refused₉) judged-way
 
-charset-way : (a : DefaultCharset) → back-read (λ x. Read (x .0) (record { at = x .1 })) Refused₆ (charsetOf a) ≡ a
+charset-way : (a : DefaultCharset) → back-read (λ x. Read (x .0) (record { at = x .1 })) Refused₆ (charsetTold a) ≡ a
 charset-way (Read charset pairs) = refl
 charset-way (Refused₆ r) = refl
 
 -- of default charsets
-pub same-charset : (a b : DefaultCharset) → charsetOf a ≡ charsetOf b → a ≡ b
-same-charset = same-by-back charsetOf (back-read (λ x. Read (x .0) (record { at = x .1 })) Refused₆) charset-way
+pub same-charset : (a b : DefaultCharset) → charsetTold a ≡ charsetTold b → a ≡ b
+same-charset = same-by-back charsetTold (back-read (λ x. Read (x .0) (record { at = x .1 })) Refused₆) charset-way
 
-event-way : (a : EventRead) → back-read Read₇ Refused₇ (eventOf a) ≡ a
+event-way : (a : EventRead) → back-read Read₇ Refused₇ (eventTold a) ≡ a
 event-way (Read₇ e) = refl
 event-way (Refused₇ r) = refl
 
 -- of the event's reader
-pub same-event-read : (a b : EventRead) → eventOf a ≡ eventOf b → a ≡ b
-same-event-read = same-by-back eventOf (back-read Read₇ Refused₇) event-way
+pub same-event-read : (a b : EventRead) → eventTold a ≡ eventTold b → a ≡ b
+same-event-read = same-by-back eventTold (back-read Read₇ Refused₇) event-way

@@ -7,7 +7,7 @@ use native.Mathlib.Omega.{arith}
 use lib.ListN.{length}
 use Rattle.wire.specs.declared.refusal.Refusal.{Refusal}
 use Rattle.wire.specs.Outcome.{Outcome, ok, refused}
-use Rattle.table_map.specs.Lists.{Rule, Stepped, end, item, step, whole, broken, onward, walkSteps, walk}
+use Rattle.table_map.specs.Lists.{Rule, Stepped, end, item, step, whole, broken, itemsOnward, walkSteps, walkItems}
 use Rattle.table_map.proofs.Steps.{item-read}
 use Rattle.table_map.proofs.Items.{Moves}
 
@@ -25,7 +25,7 @@ enough rule v (suc m) zero s at h l = absurd (omega arith)
 enough {A} rule v (suc m) (suc k) s at h l = go (λ next. enough rule v m k s next) (step rule s at) refl
   where
     go : ((next : ℕ) → length s - next < m → length s - next < k → walkSteps m rule s next ≡ walkSteps k rule s next)
-        → (o : Outcome (Stepped A ℕ)) → step rule s at ≡ o → onward (walkSteps m rule s) o ≡ onward (walkSteps k rule s) o
+        → (o : Outcome (Stepped A ℕ)) → step rule s at ≡ o → itemsOnward (walkSteps m rule s) o ≡ itemsOnward (walkSteps k rule s) o
     go again (ok end) e = refl
     go again (ok (item a next)) e =
         let w = item-moves rule v s at a next e in
@@ -33,11 +33,13 @@ enough {A} rule v (suc m) (suc k) s at h l = go (λ next. enough rule v m k s ne
     go again (refused r) e = refl
 
 -- a walk is its first step, and the walk from where that leads
-pub walk-steps : {A : Type 0} (rule : Rule A) → Moves rule → (s : List ℕ) (at : ℕ) → walk rule s at ≡ onward (walk rule s) (step rule s at)
+pub walk-steps : {A : Type 0} (rule : Rule A) → Moves rule → (s : List ℕ) (at : ℕ)
+    → walkItems rule s at ≡ itemsOnward (walkItems rule s) (step rule s at)
 unfolding walkSteps
 walk-steps {A} rule v s at = go (step rule s at) refl
   where
-    go : (o : Outcome (Stepped A ℕ)) → step rule s at ≡ o → onward (walkSteps (length s - at) rule s) o ≡ onward (walk rule s) o
+    go : (o : Outcome (Stepped A ℕ)) → step rule s at ≡ o
+        → itemsOnward (walkSteps (length s - at) rule s) o ≡ itemsOnward (walkItems rule s) o
     go (ok end) e = refl
     go (ok (item a next)) e =
         let w = item-moves rule v s at a next e in
@@ -52,14 +54,14 @@ few rule v zero s at = omega arith
 few {A} rule v (suc m) s at = go (λ next. few rule v m s next) (step rule s at) refl
   where
     go : ((next : ℕ) → length (walkSteps m rule s next .items) ≤ length s - next)
-        → (o : Outcome (Stepped A ℕ)) → step rule s at ≡ o → length (onward (walkSteps m rule s) o .items) ≤ length s - at
+        → (o : Outcome (Stepped A ℕ)) → step rule s at ≡ o → length (itemsOnward (walkSteps m rule s) o .items) ≤ length s - at
     go again (ok end) e = omega arith
     go again (ok (item a next)) e =
         let w = item-moves rule v s at a next e in
         omega (arith, again next)
     go again (refused r) e = omega arith
 
-pub walk-ends : {A : Type 0} (rule : Rule A) → Moves rule → (s : List ℕ) (at : ℕ) → length (walk rule s at .items) ≤ length s - at
+pub walk-ends : {A : Type 0} (rule : Rule A) → Moves rule → (s : List ℕ) (at : ℕ) → length (walkItems rule s at .items) ≤ length s - at
 walk-ends rule v s at = few rule v (suc (length s - at)) s at
 
 -- ---- a walk that comes to the end is not broken

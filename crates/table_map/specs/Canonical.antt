@@ -1,4 +1,5 @@
--- Which events a writer could have written: "exactly if the id had 6 bytes, skipped bytes were zero and both packed integers shortest". Assumes nothing.
+-- Which events a writer could have written: "exactly if the id had 6 bytes, skipped bytes were zero and both packed integers shortest".
+-- Assumes nothing.
 use Prim.Native.Nat.{ℕ, _+_}
 use mathlib.Core.Path.{_≡_}
 use mathlib.Core.List.{List}
@@ -7,12 +8,13 @@ use Rattle.wire.specs.Packed.{packedBytes}
 use Rattle.wire.specs.Parts.{partOf}
 use Rattle.table_map.specs.declared.event.Event.{Event}
 use Rattle.table_map.specs.Events.{idBytes}
-use Rattle.table_map.specs.Writes.{Parts, parts}
+use Rattle.table_map.specs.Writes.{EventParts, eventParts}
 
 -- an event's parts, cut out of the bytes that it was read from
-abbrev pub partsOf : List ℕ → Event → Parts
-partsOf s e =
-    parts (e .id) (e .flags) (partOf s (e .database)) (partOf s (e .table)) (partOf s (e .types)) (partOf s (e .metadata)) (partOf s (e .bits)) (partOf s (e .optional))
+abbrev pub eventPartsOf : List ℕ → Event → EventParts
+eventPartsOf s e =
+    eventParts (e .id) (e .flags) (partOf s (e .database)) (partOf s (e .table)) (partOf s (e .types)) (partOf s (e .metadata))
+    (partOf s (e .bits)) (partOf s (e .optional))
 
 pub record Canonical (s : List ℕ) (postHeader : ℕ) (e : Event) : Type 0 where
   pub id : idBytes postHeader ≡ 6

@@ -1,6 +1,6 @@
--- The event, in document 01's order: "Table id: 4 bytes if the post-header length is 6, else 6 bytes. Flags 2. Database name: length byte, bytes, one
--- skipped byte. Table name likewise. Packed column count n; n type bytes; packed length and the metadata; ceil(n/8) bytes of nullable bits, lowest
--- first; the rest is optional metadata. Integers are little-endian." Assumes nothing.
+-- The event, in document 01's order: "Table id: 4 bytes if the post-header length is 6, else 6 bytes. Flags 2. Database name: length byte,
+-- bytes, one skipped byte. Table name likewise. Packed column count n; n type bytes; packed length and the metadata; ceil(n/8) bytes of
+-- nullable bits, lowest first; the rest is optional metadata. Integers are little-endian." Assumes nothing.
 use Prim.Native.Nat.{ℕ, _-_}
 use mathlib.Core.List.{List, []}
 use mathlib.Core.Bool.{cond}
@@ -59,28 +59,9 @@ readEvent s postHeader =
     })))))
 
 -- what the answer of the reader says
-abbrev pub eventOf : EventRead → Outcome Event
-eventOf (Read e) = ok e
-eventOf (Refused r) = refused r
-
--- an event without any bytes
-abbrev pub noEvent : Event
-noEvent =
-    record {
-      id = 0;
-      flags = 0;
-      database = part 0 0;
-      table = part 0 0;
-      types = part 0 0;
-      metadata = part 0 0;
-      bits = part 0 0;
-      optional = part 0 0;
-    }
-
--- the event that was read, and where it is refused that without bytes
-abbrev pub orNone : Outcome Event → Event
-orNone (ok e) = e
-orNone (refused r) = noEvent
+abbrev pub eventTold : EventRead → Outcome Event
+eventTold (Read e) = ok e
+eventTold (Refused r) = refused r
 
 -- one part of an event, as its bytes: empty where the event is refused
 abbrev pub partIn : (Event → Part) → List ℕ → Outcome Event → List ℕ

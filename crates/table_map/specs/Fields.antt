@@ -1,5 +1,5 @@
--- Optional fields: "Type byte, packed length, value. The value is cut out first, then type, then contents judged." "The walk judges contents only so: 1 holds
--- ceil(numeric/8) bytes and 12 ceil(n/8), no more; 2 and 10 start with a packed integer." Assumes nothing.
+-- Optional fields: "Type byte, packed length, value. The value is cut out first, then type, then contents judged." "The walk judges
+-- contents only so: 1 holds ceil(numeric/8) bytes and 12 ceil(n/8), no more; 2 and 10 start with a packed integer." Assumes nothing.
 use Prim.Native.Nat.{ℕ, _+_}
 use mathlib.Core.Bool.{Bool, true, false, cond, _&&_, _||_}
 use mathlib.Core.List.{List, [], _∷_}
@@ -49,7 +49,8 @@ contentsHold numeric columns kind value =
     (cond (eqb kind 2 || eqb kind 10) (isRead (readPacked value 0))
     true))
 
--- a field cut out at a place: its type byte and its value, whatever they are. 1 at the place for no type byte, 1 or 2 at the length behind it
+-- a field cut out at a place: its type byte and its value, whatever they are. 1 at the place for no type byte, 1 or 2 at the length behind
+-- it
 unfoldable pub cutField : Rule (ℕ × Part)
 unfolding within longPart
 cutField s at = after (within s at 1 at) (λ a. after (longPart s a) (λ v. ok ((getD s at 0, v .0), v .1)))
@@ -78,15 +79,15 @@ unfolding step fieldItem
 fieldStep c s = after (step (fieldItem (c .numeric) (c .columns)) s (c .at)) (λ x. ok (withCursor c x))
 
 -- ---- what the answers say
-abbrev pub fieldOf : FieldStep → Outcome (Stepped (ℕ × Part) Fields)
-fieldOf (Field kind value next) = ok (item (kind, value) next)
-fieldOf End = ok end
-fieldOf (Refused r) = refused r
+abbrev pub fieldTold : FieldStep → Outcome (Stepped (ℕ × Part) Fields)
+fieldTold (Field kind value next) = ok (item (kind, value) next)
+fieldTold End = ok end
+fieldTold (Refused r) = refused r
 
-abbrev pub fieldCutOf : FieldCut → Outcome ((ℕ × Part) × ℕ)
-fieldCutOf (Cut kind value next) = ok ((kind, value), next)
-fieldCutOf (NotCut r) = refused r
+abbrev pub fieldCutTold : FieldCut → Outcome ((ℕ × Part) × ℕ)
+fieldCutTold (Cut kind value next) = ok ((kind, value), next)
+fieldCutTold (NotCut r) = refused r
 
-abbrev pub judgedOf : Judged → Outcome (Unit {0})
-judgedOf Holds = ok tt
-judgedOf (NotHeld r) = refused r
+abbrev pub judgedTold : Judged → Outcome (Unit {0})
+judgedTold Holds = ok tt
+judgedTold (NotHeld r) = refused r

@@ -1,5 +1,6 @@
--- Lists: one rule for every kind of item, and the items. "Lists: 3, 7, 8, 11, 13 are packed integers; 9 is pairs (column, prefix length); 2 and 10 go on
--- with pairs (rank, charset); 4 is packed-length strings; 5 and 6 are groups of a packed count and that many strings." Assumes nothing.
+-- Lists: one rule for every kind of item, and the items. "Lists: 3, 7, 8, 11, 13 are packed integers; 9 is pairs (column, prefix length); 2
+-- and 10 go on with pairs (rank, charset); 4 is packed-length strings; 5 and 6 are groups of a packed count and that many strings." Assumes
+-- nothing.
 use Prim.Native.Nat.{ℕ, zero, suc, _-_}
 use mathlib.Core.Bool.{cond}
 use mathlib.Core.List.{List, [], _∷_}
@@ -43,23 +44,23 @@ pub data Ended : Type 0 where
   broken : Refusal → Ended
 
 -- a walk: the items up to the end or the first refusal
-pub record Walked (A : Type 0) : Type 0 where
+pub record ItemsWalked (A : Type 0) : Type 0 where
   pub items : List A
   pub how : Ended
 
-abbrev pub onward : {A : Type 0} → (ℕ → Walked A) → Outcome (Stepped A ℕ) → Walked A
-onward f (ok end) = record { items = []; how = whole }
-onward f (ok (item a next)) = record { items = a ∷ f next .items; how = f next .how }
-onward f (refused r) = record { items = []; how = broken r }
+abbrev pub itemsOnward : {A : Type 0} → (ℕ → ItemsWalked A) → Outcome (Stepped A ℕ) → ItemsWalked A
+itemsOnward f (ok end) = record { items = []; how = whole }
+itemsOnward f (ok (item a next)) = record { items = a ∷ f next .items; how = f next .how }
+itemsOnward f (refused r) = record { items = []; how = broken r }
 
 -- at most m steps, which are enough if every item takes a byte and m is more than the bytes left
-unfoldable pub walkSteps : {A : Type 0} → ℕ → Rule A → List ℕ → ℕ → Walked A
+unfoldable pub walkSteps : {A : Type 0} → ℕ → Rule A → List ℕ → ℕ → ItemsWalked A
 unfolding step
 walkSteps zero rule s at = record { items = []; how = whole }
-walkSteps (suc m) rule s at = onward (walkSteps m rule s) (step rule s at)
+walkSteps (suc m) rule s at = itemsOnward (walkSteps m rule s) (step rule s at)
 
-abbrev pub walk : {A : Type 0} → Rule A → List ℕ → ℕ → Walked A
-walk rule s at = walkSteps (suc (length s - at)) rule s at
+abbrev pub walkItems : {A : Type 0} → Rule A → List ℕ → ℕ → ItemsWalked A
+walkItems rule s at = walkSteps (suc (length s - at)) rule s at
 
 -- ---- the items
 abbrev pub integerItem : Rule ℕ
@@ -88,26 +89,26 @@ abbrev pub defaultCharset : List ℕ → Outcome (ℕ × ℕ)
 defaultCharset value = readPacked value 0
 
 -- ---- what the answers of steps and readers say
-abbrev pub integerOf : IntegerStep → Outcome (Stepped ℕ ℕ)
-integerOf (Item value next) = ok (item value (next .at))
-integerOf End = ok end
-integerOf (Refused r) = refused r
+abbrev pub integerTold : IntegerStep → Outcome (Stepped ℕ ℕ)
+integerTold (Item value next) = ok (item value (next .at))
+integerTold End = ok end
+integerTold (Refused r) = refused r
 
-abbrev pub pairOf : PairStep → Outcome (Stepped (ℕ × ℕ) ℕ)
-pairOf (Item₂ first second next) = ok (item (first, second) (next .at))
-pairOf End₂ = ok end
-pairOf (Refused₂ r) = refused r
+abbrev pub pairTold : PairStep → Outcome (Stepped (ℕ × ℕ) ℕ)
+pairTold (Item₂ first second next) = ok (item (first, second) (next .at))
+pairTold End₂ = ok end
+pairTold (Refused₂ r) = refused r
 
-abbrev pub stringOf : StringStep → Outcome (Stepped Part ℕ)
-stringOf (Item₃ value next) = ok (item value (next .at))
-stringOf End₃ = ok end
-stringOf (Refused₃ r) = refused r
+abbrev pub stringTold : StringStep → Outcome (Stepped Part ℕ)
+stringTold (Item₃ value next) = ok (item value (next .at))
+stringTold End₃ = ok end
+stringTold (Refused₃ r) = refused r
 
-abbrev pub groupOf : GroupStep → Outcome (Stepped (ℕ × ℕ) ℕ)
-groupOf (Item₄ count first next) = ok (item (count, first) (next .at))
-groupOf End₄ = ok end
-groupOf (Refused₄ r) = refused r
+abbrev pub groupTold : GroupStep → Outcome (Stepped (ℕ × ℕ) ℕ)
+groupTold (Item₄ count first next) = ok (item (count, first) (next .at))
+groupTold End₄ = ok end
+groupTold (Refused₄ r) = refused r
 
-abbrev pub charsetOf : DefaultCharset → Outcome (ℕ × ℕ)
-charsetOf (Read charset pairs) = ok (charset, pairs .at)
-charsetOf (Refused₅ r) = refused r
+abbrev pub charsetTold : DefaultCharset → Outcome (ℕ × ℕ)
+charsetTold (Read charset pairs) = ok (charset, pairs .at)
+charsetTold (Refused₅ r) = refused r

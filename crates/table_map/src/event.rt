@@ -10,8 +10,9 @@ use wire::Refusal;
 use wire::part_of;
 use wire::within;
 ghost use mathlib.Core.Path.{_≡_};
-ghost use Rattle.table_map.specs.Events.{idBytes, readNames, readColumns, readEvent, eventOf, orNone, partIn};
-ghost use Rattle.table_map.specs.Reads.{namesOf, columnsOf};
+ghost use Rattle.table_map.specs.Events.{idBytes, readNames, readColumns, readEvent, eventTold, partIn};
+ghost use Rattle.table_map.specs.Inner.Events.{orNone};
+ghost use Rattle.table_map.specs.Inner.Reads.{eventNamesTold, eventColumnsTold};
 
 // The post-header length of events whose table id has 4 bytes.
 const SHORT_POST_HEADER: u8 = 6;
@@ -36,82 +37,82 @@ pub enum EventRead {
 }
 
 // The names, and the place after the byte behind the second.
-struct Names {
+struct EventNames {
     database: Part,
     table: Part,
     next: usize,
 }
 
-enum NamesRead {
-    Read(Names),
+enum EventNamesRead {
+    Read(EventNames),
     Refused(Refusal),
 }
 
 // What there is of the columns, and the place after it.
-struct Columns {
+struct EventColumns {
     types: Part,
     metadata: Part,
     bits: Part,
     next: usize,
 }
 
-enum ColumnsRead {
-    Read(Columns),
+enum EventColumnsRead {
+    Read(EventColumns),
     Refused(Refusal),
 }
 
-fn read_names(s: &[u8], at: usize) -> NamesRead
-    ensures { λ r. ⌜ namesOf r ≡ readNames (now (s .entry)) at ⌝ }
+fn read_names(s: &[u8], at: usize) -> EventNamesRead
+    ensures { λ r. ⌜ eventNamesTold r ≡ readNames (now (s .entry)) at ⌝ }
 {
     let first = match short_part(s, at) {
         PartRead::Read(cut) => cut,
-        PartRead::Refused(r) => return NamesRead::Refused(r),
+        PartRead::Refused(r) => return EventNamesRead::Refused(r),
     };
     let behind = match within(s, first.next, 1, first.next) {
         Reach::At(next) => next,
-        Reach::Refused(r) => return NamesRead::Refused(r),
+        Reach::Refused(r) => return EventNamesRead::Refused(r),
     };
     let second = match short_part(s, behind) {
         PartRead::Read(cut) => cut,
-        PartRead::Refused(r) => return NamesRead::Refused(r),
+        PartRead::Refused(r) => return EventNamesRead::Refused(r),
     };
     let next = match within(s, second.next, 1, second.next) {
         Reach::At(next) => next,
-        Reach::Refused(r) => return NamesRead::Refused(r),
+        Reach::Refused(r) => return EventNamesRead::Refused(r),
     };
     let database = first.part;
     let table = second.part;
-    NamesRead::Read(Names {
+    EventNamesRead::Read(EventNames {
         database,
         table,
         next,
     })
 }
 
-fn read_columns(s: &[u8], at: usize) -> ColumnsRead
-    ensures { λ r. ⌜ columnsOf r ≡ readColumns (now (s .entry)) at ⌝ }
+fn read_columns(s: &[u8], at: usize) -> EventColumnsRead
+    ensures { λ r. ⌜ eventColumnsTold r ≡ readColumns (now (s .entry)) at ⌝ }
 {
     let types = match read_length(s, at) {
         Announced::Read(part) => part,
-        Announced::Refused(r) => return ColumnsRead::Refused(r),
+        Announced::Refused(r) => return EventColumnsRead::Refused(r),
     };
     let behind = match within(s, types.start, types.len, types.start) {
         Reach::At(next) => next,
-        Reach::Refused(r) => return ColumnsRead::Refused(r),
+        Reach::Refused(r) => return EventColumnsRead::Refused(r),
     };
     let cut = match long_part(s, behind) {
         PartRead::Read(cut) => cut,
-        PartRead::Refused(r) => return ColumnsRead::Refused(r),
+        PartRead::Refused(r) => return EventColumnsRead::Refused(r),
     };
     let start = cut.next;
     let len = wire::bytes_for(types.len);
     let next = match within(s, start, len, start) {
         Reach::At(next) => next,
-        Reach::Refused(r) => return ColumnsRead::Refused(r),
+        Reach::Refused(r) => return EventColumnsRead::Refused(r),
     };
     let metadata = cut.part;
     let bits = Part { start, len };
-    ColumnsRead::Read(Columns {
+    EventColumnsRead::Read(EventColumns {
         types,
         metadata,
         bits,
@@ -131,7 +132,7 @@ fn id_bytes(post_header: u8) -> usize
 
 // The event in the lent bytes, which stand behind its header; post_header is the length that the format description gives for table maps.
 pub fn read_event(event: &[u8], post_header: u8) -> EventRead
-    ensures { λ r. ⌜ eventOf r ≡ readEvent (now (event .entry)) «post_header» ⌝ }
+    ensures { λ r. ⌜ eventTold r ≡ readEvent (now (event .entry)) «post_header» ⌝ }
 {
     let width = id_bytes(post_header);
     let at = match within(event, 0, width, 0) {
@@ -143,12 +144,12 @@ pub fn read_event(event: &[u8], post_header: u8) -> EventRead
         Reach::Refused(r) => return EventRead::Refused(r),
     };
     let names = match read_names(event, behind) {
-        NamesRead::Read(names) => names,
-        NamesRead::Refused(r) => return EventRead::Refused(r),
+        EventNamesRead::Read(names) => names,
+        EventNamesRead::Refused(r) => return EventRead::Refused(r),
     };
     let columns = match read_columns(event, names.next) {
-        ColumnsRead::Read(columns) => columns,
-        ColumnsRead::Refused(r) => return EventRead::Refused(r),
+        EventColumnsRead::Read(columns) => columns,
+        EventColumnsRead::Refused(r) => return EventRead::Refused(r),
     };
     let start = columns.next;
     let len = event.len() - start;

@@ -1,4 +1,9 @@
 // The optional fields, one after the other (table_map_event.rs: OptionalMetadataIter).
+use crate::field_type::COLUMN_VISIBILITY;
+use crate::field_type::DEFAULT_CHARSET;
+use crate::field_type::ENUM_AND_SET_DEFAULT_CHARSET;
+use crate::field_type::SIGNEDNESS;
+use crate::field_type::VECTOR_DIMENSIONALITY;
 use crate::part::PartRead;
 use crate::part::long_part;
 use value::Dialect;
@@ -14,7 +19,8 @@ ghost use mathlib.Core.Path.{_≡_};
 ghost use Prim.Native.Nat.{_≤_};
 ghost use lib.ListN.{length};
 ghost use Rattle.wire.specs.Packed.{readPacked};
-ghost use Rattle.table_map.specs.Fields.{signBits, countSignBits, isField, isRead, contentsHold, cutField, judgeField, fieldStep, fieldOf, fieldCutOf, judgedOf};
+ghost use Rattle.table_map.specs.Fields.{signBits, countSignBits, isField, isRead, contentsHold, cutField, judgeField, fieldStep};
+ghost use Rattle.table_map.specs.Fields.{fieldTold, fieldCutTold, judgedTold};
 
 // Where a walk over the optional bytes stands, with what it needs of the map, counted once.
 pub struct Fields {
@@ -46,7 +52,8 @@ pub enum Judged {
 impl Fields {
     // At a place of the optional bytes of a map with these type bytes.
     pub fn new(dialect: Dialect, types: &[u8], at: usize) -> Fields
-        ensures { λ r. ⌜ r ≡ record { at = at; numeric = countSignBits dialect (now (types .entry)); columns = length (now (types .entry)) } ⌝ }
+        ensures { λ r. ⌜ r ≡ record
+            { at = at; numeric = countSignBits dialect (now (types .entry)); columns = length (now (types .entry)) } ⌝ }
     {
         let numeric = count_sign_bits(dialect, types);
         let columns = types.len();
@@ -59,7 +66,7 @@ impl Fields {
 
     // The field at the cursor: cut out, then judged.
     pub fn next(self, optional: &[u8]) -> FieldStep
-        ensures { λ r. ⌜ fieldOf r ≡ fieldStep self (now (optional .entry)) ⌝ }
+        ensures { λ r. ⌜ fieldTold r ≡ fieldStep self (now (optional .entry)) ⌝ }
     {
         let at = self.at;
         if at == optional.len() {
@@ -84,7 +91,7 @@ impl Fields {
 
     // Whether a field that was cut out at the cursor holds: its type is known, and its contents are as the walk asks.
     pub fn judge(self, optional: &[u8], kind: u8, value: Part) -> Judged
-        ensures { λ r. ⌜ judgedOf r ≡ judgeField (self .numeric) (self .columns) (now (optional .entry)) (self .at) (kind, value) ⌝ }
+        ensures { λ r. ⌜ judgedTold r ≡ judgeField (self .numeric) (self .columns) (now (optional .entry)) (self .at) (kind, value) ⌝ }
     {
         let at = self.at;
         if !is_field(kind) {
@@ -99,7 +106,7 @@ impl Fields {
 
 // Cuts out the field at a place, whatever its type and its contents are.
 pub fn cut_field(optional: &[u8], at: usize) -> FieldCut
-    ensures { λ r. ⌜ fieldCutOf r ≡ cutField (now (optional .entry)) at ⌝ }
+    ensures { λ r. ⌜ fieldCutTold r ≡ cutField (now (optional .entry)) at ⌝ }
 {
     let behind = match within(optional, at, 1, at) {
         Reach::At(next) => next,
@@ -144,26 +151,26 @@ fn sign_bits(dialect: Dialect, kind: u8) -> usize
 fn is_field(kind: u8) -> bool
     ensures { λ r. ⌜ r ≡ isField kind ⌝ }
 {
-    if kind < 1 {
+    if kind < SIGNEDNESS {
         return false;
     }
-    kind <= 13
+    kind <= VECTOR_DIMENSIONALITY
 }
 
 // Whether the contents of a field are as the walk asks: 1 and 12 are bits of columns, 2 and 10 start with a default charset.
 fn contents_hold(numeric: usize, columns: usize, kind: u8, value: &[u8]) -> bool
     ensures { λ r. ⌜ r ≡ contentsHold numeric columns kind (now (value .entry)) ⌝ }
 {
-    if kind == 1 {
+    if kind == SIGNEDNESS {
         return value.len() == wire::bytes_for(numeric);
     }
-    if kind == 12 {
+    if kind == COLUMN_VISIBILITY {
         return value.len() == wire::bytes_for(columns);
     }
-    if kind == 2 {
+    if kind == DEFAULT_CHARSET {
         return starts_packed(value);
     }
-    if kind == 10 {
+    if kind == ENUM_AND_SET_DEFAULT_CHARSET {
         return starts_packed(value);
     }
     true

@@ -2,6 +2,7 @@
 // Ports mysql_common 0.38.2: binlog/events/table_map_event.rs.
 mod event;
 mod field;
+pub mod field_type;
 mod list;
 mod part;
 mod write;

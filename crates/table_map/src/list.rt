@@ -1,5 +1,6 @@
-// What stands in optional fields: integers, pairs, strings and groups of strings (table_map_event.rs: IterCharsets, IterNonDefault, IterNames, IterSetStrValues and their like), and bits.
-// A cursor is an offset: at the length the list has ended; past it there is no first byte, and the reader of that refuses.
+// What stands in optional fields: integers, pairs, strings and groups of strings (table_map_event.rs: IterCharsets, IterNonDefault,
+// IterNames, IterSetStrValues and their like), and bits. A cursor is an offset: at the length the list has ended; past it there is no first
+// byte, and the reader of that refuses.
 use crate::part::PartRead;
 use crate::part::long_part;
 use wire::Packed;
@@ -8,8 +9,9 @@ use wire::Reach;
 use wire::Refusal;
 ghost use mathlib.Core.Path.{_≡_};
 ghost use Rattle.wire.specs.Bits.{bitMsb0};
-ghost use Rattle.wire.specs.Parts.{reachOf};
-ghost use Rattle.table_map.specs.Lists.{step, integerItem, pairItem, stringItem, groupItem, strings, integerOf, pairOf, stringOf, groupOf, defaultCharset, charsetOf};
+ghost use Rattle.wire.specs.Parts.{reachTold};
+ghost use Rattle.table_map.specs.Lists.{step, integerItem, pairItem, stringItem, groupItem, strings, integerTold, pairTold};
+ghost use Rattle.table_map.specs.Lists.{stringTold, groupTold, defaultCharset, charsetTold};
 
 // The cursor of a list of integers: fields 3, 7, 8, 11 and 13.
 pub struct Integers {
@@ -24,7 +26,7 @@ pub enum IntegerStep {
 
 impl Integers {
     pub fn next(self, s: &[u8]) -> IntegerStep
-        ensures { λ r. ⌜ integerOf r ≡ step integerItem (now (s .entry)) (self .at) ⌝ }
+        ensures { λ r. ⌜ integerTold r ≡ step integerItem (now (s .entry)) (self .at) ⌝ }
     {
         let at = self.at;
         if at == s.len() {
@@ -40,7 +42,8 @@ impl Integers {
     }
 }
 
-// The cursor of a list of pairs: in field 9 a column and the length of its prefix; in fields 2 and 10, behind the default, a rank and its charset.
+// The cursor of a list of pairs: in field 9 a column and the length of its prefix; in fields 2 and 10, behind the default, a rank and its
+// charset.
 pub struct Pairs {
     pub at: usize,
 }
@@ -57,7 +60,7 @@ pub enum PairStep {
 
 impl Pairs {
     pub fn next(self, s: &[u8]) -> PairStep
-        ensures { λ r. ⌜ pairOf r ≡ step pairItem (now (s .entry)) (self .at) ⌝ }
+        ensures { λ r. ⌜ pairTold r ≡ step pairItem (now (s .entry)) (self .at) ⌝ }
     {
         let at = self.at;
         if at == s.len() {
@@ -96,7 +99,7 @@ pub enum StringStep {
 
 impl Strings {
     pub fn next(self, s: &[u8]) -> StringStep
-        ensures { λ r. ⌜ stringOf r ≡ step stringItem (now (s .entry)) (self .at) ⌝ }
+        ensures { λ r. ⌜ stringTold r ≡ step stringItem (now (s .entry)) (self .at) ⌝ }
     {
         let at = self.at;
         if at == s.len() {
@@ -132,7 +135,7 @@ pub enum GroupStep {
 
 impl Groups {
     pub fn next(self, s: &[u8]) -> GroupStep
-        ensures { λ r. ⌜ groupOf r ≡ step groupItem (now (s .entry)) (self .at) ⌝ }
+        ensures { λ r. ⌜ groupTold r ≡ step groupItem (now (s .entry)) (self .at) ⌝ }
     {
         let at = self.at;
         if at == s.len() {
@@ -157,7 +160,7 @@ impl Groups {
 
 // Reads n strings, one after the other, up to the first that is not there: n is believed only as far as the bytes go.
 fn skip_strings(s: &[u8], at: usize, n: u64) -> Reach
-    ensures { λ r. ⌜ reachOf r ≡ strings n (now (s .entry)) at ⌝ }
+    ensures { λ r. ⌜ reachTold r ≡ strings n (now (s .entry)) at ⌝ }
 {
     let mut place = at;
     let mut i: u64 = 0;
@@ -180,7 +183,7 @@ pub enum DefaultCharset {
 }
 
 pub fn default_charset(value: &[u8]) -> DefaultCharset
-    ensures { λ r. ⌜ charsetOf r ≡ defaultCharset (now (value .entry)) ⌝ }
+    ensures { λ r. ⌜ charsetTold r ≡ defaultCharset (now (value .entry)) ⌝ }
 {
     match wire::read_packed(value, 0) {
         Packed::Value {

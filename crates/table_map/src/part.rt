@@ -7,7 +7,7 @@ use wire::within;
 ghost use mathlib.Core.Path.{_≡_};
 ghost use Rattle.wire.specs.Packed.{readPacked};
 ghost use Rattle.table_map.specs.Parts.{shortPart, longPart};
-ghost use Rattle.table_map.specs.Reads.{announcedOf, cutOf};
+ghost use Rattle.table_map.specs.Inner.Reads.{announcedTold, partTold};
 
 // What a packed length announces: it may run past the bytes.
 pub(crate) enum Announced {
@@ -16,19 +16,19 @@ pub(crate) enum Announced {
 }
 
 // A part, and the place after it.
-pub(crate) struct Cut {
+pub(crate) struct CutPart {
     pub part: Part,
     pub next: usize,
 }
 
 pub(crate) enum PartRead {
-    Read(Cut),
+    Read(CutPart),
     Refused(Refusal),
 }
 
 // The packed length at `at`, and the bytes behind it that it announces.
 pub(crate) fn read_length(s: &[u8], at: usize) -> Announced
-    ensures { λ r. ⌜ announcedOf r ≡ readPacked (now (s .entry)) at ⌝ }
+    ensures { λ r. ⌜ announcedTold r ≡ readPacked (now (s .entry)) at ⌝ }
 {
     match wire::read_packed(s, at) {
         Packed::Value { value, next } => {
@@ -41,7 +41,7 @@ pub(crate) fn read_length(s: &[u8], at: usize) -> Announced
 
 // The part behind its length in the byte at `at`.
 pub(crate) fn short_part(s: &[u8], at: usize) -> PartRead
-    ensures { λ r. ⌜ cutOf r ≡ shortPart (now (s .entry)) at ⌝ }
+    ensures { λ r. ⌜ partTold r ≡ shortPart (now (s .entry)) at ⌝ }
 {
     let start = match within(s, at, 1, at) {
         Reach::At(next) => next,
@@ -52,7 +52,7 @@ pub(crate) fn short_part(s: &[u8], at: usize) -> PartRead
         Reach::At(next) => next,
         Reach::Refused(r) => return PartRead::Refused(r),
     };
-    PartRead::Read(Cut {
+    PartRead::Read(CutPart {
         part: Part { start, len },
         next,
     })
@@ -60,7 +60,7 @@ pub(crate) fn short_part(s: &[u8], at: usize) -> PartRead
 
 // The part behind the packed length at `at`.
 pub(crate) fn long_part(s: &[u8], at: usize) -> PartRead
-    ensures { λ r. ⌜ cutOf r ≡ longPart (now (s .entry)) at ⌝ }
+    ensures { λ r. ⌜ partTold r ≡ longPart (now (s .entry)) at ⌝ }
 {
     let part = match read_length(s, at) {
         Announced::Read(part) => part,
@@ -70,5 +70,5 @@ pub(crate) fn long_part(s: &[u8], at: usize) -> PartRead
         Reach::At(next) => next,
         Reach::Refused(r) => return PartRead::Refused(r),
     };
-    PartRead::Read(Cut { part, next })
+    PartRead::Read(CutPart { part, next })
 }

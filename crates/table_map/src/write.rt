@@ -9,11 +9,12 @@ ghost use Prim.Native.Nat.{_+_, _≤_};
 ghost use lib.ListN.{length};
 ghost use Rattle.wire.specs.Number.{leBytes};
 ghost use Rattle.wire.specs.Packed.{packedBytes};
-ghost use Rattle.wire.specs.Stored.{answerOf, leftOf, writtenOf, sizeSaid};
-ghost use Rattle.table_map.specs.Writes.{parts, nameBytes, eventHead, columnBytes, isEvent, writeEvent, eventSize, Put};
+ghost use Rattle.wire.specs.Stored.{answerOf, leftOf, writtenTold, sizeTold};
+ghost use Rattle.table_map.specs.Writes.{eventParts, nameBytes, isEvent, writeEvent, eventSize};
+ghost use Rattle.table_map.specs.Inner.Writes.{eventHead, columnBytes, PutAt};
 
 // Ids are below this.
-const ID_END: u64 = 281474976710656;
+const ID_END: u64 = 1 << 48;
 
 // The most bytes a name has.
 const NAME_MOST: usize = 255;
@@ -23,7 +24,8 @@ const SIZE_MOST: usize = 18446744073709551615;
 
 // Whether the writer takes these parts.
 fn is_event(id: u64, database: &[u8], table: &[u8], types: &[u8], bits: &[u8]) -> bool
-    ensures { λ r. ⌜ r ≡ isEvent (parts id 0 (now (database .entry)) (now (table .entry)) (now (types .entry)) [] (now (bits .entry)) []) ⌝ }
+    ensures { λ r. ⌜ r ≡ isEvent
+        (eventParts id 0 (now (database .entry)) (now (table .entry)) (now (types .entry)) [] (now (bits .entry)) []) ⌝ }
 {
     if ID_END <= id {
         return false;
@@ -48,7 +50,9 @@ pub fn event_size(
     bits: &[u8],
     optional: &[u8],
 ) -> Size
-    ensures { λ r. ⌜ sizeSaid r ≡ eventSize (parts id flags (now (database .entry)) (now (table .entry)) (now (types .entry)) (now (metadata .entry)) (now (bits .entry)) (now (optional .entry))) ⌝ }
+    ensures { λ r. ⌜ sizeTold r
+        ≡ eventSize (eventParts id flags (now (database .entry)) (now (table .entry)) (now (types .entry)) (now (metadata .entry))
+        (now (bits .entry)) (now (optional .entry))) ⌝ }
 {
     if !is_event(id, database, table, types, bits) {
         return Size::Refused(wire::refuse(NOT_TAKEN, 0));
@@ -80,8 +84,13 @@ pub fn write_event(
     optional: &[u8],
     buf: &mut [u8],
 ) -> Written
-    ensures { λ r. ⌜ writtenOf r ≡ answerOf (writeEvent (parts id flags (now (database .entry)) (now (table .entry)) (now (types .entry)) (now (metadata .entry)) (now (bits .entry)) (now (optional .entry))) (now (buf .entry))) ⌝ }
-    ensures { λ _. ⌜ now (buf .exit) ≡ leftOf (now (buf .entry)) (writeEvent (parts id flags (now (database .entry)) (now (table .entry)) (now (types .entry)) (now (metadata .entry)) (now (bits .entry)) (now (optional .entry))) (now (buf .entry))) ⌝ }
+    ensures { λ r. ⌜ writtenTold r
+        ≡ answerOf (writeEvent (eventParts id flags (now (database .entry)) (now (table .entry)) (now (types .entry))
+        (now (metadata .entry)) (now (bits .entry)) (now (optional .entry))) (now (buf .entry))) ⌝ }
+    ensures { λ _. ⌜ now (buf .exit)
+        ≡ leftOf (now (buf .entry))
+        (writeEvent (eventParts id flags (now (database .entry)) (now (table .entry)) (now (types .entry)) (now (metadata .entry))
+        (now (bits .entry)) (now (optional .entry))) (now (buf .entry))) ⌝ }
 {
     let size = match event_size(id, flags, database, table, types, metadata, bits, optional) {
         Size::Takes(n) => n,
@@ -90,72 +99,74 @@ pub fn write_event(
     if buf.len() < size {
         return Written::Refused(wire::refuse(NO_ROOM, 0));
     }
-    let behind = put_head(buf, id, flags, database, table);
-    let next = put_columns(buf, behind, types, metadata, bits, optional);
+    let behind = put_head(id, flags, database, table, buf);
+    let next = put_columns(types, metadata, bits, optional, buf, behind);
     Written::Done { next }
 }
 
 // ---- each writes from at on, where there is room, and hands back the place after what it wrote
 
-fn put_le(buf: &mut [u8], at: usize, k: usize, v: u64) -> usize
+fn put_le(k: usize, v: u64, buf: &mut [u8], at: usize) -> usize
     requires { ⌜ (k ≤ 8) × (at + k ≤ length (now buf)) ⌝ }
-    ensures { λ r. ⌜ Put (now (buf .entry)) at (leBytes k v) (now (buf .exit)) r ⌝ }
+    ensures { λ r. ⌜ PutAt (now (buf .entry)) at (leBytes k v) (now (buf .exit)) r ⌝ }
 {
-    wire::write_le(buf, at, k, v);
+    wire::write_le(k, v, buf, at);
     at + k
 }
 
-fn put_packed(buf: &mut [u8], at: usize, v: u64) -> usize
+fn put_packed(v: u64, buf: &mut [u8], at: usize) -> usize
     requires { ⌜ at + length (packedBytes v) ≤ length (now buf) ⌝ }
-    ensures { λ r. ⌜ Put (now (buf .entry)) at (packedBytes v) (now (buf .exit)) r ⌝ }
+    ensures { λ r. ⌜ PutAt (now (buf .entry)) at (packedBytes v) (now (buf .exit)) r ⌝ }
 {
-    wire::write_packed(buf, at, v);
+    wire::write_packed(v, buf, at);
     at + wire::packed_size(v)
 }
 
-fn put_bytes(buf: &mut [u8], at: usize, bytes: &[u8]) -> usize
+fn put_bytes(bytes: &[u8], buf: &mut [u8], at: usize) -> usize
     requires { ⌜ at + length (now bytes) ≤ length (now buf) ⌝ }
-    ensures { λ r. ⌜ Put (now (buf .entry)) at (now (bytes .entry)) (now (buf .exit)) r ⌝ }
+    ensures { λ r. ⌜ PutAt (now (buf .entry)) at (now (bytes .entry)) (now (buf .exit)) r ⌝ }
 {
-    wire::write_bytes(buf, at, bytes);
+    wire::write_bytes(bytes, buf, at);
     at + bytes.len()
 }
 
 // A name behind its length, and a zero byte.
-fn put_name(buf: &mut [u8], at: usize, name: &[u8]) -> usize
+fn put_name(name: &[u8], buf: &mut [u8], at: usize) -> usize
     requires { ⌜ (length (now name) ≤ 255) × (at + (length (now name) + 2) ≤ length (now buf)) ⌝ }
-    ensures { λ r. ⌜ Put (now (buf .entry)) at (nameBytes (now (name .entry))) (now (buf .exit)) r ⌝ }
+    ensures { λ r. ⌜ PutAt (now (buf .entry)) at (nameBytes (now (name .entry))) (now (buf .exit)) r ⌝ }
 {
-    let start = put_le(buf, at, 1, name.len() as u64);
-    let end = put_bytes(buf, start, name);
-    put_le(buf, end, 1, 0)
+    let start = put_le(1, name.len() as u64, buf, at);
+    let end = put_bytes(name, buf, start);
+    put_le(1, 0, buf, end)
 }
 
-fn put_head(buf: &mut [u8], id: u64, flags: u16, database: &[u8], table: &[u8]) -> usize
-    requires { ⌜ (length (now database) ≤ 255) × (length (now table) ≤ 255) × (12 + length (now database) + length (now table) ≤ length (now buf)) ⌝ }
-    ensures { λ r. ⌜ Put (now (buf .entry)) 0 (eventHead id flags (now (database .entry)) (now (table .entry))) (now (buf .exit)) r ⌝ }
+fn put_head(id: u64, flags: u16, database: &[u8], table: &[u8], buf: &mut [u8]) -> usize
+    requires { ⌜ (length (now database) ≤ 255) × (length (now table) ≤ 255)
+        × (12 + length (now database) + length (now table) ≤ length (now buf)) ⌝ }
+    ensures { λ r. ⌜ PutAt (now (buf .entry)) 0 (eventHead id flags (now (database .entry)) (now (table .entry))) (now (buf .exit)) r ⌝ }
 {
-    let a = put_le(buf, 0, 6, id);
-    let b = put_le(buf, a, 2, flags as u64);
-    let c = put_name(buf, b, database);
-    put_name(buf, c, table)
+    let a = put_le(6, id, buf, 0);
+    let b = put_le(2, flags as u64, buf, a);
+    let c = put_name(database, buf, b);
+    put_name(table, buf, c)
 }
 
 fn put_columns(
-    buf: &mut [u8],
-    at: usize,
     types: &[u8],
     metadata: &[u8],
     bits: &[u8],
     optional: &[u8],
+    buf: &mut [u8],
+    at: usize,
 ) -> usize
     requires { ⌜ at + length (columnBytes (now types) (now metadata) (now bits) (now optional)) ≤ length (now buf) ⌝ }
-    ensures { λ r. ⌜ Put (now (buf .entry)) at (columnBytes (now (types .entry)) (now (metadata .entry)) (now (bits .entry)) (now (optional .entry))) (now (buf .exit)) r ⌝ }
+    ensures { λ r. ⌜ PutAt (now (buf .entry)) at
+        (columnBytes (now (types .entry)) (now (metadata .entry)) (now (bits .entry)) (now (optional .entry))) (now (buf .exit)) r ⌝ }
 {
-    let a = put_packed(buf, at, types.len() as u64);
-    let b = put_bytes(buf, a, types);
-    let c = put_packed(buf, b, metadata.len() as u64);
-    let d = put_bytes(buf, c, metadata);
-    let e = put_bytes(buf, d, bits);
-    put_bytes(buf, e, optional)
+    let a = put_packed(types.len() as u64, buf, at);
+    let b = put_bytes(types, buf, a);
+    let c = put_packed(metadata.len() as u64, buf, b);
+    let d = put_bytes(metadata, buf, c);
+    let e = put_bytes(bits, buf, d);
+    put_bytes(optional, buf, e)
 }

@@ -6,54 +6,55 @@ use native.Mathlib.Omega.{arith}
 use borrow.Author.Tests.{le-leb, leb-true, eq-eqb, ne-eqb, eqb-true, eqb-false}
 use lib.Dec.{eqb}
 use Rattle.wire.proofs.Outcomes.{both-true}
-use Rattle.temporal.specs.declared.kind.Kind.the-variants.{Time2}
-use Rattle.temporal.specs.declared.parts.Stamp.{Stamp}
-use Rattle.temporal.specs.declared.parts.Moment.{Moment}
+use Rattle.temporal.specs.declared.storage.Storage.the-variants.{Time2}
+use Rattle.temporal.specs.declared.parts.Seconds.{Seconds}
+use Rattle.temporal.specs.declared.parts.Datetime.{Datetime}
 use Rattle.temporal.specs.declared.parts.Time.{Time}
 use Rattle.temporal.specs.declared.parts.Temporal.{Temporal}
 use Rattle.temporal.specs.Fraction.{fractionBytes, unitOf}
 use Rattle.temporal.specs.Times.{timeNumber}
-use Rattle.temporal.specs.Kinds.{isTime, timeIn}
-use Rattle.temporal.specs.Domains.{stampDomain, momentDomain, timeDomain, domain}
+use Rattle.temporal.specs.Storage.{isTime, timeIn}
+use Rattle.temporal.specs.Domains.{secondsDomain, datetimeDomain, timeDomain, temporalDomain}
 use Rattle.temporal.proofs.Ranges.{Clock, Day, clock-of, clock-in, day-of, day-in}
 
--- ---- a stamp, a moment and a time that a fraction of w bytes can hold, and the other way round
-pub record HoldsStamp (w : ℕ) (t : Stamp) : Type 0 where
+-- ---- a seconds, a datetime and a time that a fraction of w bytes can hold, and the other way round
+pub record HoldsSeconds (w : ℕ) (t : Seconds) : Type 0 where
   pub seconds : t .seconds ≤ 4294967295
   pub micros : t .micros ≤ 999999
   pub units : t .micros % unitOf w ≡ 0
 
 -- what the test says
-pub stamp-of : (w : ℕ) (t : Stamp) → stampDomain w t ≡ true → HoldsStamp w t
-unfolding stampDomain
-stamp-of w t e =
+pub seconds-of : (w : ℕ) (t : Seconds) → secondsDomain w t ≡ true → HoldsSeconds w t
+unfolding secondsDomain
+seconds-of w t e =
     let a = both-true _ _ e in
     let b = both-true _ _ (a .1) in
     record { seconds = leb-true _ _ (a .0); micros = leb-true _ _ (b .0); units = eqb-true _ _ (b .1) }
 
 -- and what it needs
-pub stamp-in : (w : ℕ) (t : Stamp) → HoldsStamp w t → stampDomain w t ≡ true
-unfolding stampDomain
-stamp-in w t h = simp (le-leb (t .seconds) 4294967295 (h .seconds), le-leb (t .micros) 999999 (h .micros), eq-eqb (t .micros % unitOf w) 0 (h .units))
+pub seconds-in : (w : ℕ) (t : Seconds) → HoldsSeconds w t → secondsDomain w t ≡ true
+unfolding secondsDomain
+seconds-in w t h =
+    simp (le-leb (t .seconds) 4294967295 (h .seconds), le-leb (t .micros) 999999 (h .micros), eq-eqb (t .micros % unitOf w) 0 (h .units))
 
--- a moment
-pub record HoldsMoment (w : ℕ) (m : Moment) : Type 0 where
+-- a datetime
+pub record HoldsDatetime (w : ℕ) (m : Datetime) : Type 0 where
   pub date : Day (m .year) (m .month) (m .day)
   pub clock : Clock 23 (m .hour) (m .minute) (m .second) (m .micros)
   pub units : m .micros % unitOf w ≡ 0
 
 -- what the test says
-pub moment-of : (w : ℕ) (m : Moment) → momentDomain w m ≡ true → HoldsMoment w m
-unfolding momentDomain
-moment-of w m e =
+pub datetime-of : (w : ℕ) (m : Datetime) → datetimeDomain w m ≡ true → HoldsDatetime w m
+unfolding datetimeDomain
+datetime-of w m e =
     let a = both-true _ _ e in
     let b = both-true _ _ (a .1) in
     record { date = day-of _ _ _ (a .0); clock = clock-of _ _ _ _ _ (b .0); units = eqb-true _ _ (b .1) }
 
 -- and what it needs
-pub moment-in : (w : ℕ) (m : Moment) → HoldsMoment w m → momentDomain w m ≡ true
-unfolding momentDomain
-moment-in w m h = rw (day-in (h .date), clock-in (h .clock), eq-eqb (m .micros % unitOf w) 0 (h .units)) refl
+pub datetime-in : (w : ℕ) (m : Datetime) → HoldsDatetime w m → datetimeDomain w m ≡ true
+unfolding datetimeDomain
+datetime-in w m h = rw (day-in (h .date), clock-in (h .clock), eq-eqb (m .micros % unitOf w) 0 (h .units)) refl
 
 -- zero where all parts are
 abbrev pub sum : Time → ℕ
@@ -94,8 +95,9 @@ unfolding timeDomain
 time-in w t h = rw (clock-in (h .clock), eq-eqb (t .micros % unitOf w) 0 (h .units)) (not-zero (t .negative) (sum t) (h .signed))
 
 -- ---- what TIME2 holds can be stored: no number of it is too large
-pub time2-room : (m0 : ℕ) (t : Temporal) → domain (Time2 m0) t ≡ true → (timeNumber 64 (timeIn t) < 8388608) × (timeIn t .micros ≤ 999999)
-unfolding domain
+pub time2-room : (m0 : ℕ) (t : Temporal) → temporalDomain (Time2 m0) t ≡ true
+    → (timeNumber 64 (timeIn t) < 8388608) × (timeIn t .micros ≤ 999999)
+unfolding temporalDomain
 time2-room m0 t e =
     let a = both-true (isTime t) (timeDomain (fractionBytes m0) (timeIn t)) e in
     let c = time-of (fractionBytes m0) (timeIn t) (a .1) .clock in

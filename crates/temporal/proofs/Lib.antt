@@ -1,7 +1,7 @@
--- The laws of the crate. `Units`: the fraction of a second, over its width. `Ranges`: parts in range, by either judge. `Radices`: the fields of a
--- number, bits or decimals. `Sorts`: sorts of temporals. `Holds`: what the domains say. `Numbers`: each kind's two numbers, both ways. `Steps`: what
--- the functions do is what the definitions say. `Forms`: stored forms, once for all kinds: read back, sound, refused. `Views`: no two answers look
--- the same on paper. `Words`: document 01's own words for TIME2.
+-- The laws of the crate. `Units`: the fraction of a second, over its width. `Ranges`: parts in range, by either judge. `Radices`: the
+-- fields of a number, bits or decimals. `Sorts`: sorts of temporals. `Holds`: what the domains say. `Numbers`: each storage's two numbers,
+-- both ways. `Steps`: what the functions do is what the definitions say. `Forms`: stored forms, once for all storages: read back, sound,
+-- refused. `Views`: no two answers look the same on paper. `Words`: document 01's own words for TIME2.
 pub mod Units
 pub mod Ranges
 pub mod Radices

@@ -1,14 +1,14 @@
--- The fields of a number over their radices, whatever these are: a number of fields is split into them, and the fields of a number make it. Bits
--- (64, 32, 32, 13) and decimals (100) are the same law. Assumes nothing.
+-- The fields of a number over their radices, whatever these are: a number of fields is split into them, and the fields of a number make it.
+-- Bits (64, 32, 32, 13) and decimals (100) are the same law. Assumes nothing.
 use Prim.Native.Nat.{ℕ, _+_, _*_, _/_, _%_, _<_}
 use mathlib.Core.Path.{_≡_, ap, _∙_}
 use mathlib.Core.Bool.{Bool}
 use native.Mathlib.Nat.{mul-add-div-right, mul-add-mod-self-right, div-eq-of-lt, mod-eq-of-lt, div-add-mod', add-zero}
 use native.Mathlib.Omega.{arith}
 use Rattle.temporal.specs.declared.parts.Time.{Time}
-use Rattle.temporal.specs.declared.parts.Moment.{Moment}
+use Rattle.temporal.specs.declared.parts.Datetime.{Datetime}
 use Rattle.temporal.specs.Times.{timeBy, timeNumber}
-use Rattle.temporal.specs.Moments.{momentBy, momentNumber}
+use Rattle.temporal.specs.Datetimes.{datetimeBy, datetimeNumber}
 
 -- ---- one field behind a number
 pub field-div : (n r v : ℕ) → v < r → (n * r + v) / r ≡ n
@@ -31,8 +31,8 @@ pub time-number : (r : ℕ) (b : Bool) (n u : ℕ) → timeNumber r (timeBy r b 
 unfolding timeBy
 time-number r b n u = rw (div-add-mod' (n / r) r) (div-add-mod' n r)
 
--- ---- a moment
-pub record Below (r h d mo : ℕ) (m : Moment) : Type 0 where
+-- ---- a datetime
+pub record Below (r h d mo : ℕ) (m : Datetime) : Type 0 where
   pub month : m .month < mo
   pub day : m .day < d
   pub hour : m .hour < h
@@ -40,9 +40,9 @@ pub record Below (r h d mo : ℕ) (m : Moment) : Type 0 where
   pub second : m .second < r
 
 -- the fields of its number are its own
-pub moment-back : (r h d mo : ℕ) (m : Moment) → Below r h d mo m → momentBy r h d mo (momentNumber r h d mo m) (m .micros) ≡ m
-unfolding momentBy
-moment-back r h d mo m b =
+pub datetime-back : (r h d mo : ℕ) (m : Datetime) → Below r h d mo m → datetimeBy r h d mo (datetimeNumber r h d mo m) (m .micros) ≡ m
+unfolding datetimeBy
+datetime-back r h d mo m b =
     let n₁ = m .year * mo + m .month in
     let n₂ = n₁ * d + m .day in
     let n₃ = n₂ * h + m .hour in
@@ -61,7 +61,8 @@ moment-back r h d mo m b =
     )
 
 -- and the number of a number's fields is the number
-pub moment-number : (r h d mo n u : ℕ) → momentNumber r h d mo (momentBy r h d mo n u) ≡ n
-unfolding momentBy
-moment-number r h d mo n u =
-    rw (div-add-mod' (n / r / r / h / d) mo, div-add-mod' (n / r / r / h) d, div-add-mod' (n / r / r) h, div-add-mod' (n / r) r) (div-add-mod' n r)
+pub datetime-number : (r h d mo n u : ℕ) → datetimeNumber r h d mo (datetimeBy r h d mo n u) ≡ n
+unfolding datetimeBy
+datetime-number r h d mo n u =
+    rw (div-add-mod' (n / r / r / h / d) mo, div-add-mod' (n / r / r / h) d, div-add-mod' (n / r / r) h, div-add-mod' (n / r) r)
+    (div-add-mod' n r)

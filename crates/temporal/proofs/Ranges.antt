@@ -1,4 +1,5 @@
--- Ranges: a judgement with no part out of range says that each is in it, and the other way round; and so does the domain's test. Assumes nothing.
+-- Ranges: a judgement with no part out of range says that each is in it, and the other way round; and so does the domain's test. Assumes
+-- nothing.
 use Prim.Native.Nat.{ℕ, suc, _≤_}
 use mathlib.Core.Path.{_≡_, refl, sym}
 use mathlib.Core.Bool.{Bool, true, false, false≢true}
@@ -43,12 +44,14 @@ clock-clear top h m s u e =
 -- parts in range: no fault
 pub clock-none : {top h m s u : ℕ} → Clock top h m s u → clockFault top h m s u ≡ 0
 unfolding clockFault
-clock-none {top} {h} {m} {s} {u} c = simp (le-leb h top (c .hour), le-leb m 59 (c .minute), le-leb s 59 (c .second), le-leb u 999999 (c .micros))
+clock-none {top} {h} {m} {s} {u} c =
+    simp (le-leb h top (c .hour), le-leb m 59 (c .minute), le-leb s 59 (c .second), le-leb u 999999 (c .micros))
 
 -- parts in range: the domain's test holds
 pub clock-in : {top h m s u : ℕ} → Clock top h m s u → inClock top h m s u ≡ true
 unfolding inClock
-clock-in {top} {h} {m} {s} {u} c = simp (le-leb h top (c .hour), le-leb m 59 (c .minute), le-leb s 59 (c .second), le-leb u 999999 (c .micros))
+clock-in {top} {h} {m} {s} {u} c =
+    simp (le-leb h top (c .hour), le-leb m 59 (c .minute), le-leb s 59 (c .second), le-leb u 999999 (c .micros))
 
 -- and where that test holds they are in range
 pub clock-of : (top h m s u : ℕ) → inClock top h m s u ≡ true → Clock top h m s u

@@ -13,11 +13,11 @@ use Rattle.wire.specs.Number.{Bytes, beValue}
 use Rattle.wire.proofs.Inverse.{be-bound, be-join, bytes-drop}
 use lib.IntN.{ℤ, pos, negsuc, negℤ, _+ℤ_, _-ℤ_, _*ℤ_, +ℤ-idr, negℤ-+ℤ}
 use Rattle.temporal.specs.Fraction.{fractionBytes, unitOf}
-use Rattle.temporal.specs.Times.{timeBy, packedTime, time2Of}
-use Rattle.temporal.specs.declared.kind.Kind.the-variants.{Time2}
-use Rattle.temporal.specs.declared.parts.Temporal.the-variants.{Lasts}
-use Rattle.temporal.specs.Kinds.{partsOf, isBig, wholeBytes, fractionSize}
-use Rattle.temporal.specs.Reading.{sizeOf, wholeIn, unitsIn, decode}
+use Rattle.temporal.specs.Times.{timeBy, signedTime, time2Of}
+use Rattle.temporal.specs.declared.storage.Storage.the-variants.{Time2}
+use Rattle.temporal.specs.declared.parts.Temporal.{Temporal}
+use Rattle.temporal.specs.Storage.{temporalOf, isBig, wholeBytes, fractionSize}
+use Rattle.temporal.specs.Reading.{temporalSize, wholeIn, unitsIn, temporalDecode}
 use Rattle.temporal.specs.Words.{split, words, words6, worded}
 use Rattle.temporal.proofs.Units.{widths, unit-some}
 
@@ -49,7 +49,9 @@ split-neg (suc x) h = refl
 -- fewer than three bytes of units stay below 2^24 microseconds
 small : (f w : ℕ) → w ≤ 3 → w ≤ 2 → f ≤ 256 ^ w → 0 < w → f * unitOf w < 16777216
 unfolding unitOf
-small f = widths (λ w. w ≤ 2 → f ≤ 256 ^ w → 0 < w → f * unitOf w < 16777216) (λ a b c. omega arith) (λ a b c. omega arith) (λ a b c. omega arith) (λ a b c. omega arith)
+small f =
+    widths (λ w. w ≤ 2 → f ≤ 256 ^ w → 0 < w → f * unitOf w < 16777216) (λ a b c. omega arith) (λ a b c. omega arith) (λ a b c. omega arith)
+    (λ a b c. omega arith)
 
 none : (f w : ℕ) → w ≡ 0 → f < 256 ^ w → f ≡ 0
 none f w e h = let p : f < 256 ^ 0 = rw e at h in omega arith
@@ -62,7 +64,7 @@ module _ (w a f : ℕ) (h : w ≤ 2) (l : f < 256 ^ w) where
 
   -- not negative
   above : 8388608 ≤ a → words w a f ≡ time2Of w a f
-  unfolding words split time2Of packedTime
+  unfolding words split time2Of signedTime
   above p =
       let g = low in
       let n = a - 8388608 in
@@ -73,7 +75,7 @@ module _ (w a f : ℕ) (h : w ≤ 2) (l : f < 256 ^ w) where
 
   -- negative, with no fraction
   whole : a < 8388608 → f ≡ 0 → words w a f ≡ time2Of w a f
-  unfolding words time2Of packedTime
+  unfolding words time2Of signedTime
   whole p z =
       let n = 8388608 - a in
       let e : pos a -ℤ pos 8388608 ≡ negsuc (8388608 - suc a) = minus a 8388608 p in
@@ -87,7 +89,7 @@ module _ (w a f : ℕ) (h : w ≤ 2) (l : f < 256 ^ w) where
 
   -- negative, with a fraction
   part : a < 8388608 → 0 < f → words w a f ≡ time2Of w a f
-  unfolding words time2Of packedTime
+  unfolding words time2Of signedTime
   part p z =
       let n = 8388608 - a - 1 in
       let u = 256 ^ w - f in
@@ -105,15 +107,17 @@ module _ (w a f : ℕ) (h : w ≤ 2) (l : f < 256 ^ w) where
       ∙ neg-add (n * 16777216) (u * unitOf w) in
       let x : (n * 16777216 + u * unitOf w) / 16777216 ≡ n = omega arith in
       let y : (n * 16777216 + u * unitOf w) % 16777216 ≡ u * unitOf w = omega arith in
-      rw (e, ne-eqb f 0 (λ b. omega arith), lt-leb 8388608 a p, d) (ap split q ∙ split-neg (n * 16777216 + u * unitOf w) (omega arith) ∙ rw (x, y))
+      rw (e, ne-eqb f 0 (λ b. omega arith), lt-leb 8388608 a p, d)
+      (ap split q ∙ split-neg (n * 16777216 + u * unitOf w) (omega arith) ∙ rw (x, y))
 
   -- m0 0..4
   pub as-words : words w a f ≡ time2Of w a f
-  as-words = dite (decLe 8388608 a) above (λ p. dite (decLe f 0) (λ z. whole (omega arith) (omega arith)) (λ z. part (omega arith) (omega arith)))
+  as-words =
+      dite (decLe 8388608 a) above (λ p. dite (decLe f 0) (λ z. whole (omega arith) (omega arith)) (λ z. part (omega arith) (omega arith)))
 
 -- m0 5..6
 pub as-words-6 : (a f : ℕ) → f < 16777216 → words6 (a * 16777216 + f) ≡ time2Of 3 a f
-unfolding words6 split time2Of packedTime unitOf
+unfolding words6 split time2Of signedTime unitOf
 as-words-6 a f l =
     let n = a * 16777216 + f in
     dite (decLe 8388608 a)
@@ -151,8 +155,9 @@ unfolding fractionBytes
 three m h = rw (ne-eqb m 0 (λ e. omega arith), lt-leb m 2 (omega arith), lt-leb m 4 h)
 
 -- what the bytes of a TIME2 are read as is what the paper says of them
-pub as-worded : (m0 : ℕ) (b : List ℕ) → length b ≡ sizeOf (Time2 m0) → Bytes b → decode (Time2 m0) b ≡ Lasts (worded m0 b)
-unfolding decode partsOf wholeIn unitsIn isBig wholeBytes sizeOf fractionSize worded
+pub as-worded : (m0 : ℕ) (b : List ℕ) → length b ≡ temporalSize (Time2 m0) → Bytes b
+    → temporalDecode (Time2 m0) b ≡ Temporal.Time (worded m0 b)
+unfolding temporalDecode temporalOf wholeIn unitsIn isBig wholeBytes temporalSize fractionSize worded
 as-worded m0 b e h =
     let w = fractionBytes m0 in
     let a = beValue (take 3 b) in
@@ -160,13 +165,15 @@ as-worded m0 b e h =
     let n : length (drop 3 b) ≡ w = length-drop 3 b ∙ omega arith in
     let l : beValue (drop 3 b) < 256 ^ w = rw n at (be-bound (drop 3 b) (bytes-drop 3 b h)) in
     dite (decLe m0 4)
-    (λ p. ap Lasts (sym (as-words w a f (narrow m0 p) l) ∙ sym (ap (λ (t : Bool). cond t (words w a f) (words6 (beValue b))) (le-leb m0 4 p))))
+    (λ p. ap Temporal.Time (sym (as-words w a f (narrow m0 p) l)
+    ∙ sym (ap (λ (t : Bool). cond t (words w a f) (words6 (beValue b))) (le-leb m0 4 p))))
     (λ p.
     let t : w ≡ 3 = three m0 (omega arith) in
     let l₁ : beValue (drop 3 b) < 256 ^ 3 = rw t at l in
     let j : beValue b ≡ beValue (take 3 b) * 256 ^ 3 + beValue (drop 3 b) =
-    ap beValue (sym (take-append-drop 3 b)) ∙ be-join (take 3 b) (drop 3 b) ∙ ap (λ (k : ℕ). beValue (take 3 b) * 256 ^ k + beValue (drop 3 b)) (n ∙ t) in
-    ap Lasts
+    ap beValue (sym (take-append-drop 3 b)) ∙ be-join (take 3 b) (drop 3 b)
+    ∙ ap (λ (k : ℕ). beValue (take 3 b) * 256 ^ k + beValue (drop 3 b)) (n ∙ t) in
+    ap Temporal.Time
     (ap (λ (v : ℕ). time2Of v a f) t
     ∙ sym (as-words-6 a f l₁)
     ∙ sym (ap words6 j)

@@ -1,4 +1,5 @@
--- Document 01: "then a fraction of 0, 1, 2, 3 bytes for m0 0, 1..2, 3..4, 5..6, units of 10,000, 100, 1 microseconds". Assumes nothing.
+-- The fraction of a second. Document 01: "then a fraction of 0, 1, 2, 3 bytes for m0 0, 1..2, 3..4, 5..6, units of 10,000, 100, 1
+-- microseconds". Assumes nothing.
 use Prim.Native.Nat.{ℕ, _-_, _^_}
 use mathlib.Core.Bool.{cond}
 use lib.Dec.{leb, eqb}

@@ -1,5 +1,5 @@
--- Document 01's own words for TIME2, over ℤ, where `Times` speaks of sign and magnitude. proofs/Words.antt proves that both say the same. Assumes
--- nothing.
+-- Document 01's own words for TIME2, over ℤ, where `Times` speaks of sign and magnitude. proofs/Words.antt proves that both say the same.
+-- Assumes nothing.
 use Prim.Native.Nat.{ℕ, _/_, _%_, _^_}
 use mathlib.Core.Bool.{Bool, true, false, cond, not, _&&_}
 use mathlib.Core.List.{List}
@@ -18,21 +18,21 @@ below (negsuc n) = true
 -- "one packed number, absolute value then split at 2^24; hours are the whole part over 4,096, minutes and seconds 6 bits each"
 unfoldable pub split : ℤ → Time
 unfolding timeBy
-split p = timeBy 64 (below p) (natAbs p / 16777216) (natAbs p % 16777216)
+split p = timeBy 64 (below p) (natAbs p / 2 ^ 24) (natAbs p % 2 ^ 24)
 
--- m0 0..4, of the 3 bytes a and a fraction f of w bytes: "3 bytes less 2^23; if negative with nonzero fraction, whole part plus 1 and fraction less
--- 256 or 65,536"
+-- m0 0..4, of the 3 bytes a and a fraction f of w bytes: "3 bytes less 2^23; if negative with nonzero fraction, whole part plus 1 and
+-- fraction less 256 or 65,536"
 unfoldable pub words : ℕ → ℕ → ℕ → Time
 unfolding split unitOf
 words w a f =
-    cond (below (pos a -ℤ pos 8388608) && not (eqb f 0))
-    (split ((pos a -ℤ pos 8388608 +ℤ pos 1) *ℤ pos 16777216 +ℤ (pos f -ℤ pos (256 ^ w)) *ℤ pos (unitOf w)))
-    (split ((pos a -ℤ pos 8388608) *ℤ pos 16777216 +ℤ pos f *ℤ pos (unitOf w)))
+    cond (below (pos a -ℤ pos (2 ^ 23)) && not (eqb f 0))
+    (split ((pos a -ℤ pos (2 ^ 23) +ℤ pos 1) *ℤ pos (2 ^ 24) +ℤ (pos f -ℤ pos (256 ^ w)) *ℤ pos (unitOf w)))
+    (split ((pos a -ℤ pos (2 ^ 23)) *ℤ pos (2 ^ 24) +ℤ pos f *ℤ pos (unitOf w)))
 
 -- m0 5..6, of the number n of the 6 bytes: "6 bytes less 2^47"
 unfoldable pub words6 : ℕ → Time
 unfolding split
-words6 n = split (pos n -ℤ pos 140737488355328)
+words6 n = split (pos n -ℤ pos (2 ^ 47))
 
 -- of the stored bytes b
 unfoldable pub worded : ℕ → List ℕ → Time

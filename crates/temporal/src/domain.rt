@@ -3,37 +3,37 @@ use crate::fraction::fraction_bytes;
 use crate::fraction::unit;
 use crate::judge::clock_fault;
 use crate::judge::day_fault;
-use crate::kind::Kind;
 use crate::parts::Temporal;
 use crate::parts::Time;
+use crate::storage::Storage;
 ghost use mathlib.Core.Path.{_≡_};
 ghost use mathlib.Core.Bool.{_&&_};
 ghost use Prim.Native.Nat.{_+_, _≤_};
 ghost use lib.Dec.{eqb};
 ghost use Rattle.temporal.specs.Ranges.{inDay, inClock};
-ghost use Rattle.temporal.specs.Kinds.{isStamp, isDate, isMoment, isTime, stampIn, dateIn, momentIn, timeIn};
-ghost use Rattle.temporal.specs.Domains.{inUnits, stampDomain, dateDomain, momentDomain, timeDomain, domain};
+ghost use Rattle.temporal.specs.Storage.{isSeconds, isDate, isDatetime, isTime, secondsIn, dateIn, datetimeIn, timeIn};
+ghost use Rattle.temporal.specs.Domains.{inUnits, secondsDomain, dateDomain, datetimeDomain, timeDomain, temporalDomain};
 
-// Whether a column of this kind can hold the temporal.
-pub fn in_domain(kind: Kind, temporal: Temporal) -> bool
-    ensures { λ r. ⌜ r ≡ domain kind temporal ⌝ }
+// Whether a column of this storage can hold the temporal.
+pub fn in_domain(storage: Storage, temporal: Temporal) -> bool
+    ensures { λ r. ⌜ r ≡ temporalDomain storage temporal ⌝ }
 {
-    match kind {
-        Kind::Timestamp => holds_stamp(0, temporal),
-        Kind::OldTime => holds_old_time(temporal),
-        Kind::OldDatetime => holds_moment(0, temporal),
-        Kind::Newdate => holds_date(temporal),
-        Kind::Timestamp2 { m0 } => holds_stamp(fraction_bytes(m0), temporal),
-        Kind::Datetime2 { m0 } => holds_moment(fraction_bytes(m0), temporal),
-        Kind::Time2 { m0 } => holds_time(fraction_bytes(m0), temporal),
+    match storage {
+        Storage::Timestamp => holds_seconds(0, temporal),
+        Storage::OldTime => holds_old_time(temporal),
+        Storage::OldDatetime => holds_datetime(0, temporal),
+        Storage::Newdate => holds_date(temporal),
+        Storage::Timestamp2 { m0 } => holds_seconds(fraction_bytes(m0), temporal),
+        Storage::Datetime2 { m0 } => holds_datetime(fraction_bytes(m0), temporal),
+        Storage::Time2 { m0 } => holds_time(fraction_bytes(m0), temporal),
     }
 }
 
-fn holds_stamp(w: usize, temporal: Temporal) -> bool
+fn holds_seconds(w: usize, temporal: Temporal) -> bool
     requires { ⌜ w ≤ 3 ⌝ }
-    ensures { λ r. ⌜ r ≡ isStamp temporal && stampDomain w (stampIn temporal) ⌝ }
+    ensures { λ r. ⌜ r ≡ isSeconds temporal && secondsDomain w (secondsIn temporal) ⌝ }
 {
-    let Temporal::Since(t) = temporal else {
+    let Temporal::Seconds(t) = temporal else {
         return false;
     };
     if 999_999 < t.micros {
@@ -45,17 +45,17 @@ fn holds_stamp(w: usize, temporal: Temporal) -> bool
 fn holds_date(temporal: Temporal) -> bool
     ensures { λ r. ⌜ r ≡ isDate temporal && dateDomain (dateIn temporal) ⌝ }
 {
-    let Temporal::On(d) = temporal else {
+    let Temporal::Date(d) = temporal else {
         return false;
     };
     in_day(d.year, d.month, d.day)
 }
 
-fn holds_moment(w: usize, temporal: Temporal) -> bool
+fn holds_datetime(w: usize, temporal: Temporal) -> bool
     requires { ⌜ w ≤ 3 ⌝ }
-    ensures { λ r. ⌜ r ≡ isMoment temporal && momentDomain w (momentIn temporal) ⌝ }
+    ensures { λ r. ⌜ r ≡ isDatetime temporal && datetimeDomain w (datetimeIn temporal) ⌝ }
 {
-    let Temporal::At(m) = temporal else {
+    let Temporal::Datetime(m) = temporal else {
         return false;
     };
     if !in_day(m.year, m.month, m.day) {
@@ -72,7 +72,7 @@ fn holds_time(w: usize, temporal: Temporal) -> bool
     requires { ⌜ w ≤ 3 ⌝ }
     ensures { λ r. ⌜ r ≡ isTime temporal && timeDomain w (timeIn temporal) ⌝ }
 {
-    let Temporal::Lasts(t) = temporal else {
+    let Temporal::Time(t) = temporal else {
         return false;
     };
     if !in_clock(838, t.hours, t.minutes, t.seconds, t.micros) {
@@ -86,9 +86,9 @@ fn holds_time(w: usize, temporal: Temporal) -> bool
 
 // TIME has no bit for a sign.
 fn holds_old_time(temporal: Temporal) -> bool
-    ensures { λ r. ⌜ r ≡ domain Kind.OldTime temporal ⌝ }
+    ensures { λ r. ⌜ r ≡ temporalDomain Storage.OldTime temporal ⌝ }
 {
-    let Temporal::Lasts(t) = temporal else {
+    let Temporal::Time(t) = temporal else {
         return false;
     };
     if t.negative {

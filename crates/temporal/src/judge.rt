@@ -1,18 +1,18 @@
 // The parts of a number, and whether each is in its range. Bits and decimals differ in their radices alone.
 use crate::parts::Date;
-use crate::parts::Moment;
+use crate::parts::Datetime;
 use crate::parts::Temporal;
 use crate::parts::Time;
 ghost use mathlib.Core.Path.{_≡_};
 ghost use Prim.Native.Nat.{_<_};
 ghost use Rattle.temporal.specs.Ranges.{clockFault, dayFault};
 ghost use Rattle.temporal.specs.Times.{timeBy};
-ghost use Rattle.temporal.specs.Moments.{momentBy, dateOf};
-ghost use Rattle.temporal.specs.Judgement.{judgedTime, judgedMoment, judgedDate};
+ghost use Rattle.temporal.specs.Datetimes.{datetimeBy, dateOf};
+ghost use Rattle.temporal.specs.Inner.Ranged.{rangedTime, rangedDatetime, rangedDate};
 
 // A temporal, or the number of its first part out of range: year 1, month 2, day 3, hour 4, minute 5, second 6, fraction 7; 8 is a datetime
 // below zero.
-pub(crate) enum Judged {
+pub(crate) enum Ranged {
     In(Temporal),
     Out(u8),
 }
@@ -53,22 +53,22 @@ pub(crate) fn day_fault(y: u64, mo: u64, d: u64) -> u8
 }
 
 // The time of a whole part n, whose minutes and seconds have this radix, and of u microseconds.
-pub(crate) fn time_by(radix: u64, negative: bool, n: u64, u: u64) -> Judged
+pub(crate) fn time_by(radix: u64, negative: bool, n: u64, u: u64) -> Ranged
     requires { ⌜ 0 < radix ⌝ }
-    ensures { λ r. ⌜ r ≡ judgedTime (timeBy radix negative n u) ⌝ }
+    ensures { λ r. ⌜ r ≡ rangedTime (timeBy radix negative n u) ⌝ }
 {
     let h = n / radix / radix;
     let m = n / radix % radix;
     let s = n % radix;
     let part = clock_fault(838, h, m, s, u);
     if part != 0 {
-        return Judged::Out(part);
+        return Ranged::Out(part);
     }
     let hours = h as u16;
     let minutes = m as u8;
     let seconds = s as u8;
     let micros = u as u32;
-    Judged::In(Temporal::Lasts(Time {
+    Ranged::In(Temporal::Time(Time {
         negative,
         hours,
         minutes,
@@ -77,16 +77,17 @@ pub(crate) fn time_by(radix: u64, negative: bool, n: u64, u: u64) -> Judged
     }))
 }
 
-// The moment of a whole part n and of u microseconds; radix is that of seconds and minutes; hours, days and months are the radices of these.
-pub(crate) fn moment_by(radix: u64, hours: u64, days: u64, months: u64, n: u64, u: u64) -> Judged
+// The datetime of a whole part n and of u microseconds; radix is that of seconds and minutes; hours, days and months are the radices of
+// these.
+pub(crate) fn datetime_by(radix: u64, hours: u64, days: u64, months: u64, n: u64, u: u64) -> Ranged
     requires { ⌜ (0 < radix) × (0 < hours) × (0 < days) × (0 < months) ⌝ }
-    ensures { λ r. ⌜ r ≡ judgedMoment (momentBy radix hours days months n u) ⌝ }
+    ensures { λ r. ⌜ r ≡ rangedDatetime (datetimeBy radix hours days months n u) ⌝ }
 {
     let to_minutes = n / radix;
     let to_hours = to_minutes / radix;
     let to_days = to_hours / hours;
     let to_months = to_days / days;
-    moment_of(
+    datetime_of(
         to_months / months,
         to_months % months,
         to_days % days,
@@ -97,17 +98,17 @@ pub(crate) fn moment_by(radix: u64, hours: u64, days: u64, months: u64, n: u64, 
     )
 }
 
-// The moment of these parts.
-fn moment_of(y: u64, mo: u64, d: u64, h: u64, mi: u64, s: u64, u: u64) -> Judged
-    ensures { λ r. ⌜ r ≡ judgedMoment record { year = y; month = mo; day = d; hour = h; minute = mi; second = s; micros = u } ⌝ }
+// The datetime of these parts.
+fn datetime_of(y: u64, mo: u64, d: u64, h: u64, mi: u64, s: u64, u: u64) -> Ranged
+    ensures { λ r. ⌜ r ≡ rangedDatetime record { year = y; month = mo; day = d; hour = h; minute = mi; second = s; micros = u } ⌝ }
 {
     let first = day_fault(y, mo, d);
     if first != 0 {
-        return Judged::Out(first);
+        return Ranged::Out(first);
     }
     let then = clock_fault(23, h, mi, s, u);
     if then != 0 {
-        return Judged::Out(then);
+        return Ranged::Out(then);
     }
     let year = y as u16;
     let month = mo as u8;
@@ -116,7 +117,7 @@ fn moment_of(y: u64, mo: u64, d: u64, h: u64, mi: u64, s: u64, u: u64) -> Judged
     let minute = mi as u8;
     let second = s as u8;
     let micros = u as u32;
-    Judged::In(Temporal::At(Moment {
+    Ranged::In(Temporal::Datetime(Datetime {
         year,
         month,
         day,
@@ -128,8 +129,8 @@ fn moment_of(y: u64, mo: u64, d: u64, h: u64, mi: u64, s: u64, u: u64) -> Judged
 }
 
 // The date of a number: day 5 bits, month 4, then the year.
-pub(crate) fn date_of(n: u64) -> Judged
-    ensures { λ r. ⌜ r ≡ judgedDate (dateOf n) ⌝ }
+pub(crate) fn date_of(n: u64) -> Ranged
+    ensures { λ r. ⌜ r ≡ rangedDate (dateOf n) ⌝ }
 {
     let to_months = n / 32;
     let y = to_months / 16;
@@ -137,10 +138,10 @@ pub(crate) fn date_of(n: u64) -> Judged
     let d = n % 32;
     let part = day_fault(y, mo, d);
     if part != 0 {
-        return Judged::Out(part);
+        return Ranged::Out(part);
     }
     let year = y as u16;
     let month = mo as u8;
     let day = d as u8;
-    Judged::In(Temporal::On(Date { year, month, day }))
+    Ranged::In(Temporal::Date(Date { year, month, day }))
 }

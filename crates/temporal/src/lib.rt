@@ -2,21 +2,21 @@
 mod domain;
 mod fraction;
 mod judge;
-mod kind;
 mod misc;
 mod parts;
 mod read;
 mod sort;
+mod storage;
 mod write;
 
 pub use domain::in_domain;
-pub use kind::Kind;
-pub use kind::temporal_size;
 pub use parts::Date;
-pub use parts::Moment;
-pub use parts::Stamp;
+pub use parts::Datetime;
+pub use parts::Seconds;
 pub use parts::Temporal;
 pub use parts::Time;
 pub use read::TemporalRead;
 pub use read::read_temporal;
+pub use storage::Storage;
+pub use storage::temporal_size;
 pub use write::write_temporal;

@@ -1,7 +1,7 @@
 // The parts of a temporal, numbers all.
 
 // Seconds since 1970, and microseconds.
-pub struct Stamp {
+pub struct Seconds {
     pub seconds: u32,
     pub micros: u32,
 }
@@ -14,7 +14,7 @@ pub struct Date {
 }
 
 // A date and a time of that day.
-pub struct Moment {
+pub struct Datetime {
     pub year: u16,
     pub month: u8,
     pub day: u8,
@@ -35,8 +35,8 @@ pub struct Time {
 
 // A temporal is of one of these sorts.
 pub enum Temporal {
-    Since(Stamp),
-    On(Date),
-    At(Moment),
-    Lasts(Time),
+    Seconds(Seconds),
+    Date(Date),
+    Datetime(Datetime),
+    Time(Time),
 }

@@ -1,18 +1,18 @@
 // The parts of a temporal of one sort. One of another sort has no such parts: zeros stand for them, and no domain holds it.
 use crate::parts::Date;
-use crate::parts::Moment;
-use crate::parts::Stamp;
+use crate::parts::Datetime;
+use crate::parts::Seconds;
 use crate::parts::Temporal;
 use crate::parts::Time;
 ghost use mathlib.Core.Path.{_≡_};
-ghost use Rattle.temporal.specs.Kinds.{stampIn, dateIn, momentIn, timeIn};
+ghost use Rattle.temporal.specs.Storage.{secondsIn, dateIn, datetimeIn, timeIn};
 
-pub(crate) fn stamp_in(temporal: Temporal) -> Stamp
-    ensures { λ r. ⌜ r ≡ stampIn temporal ⌝ }
+pub(crate) fn seconds_in(temporal: Temporal) -> Seconds
+    ensures { λ r. ⌜ r ≡ secondsIn temporal ⌝ }
 {
     match temporal {
-        Temporal::Since(t) => t,
-        _ => Stamp {
+        Temporal::Seconds(t) => t,
+        _ => Seconds {
             seconds: 0,
             micros: 0,
         },
@@ -23,7 +23,7 @@ pub(crate) fn date_in(temporal: Temporal) -> Date
     ensures { λ r. ⌜ r ≡ dateIn temporal ⌝ }
 {
     match temporal {
-        Temporal::On(d) => d,
+        Temporal::Date(d) => d,
         _ => Date {
             year: 0,
             month: 0,
@@ -32,12 +32,12 @@ pub(crate) fn date_in(temporal: Temporal) -> Date
     }
 }
 
-pub(crate) fn moment_in(temporal: Temporal) -> Moment
-    ensures { λ r. ⌜ r ≡ momentIn temporal ⌝ }
+pub(crate) fn datetime_in(temporal: Temporal) -> Datetime
+    ensures { λ r. ⌜ r ≡ datetimeIn temporal ⌝ }
 {
     match temporal {
-        Temporal::At(m) => m,
-        _ => Moment {
+        Temporal::Datetime(m) => m,
+        _ => Datetime {
             year: 0,
             month: 0,
             day: 0,
@@ -53,7 +53,7 @@ pub(crate) fn time_in(temporal: Temporal) -> Time
     ensures { λ r. ⌜ r ≡ timeIn temporal ⌝ }
 {
     match temporal {
-        Temporal::Lasts(t) => t,
+        Temporal::Time(t) => t,
         _ => Time {
             negative: false,
             hours: 0,

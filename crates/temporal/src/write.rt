@@ -3,20 +3,20 @@ use crate::domain::in_domain;
 use crate::fraction::fraction_bytes;
 use crate::fraction::span;
 use crate::fraction::unit;
-use crate::kind::Kind;
-use crate::kind::fraction_size;
-use crate::kind::is_big;
-use crate::kind::whole_bytes;
 use crate::misc::DATETIMEF_INT_OFS;
 use crate::misc::TIMEF_INT_OFS;
 use crate::parts::Date;
-use crate::parts::Moment;
+use crate::parts::Datetime;
 use crate::parts::Temporal;
 use crate::parts::Time;
 use crate::sort::date_in;
-use crate::sort::moment_in;
-use crate::sort::stamp_in;
+use crate::sort::datetime_in;
+use crate::sort::seconds_in;
 use crate::sort::time_in;
+use crate::storage::Storage;
+use crate::storage::fraction_size;
+use crate::storage::is_big;
+use crate::storage::whole_bytes;
 use wire::Written;
 use wire::refusal::NO_ROOM;
 use wire::refusal::NOT_TAKEN;
@@ -24,85 +24,85 @@ use wire::refuse;
 ghost use mathlib.Core.Path.{_≡_};
 ghost use mathlib.Core.Bool.{true};
 ghost use mathlib.Core.List.{_++_};
-ghost use Prim.Native.Nat.{_+_, _*_, _/_, _≤_, _<_};
+ghost use Prim.Native.Nat.{_+_, _*_, _/_, _^_, _≤_, _<_};
 ghost use Rattle.wire.specs.Number.{beBytes};
-ghost use Rattle.wire.specs.Stored.{store, answerOf, leftOf, writtenOf};
+ghost use Rattle.wire.specs.Stored.{store, answerOf, leftOf, writtenTold};
 ghost use Rattle.temporal.specs.Fraction.{unitOf};
-ghost use Rattle.temporal.specs.Kinds.{wholeOf, unitsOf};
+ghost use Rattle.temporal.specs.Storage.{wholeOf, unitsOf};
 ghost use Rattle.temporal.specs.Times.{timeNumber, time2Whole, time2Fraction};
-ghost use Rattle.temporal.specs.Moments.{momentNumber, dateNumber};
-ghost use Rattle.temporal.specs.Domains.{domain};
+ghost use Rattle.temporal.specs.Datetimes.{datetimeNumber, dateNumber};
+ghost use Rattle.temporal.specs.Domains.{temporalDomain};
 ghost use Rattle.temporal.specs.Reading.{writeTemporal};
 
 // Writes the temporal from at on; place is what a refusal tells of one that the column cannot hold.
 pub fn write_temporal(
-    kind: Kind,
+    storage: Storage,
+    temporal: Temporal,
     buf: &mut [u8],
     at: usize,
-    temporal: Temporal,
     place: usize,
 ) -> Written
-    ensures { λ r. ⌜ writtenOf r ≡ answerOf (writeTemporal kind place (now (buf .entry)) at temporal) ⌝ }
-    ensures { λ _. ⌜ now (buf .exit) ≡ leftOf (now (buf .entry)) (writeTemporal kind place (now (buf .entry)) at temporal) ⌝ }
+    ensures { λ r. ⌜ writtenTold r ≡ answerOf (writeTemporal storage place temporal (now (buf .entry)) at) ⌝ }
+    ensures { λ _. ⌜ now (buf .exit) ≡ leftOf (now (buf .entry)) (writeTemporal storage place temporal (now (buf .entry)) at) ⌝ }
 {
-    if !in_domain(kind, temporal) {
+    if !in_domain(storage, temporal) {
         return Written::Refused(refuse(NOT_TAKEN, place));
     }
-    let k = whole_bytes(kind);
-    let whole = whole_of(kind, temporal);
-    if is_big(kind) {
-        let w = fraction_size(kind);
-        let units = units_of(kind, temporal);
-        return write_two(buf, at, k, whole, w, units);
+    let k = whole_bytes(storage);
+    let whole = whole_of(storage, temporal);
+    if is_big(storage) {
+        let w = fraction_size(storage);
+        let units = units_of(storage, temporal);
+        return write_two(k, whole, w, units, buf, at);
     }
-    wire::write_le(buf, at, k, whole)
+    wire::write_le(k, whole, buf, at)
 }
 
 // Writes the k low bytes of a whole part and the w low bytes of a fraction behind them, all of them or none.
-fn write_two(buf: &mut [u8], at: usize, k: usize, whole: u64, w: usize, units: u64) -> Written
+fn write_two(k: usize, whole: u64, w: usize, units: u64, buf: &mut [u8], at: usize) -> Written
     requires { ⌜ (k ≤ 8) × (w ≤ 3) ⌝ }
-    ensures { λ r. ⌜ writtenOf r ≡ answerOf (store (now (buf .entry)) at (beBytes k whole ++ beBytes w units)) ⌝ }
-    ensures { λ _. ⌜ now (buf .exit) ≡ leftOf (now (buf .entry)) (store (now (buf .entry)) at (beBytes k whole ++ beBytes w units)) ⌝ }
+    ensures { λ r. ⌜ writtenTold r ≡ answerOf (store (beBytes k whole ++ beBytes w units) (now (buf .entry)) at) ⌝ }
+    ensures { λ _. ⌜ now (buf .exit) ≡ leftOf (now (buf .entry)) (store (beBytes k whole ++ beBytes w units) (now (buf .entry)) at) ⌝ }
 {
     let size = k + w;
     if !wire::has_room(buf.len(), at, size) {
         return Written::Refused(refuse(NO_ROOM, 0));
     }
-    wire::write_be(buf, at, k, whole);
+    wire::write_be(k, whole, buf, at);
     let middle = at + k;
-    wire::write_be(buf, middle, w, units)
+    wire::write_be(w, units, buf, middle)
 }
 
 // The number that the whole part is stored as.
-fn whole_of(kind: Kind, temporal: Temporal) -> u64
-    requires { ⌜ domain kind temporal ≡ true ⌝ }
-    ensures { λ r. ⌜ r ≡ wholeOf kind temporal ⌝ }
+fn whole_of(storage: Storage, temporal: Temporal) -> u64
+    requires { ⌜ temporalDomain storage temporal ≡ true ⌝ }
+    ensures { λ r. ⌜ r ≡ wholeOf storage temporal ⌝ }
 {
-    match kind {
-        Kind::Timestamp => stamp_in(temporal).seconds as u64,
-        Kind::OldTime => time_number(100, time_in(temporal)),
-        Kind::OldDatetime => moment_number(100, 100, 100, 100, moment_in(temporal)),
-        Kind::Newdate => date_number(date_in(temporal)),
-        Kind::Timestamp2 { m0: _ } => stamp_in(temporal).seconds as u64,
-        Kind::Datetime2 { m0: _ } => DATETIMEF_INT_OFS
-            + moment_number(64, 32, 32, 13, moment_in(temporal)),
-        Kind::Time2 { m0 } => time2_whole(fraction_bytes(m0), time_in(temporal)),
+    match storage {
+        Storage::Timestamp => seconds_in(temporal).seconds as u64,
+        Storage::OldTime => time_number(100, time_in(temporal)),
+        Storage::OldDatetime => datetime_number(100, 100, 100, 100, datetime_in(temporal)),
+        Storage::Newdate => date_number(date_in(temporal)),
+        Storage::Timestamp2 { m0: _ } => seconds_in(temporal).seconds as u64,
+        Storage::Datetime2 { m0: _ } => DATETIMEF_INT_OFS
+            + datetime_number(64, 32, 32, 13, datetime_in(temporal)),
+        Storage::Time2 { m0 } => time2_whole(fraction_bytes(m0), time_in(temporal)),
     }
 }
 
 // The number that the fraction is stored as.
-fn units_of(kind: Kind, temporal: Temporal) -> u64
-    requires { ⌜ domain kind temporal ≡ true ⌝ }
-    ensures { λ r. ⌜ r ≡ unitsOf kind temporal ⌝ }
+fn units_of(storage: Storage, temporal: Temporal) -> u64
+    requires { ⌜ temporalDomain storage temporal ≡ true ⌝ }
+    ensures { λ r. ⌜ r ≡ unitsOf storage temporal ⌝ }
 {
-    match kind {
-        Kind::Timestamp => 0,
-        Kind::OldTime => 0,
-        Kind::OldDatetime => 0,
-        Kind::Newdate => 0,
-        Kind::Timestamp2 { m0 } => to_units(fraction_bytes(m0), stamp_in(temporal).micros),
-        Kind::Datetime2 { m0 } => to_units(fraction_bytes(m0), moment_in(temporal).micros),
-        Kind::Time2 { m0 } => time2_fraction(fraction_bytes(m0), time_in(temporal)),
+    match storage {
+        Storage::Timestamp => 0,
+        Storage::OldTime => 0,
+        Storage::OldDatetime => 0,
+        Storage::Newdate => 0,
+        Storage::Timestamp2 { m0 } => to_units(fraction_bytes(m0), seconds_in(temporal).micros),
+        Storage::Datetime2 { m0 } => to_units(fraction_bytes(m0), datetime_in(temporal).micros),
+        Storage::Time2 { m0 } => time2_fraction(fraction_bytes(m0), time_in(temporal)),
     }
 }
 
@@ -117,7 +117,7 @@ fn to_units(w: usize, micros: u32) -> u64
 
 // A fraction of a negative time counts up from the whole second below it, so the stored whole part is one less.
 fn time2_whole(w: usize, t: Time) -> u64
-    requires { ⌜ (w ≤ 3) × (timeNumber 64 t < 8388608) ⌝ }
+    requires { ⌜ (w ≤ 3) × (timeNumber 64 t < 2 ^ 23) ⌝ }
     ensures { λ r. ⌜ r ≡ time2Whole t (t .micros / unitOf w) ⌝ }
 {
     let n = time_number(64, t);
@@ -154,10 +154,10 @@ fn time_number(radix: u64, t: Time) -> u64
     append(minutes, radix, t.seconds)
 }
 
-// The same of a moment; radix is that of seconds and minutes, and hours, days and months are the radices of these.
-fn moment_number(radix: u64, hours: u64, days: u64, months: u64, m: Moment) -> u64
+// The same of a datetime; radix is that of seconds and minutes, and hours, days and months are the radices of these.
+fn datetime_number(radix: u64, hours: u64, days: u64, months: u64, m: Datetime) -> u64
     requires { ⌜ (radix ≤ 100) × (hours ≤ 100) × (days ≤ 100) × (months ≤ 100) ⌝ }
-    ensures { λ r. ⌜ (r ≡ momentNumber radix hours days months m) × (r ≤ 1000000000000000) ⌝ }
+    ensures { λ r. ⌜ (r ≡ datetimeNumber radix hours days months m) × (r ≤ 1000000000000000) ⌝ }
 {
     let year = m.year as u64;
     let to_months = append(year, months, m.month);

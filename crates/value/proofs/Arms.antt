@@ -1,5 +1,5 @@
--- Tests that antt computes: one that passes at each key of an arm of a match passes at any of them. So an arm that serves several families tells what
--- they have in common. Assumes nothing.
+-- Tests that antt computes: one that passes at each key of an arm of a match passes at any of them. So an arm that serves several families
+-- tells what they have in common. Assumes nothing.
 use Prim.Native.Nat.{ℕ}
 use mathlib.Core.Bool.{Bool, true, false, _&&_, Bool·beq}
 use mathlib.Core.List.{List, [], _∷_}
@@ -12,7 +12,9 @@ use denote.Enum.Declared.{tagOf}
 use Rattle.wire.proofs.Each.{left, right}
 use Rattle.value.specs.declared.types.Family.{Family}
 use Rattle.value.proofs.types.Family.{the-type}
-use Rattle.value.specs.declared.types.Family.the-variants.{Integer, Float, Double, Year, Timestamp, Date, Time, Datetime, Timestamp2, Datetime2, Time2, Varchar, Char, Blob, Json, Bit, Decimal, Enum, Set, Unknown}
+use Rattle.value.specs.declared.types.Family.the-variants.{Integer, Float, Double, Year, Timestamp, Date, Time, Datetime, Timestamp2}
+use Rattle.value.specs.declared.types.Family.the-variants.{Datetime2, Time2, Varchar, Char, Blob, Json, Bit, Decimal, Enum, Set}
+use Rattle.value.specs.declared.types.Family.the-variants.{Unknown}
 
 -- ---- tests
 -- a test passes at each of a list, and so at whatever is one of it

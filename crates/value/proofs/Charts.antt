@@ -9,7 +9,7 @@ use Rattle.value.specs.Columns.{declaredLength, decimalBytes, shapeOf}
 
 -- a column that is not flagged unsigned
 abbrev column : ℕ → ℕ → ℕ → Column
-column t a b = record { kind = t; m0 = a; m1 = b; unsigned = false }
+column t a b = record { real = t; m0 = a; m1 = b; unsigned = false }
 
 -- "CHAR FE FF: 255, one length byte; EE 00: 256, two"
 char-FE-FF : (declaredLength 254 254 255 ≡ 255) × (shapeOf (column 254 254 255) ≡ Counted 1)
@@ -36,7 +36,8 @@ unfolding shapeOf decimalBytes
 decimal-20-9 = (refl, refl)
 
 -- BIT(1) has m0 = 1, BIT(64) m1 = 8; there is no BIT(0) and no BIT(65)
-bits : (shapeOf (column 16 1 0) ≡ Fixed 1) × (shapeOf (column 16 0 8) ≡ Fixed 8) × (shapeOf (column 16 0 0) ≡ NotTaken 5) × (shapeOf (column 16 1 8) ≡ NotTaken 5)
+bits : (shapeOf (column 16 1 0) ≡ Fixed 1) × (shapeOf (column 16 0 8) ≡ Fixed 8) × (shapeOf (column 16 0 0) ≡ NotTaken 5)
+    × (shapeOf (column 16 1 8) ≡ NotTaken 5)
 unfolding shapeOf
 bits = (refl, refl, refl, refl)
 

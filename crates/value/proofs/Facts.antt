@@ -1,6 +1,6 @@
--- What each shape owes, a clause for each shape. (1) A value's bytes tell their own length, whatever follows. (2) They say the value. (3) Bytes that are as
--- many as they tell are those of the value that they say, and it is in the domain. (4) How many bytes a value takes is told by those bytes. (5) A
--- value's bytes are the last of its stored bytes. Assumes nothing.
+-- What each shape owes, a clause for each shape. (1) A value's bytes tell their own length, whatever follows. (2) They say the value. (3)
+-- Bytes that are as many as they tell are those of the value that they say, and it is in the domain. (4) How many bytes a value takes is
+-- told by those bytes. (5) A value's bytes are the last of its stored bytes. Assumes nothing.
 use Prim.Native.Nat.{ℕ, zero, suc, _+_, _-_, _^_, _≤_, _<_}
 use mathlib.Core.Path.{_≡_, refl, sym, ap, _∙_, subst}
 use mathlib.Core.Bool.{Bool, true, _&&_, false≢true}
@@ -19,10 +19,12 @@ use Rattle.wire.proofs.Inverse.{le-back, le-sound, le-bound, bytes-take, bytes-
 use Rattle.wire.proofs.Signs.{signs-back, signs-sound, bytes-even}
 use Rattle.temporal.proofs.Forms.{sized as timed-sized, back as timed-back, sound as timed-sound}
 use Rattle.value.specs.declared.shape.Shape.{Shape}
-use Rattle.value.specs.declared.shape.Shape.the-variants.{Unsigned, Signed, FloatBits, DoubleBits, YearByte, Timed, Fixed, Counted, NotTaken}
-use Rattle.value.specs.Data.{Datum, null, int, uint, float, double, year, when, bytes, tag, intIn, numberIn, whenIn, bytesIn}
+use Rattle.value.specs.declared.shape.Shape.the-variants.{Unsigned, Signed, FloatBits, DoubleBits, YearByte, Timed, Fixed, Counted}
+use Rattle.value.specs.declared.shape.Shape.the-variants.{NotTaken}
+use Rattle.value.specs.Data.{Datum, null, int, uint, float, double, year, temporal, bytes, tag, intIn, numberIn, temporalIn, bytesIn}
 use Rattle.value.specs.Domains.{domain}
-use Rattle.value.specs.Shapes.{bytesOf, need, decode, fault, Sized}
+use Rattle.value.specs.Shapes.{bytesOf, need, decode, fault}
+use Rattle.value.specs.Inner.Shapes.{Sized}
 use Rattle.value.specs.Reading.{taken, placed, datumOf}
 
 -- ---- a value by its sort: what it holds, put back
@@ -33,18 +35,18 @@ made (suc (suc zero)) d = uint (numberIn d)
 made (suc (suc (suc zero))) d = float (numberIn d)
 made (suc (suc (suc (suc zero)))) d = double (numberIn d)
 made (suc (suc (suc (suc (suc zero))))) d = year (numberIn d)
-made (suc (suc (suc (suc (suc (suc zero)))))) d = when (whenIn d)
+made (suc (suc (suc (suc (suc (suc zero)))))) d = temporal (temporalIn d)
 made (suc (suc (suc (suc (suc (suc (suc n))))))) d = bytes (bytesIn d)
 
 pub is-made : (d : Datum) → made (tag d) d ≡ d
-unfolding tag intIn numberIn whenIn bytesIn
+unfolding tag intIn numberIn temporalIn bytesIn
 is-made null = refl
 is-made (int z) = refl
 is-made (uint n) = refl
 is-made (float n) = refl
 is-made (double n) = refl
 is-made (year n) = refl
-is-made (when t) = refl
+is-made (temporal t) = refl
 is-made (bytes b) = refl
 
 -- a value whose sort is known
@@ -54,10 +56,12 @@ sorted d n b e =
     (ap (λ (k : ℕ). made k d) (sym (eqb-true (tag d) n (w .0))) ∙ is-made d, w .1)
 
 -- ---- (1)
-counted-need : (k : ℕ) (b rest : List ℕ) → length b < 256 ^ k → k + leValue (take k ((leBytes k (length b) ++ b) ++ rest)) ≡ length (leBytes k (length b) ++ b)
+counted-need : (k : ℕ) (b rest : List ℕ) → length b < 256 ^ k
+    → k + leValue (take k ((leBytes k (length b) ++ b) ++ rest)) ≡ length (leBytes k (length b) ++ b)
 counted-need k b rest h =
     let l = leBytes-length k (length b) in
-    let e : take k ((leBytes k (length b) ++ b) ++ rest) ≡ leBytes k (length b) = ap (take k) (append-assoc (leBytes k (length b)) b rest) ∙ take-at (leBytes k (length b)) (b ++ rest) k l in
+    let e : take k ((leBytes k (length b) ++ b) ++ rest) ≡ leBytes k (length b) =
+    ap (take k) (append-assoc (leBytes k (length b)) b rest) ∙ take-at (leBytes k (length b)) (b ++ rest) k l in
     ap (λ (x : List ℕ). k + leValue x) e
     ∙ ap (λ (x : ℕ). k + x) (le-back k (length b) h)
     ∙ sym (length-append (leBytes k (length b)) b ∙ ap (λ (x : ℕ). x + length b) l)
@@ -69,7 +73,7 @@ need-bytes (Signed k) d rest h = sym (leBytes-length k (twosOf (256 ^ k) (intIn 
 need-bytes FloatBits d rest h = sym (leBytes-length 4 (numberIn d))
 need-bytes DoubleBits d rest h = sym (leBytes-length 8 (numberIn d))
 need-bytes YearByte d rest h = sym (leBytes-length 1 (numberIn d - 1900))
-need-bytes (Timed k) d rest h = sym (timed-sized k (whenIn d))
+need-bytes (Timed k) d rest h = sym (timed-sized k (temporalIn d))
 need-bytes (Fixed n) d rest h = sym (eqb-true (length (bytesIn d)) n (both-true (areBytes (bytesIn d)) _ (sorted d 7 _ h .1) .1))
 need-bytes (Counted k) d rest h =
     counted-need k (bytesIn d) rest (ltb-true (length (bytesIn d)) (256 ^ k) (both-true (areBytes (bytesIn d)) _ (sorted d 7 _ h .1) .1))
@@ -93,9 +97,10 @@ decode-bytes (Signed k) d h =
 decode-bytes FloatBits d h = let w = sorted d 3 _ h in ap float (le-back 4 (numberIn d) (ltb-true (numberIn d) (256 ^ 4) (w .1))) ∙ w .0
 decode-bytes DoubleBits d h = let w = sorted d 4 _ h in ap double (le-back 8 (numberIn d) (ltb-true (numberIn d) (256 ^ 8) (w .1))) ∙ w .0
 decode-bytes YearByte d h = let w = sorted d 5 _ h in ap year (year-back (numberIn d) (w .1)) ∙ w .0
-decode-bytes (Timed k) d h = let w = sorted d 6 _ h in ap when (timed-back k (whenIn d) (w .1) .1) ∙ w .0
+decode-bytes (Timed k) d h = let w = sorted d 6 _ h in ap temporal (timed-back k (temporalIn d) (w .1) .1) ∙ w .0
 decode-bytes (Fixed n) d h = sorted d 7 _ h .0
-decode-bytes (Counted k) d h = ap bytes (drop-at (leBytes k (length (bytesIn d))) (bytesIn d) k (leBytes-length k (length (bytesIn d)))) ∙ sorted d 7 _ h .0
+decode-bytes (Counted k) d h =
+    ap bytes (drop-at (leBytes k (length (bytesIn d))) (bytesIn d) k (leBytes-length k (length (bytesIn d)))) ∙ sorted d 7 _ h .0
 decode-bytes (NotTaken n) d h = absurd (false≢true h)
 
 pub fault-bytes : (sh : Shape) (d : Datum) → domain sh d ≡ true → fault sh (bytesOf sh d) ≡ 0
@@ -105,7 +110,7 @@ fault-bytes (Signed k) d h = refl
 fault-bytes FloatBits d h = refl
 fault-bytes DoubleBits d h = refl
 fault-bytes YearByte d h = refl
-fault-bytes (Timed k) d h = timed-back k (whenIn d) (sorted d 6 _ h .1) .0
+fault-bytes (Timed k) d h = timed-back k (temporalIn d) (sorted d 6 _ h .1) .0
 fault-bytes (Fixed n) d h = refl
 fault-bytes (Counted k) d h = refl
 fault-bytes (NotTaken n) d h = refl
@@ -126,7 +131,8 @@ taken-domain (NotTaken n) d p h = absurd (false≢true h)
 -- ---- (3)
 -- a number of k bytes is in range, and its bytes are those
 number-whole : (k : ℕ) (b : List ℕ) → Bytes b → k ≡ length b → (leValue b < 256 ^ k) × (leBytes k (leValue b) ≡ b)
-number-whole k b h n = (subst (λ (j : ℕ). leValue b < 256 ^ j) (sym n) (le-bound b h), ap (λ (j : ℕ). leBytes j (leValue b)) n ∙ le-sound b h)
+number-whole k b h n =
+    (subst (λ (j : ℕ). leValue b < 256 ^ j) (sym n) (le-bound b h), ap (λ (j : ℕ). leBytes j (leValue b)) n ∙ le-sound b h)
 
 year-whole : (n : ℕ) → n < 256 → (leb 1900 (1900 + n) && leb (1900 + n) 2155) ≡ true
 year-whole n h = rw (le-leb 1900 (1900 + n) (omega arith), le-leb (1900 + n) 2155 (omega arith))
@@ -143,7 +149,7 @@ counted-whole k b h n =
 
 pub whole : (sh : Shape) (b : List ℕ) → Sized sh → Bytes b → need sh b ≡ length b → fault sh b ≡ 0 → taken sh 0 ≡ ok sh
     → (domain sh (decode sh b) ≡ true) × (bytesOf sh (decode sh b) ≡ b)
-unfolding need decode fault domain bytesOf taken tag intIn numberIn whenIn bytesIn
+unfolding need decode fault domain bytesOf taken tag intIn numberIn temporalIn bytesIn
 whole (Unsigned k) b z h n r t = let w = number-whole k b h n in (lt-ltb (leValue b) (256 ^ k) (w .0), w .1)
 whole (Signed k) b z h n r t =
     let w = number-whole k b h n in

@@ -1,5 +1,6 @@
--- For all shapes at once: every value of a domain is read back from its bytes, whatever stands behind them; whatever is read is in the domain and had just
--- these bytes; and bytes are refused exactly where they end early (9) or have a part out of range (10). Assumes nothing.
+-- For all shapes at once: every value of a domain is read back from its bytes, whatever stands behind them; whatever is read is in the
+-- domain and had just these bytes; and bytes are refused exactly where they end early (9) or have a part out of range (10). Assumes
+-- nothing.
 use Prim.Native.Nat.{ℕ, _+_, _≤_}
 use mathlib.Core.Path.{_≡_, refl, sym, ap, _∙_, subst}
 use mathlib.Core.Bool.{true, false}
@@ -18,19 +19,28 @@ use Rattle.wire.proofs.Inverse.{bytes-take}
 use Rattle.value.specs.declared.shape.Shape.{Shape}
 use Rattle.value.specs.Data.{Datum}
 use Rattle.value.specs.Domains.{domain}
-use Rattle.value.specs.Shapes.{bytesOf, need, decode, fault, Sized}
+use Rattle.value.specs.Shapes.{bytesOf, need, decode, fault}
+use Rattle.value.specs.Inner.Shapes.{Sized}
 use Rattle.value.specs.Columns.{isTaken, refusalOf}
 use Rattle.value.specs.Reading.{taken, cut, judged, readDatum, placed, datumOf, Fails, short, range}
 use Rattle.value.proofs.Facts.{need-bytes, decode-bytes, fault-bytes, taken-domain, whole, need-take, said}
 
 -- read-back
-pub back : (sh : Shape) (d : Datum) (p : ℕ) (rest : List ℕ) → domain sh d ≡ true → readDatum sh p (bytesOf sh d ++ rest) ≡ ok (d, length (bytesOf sh d))
+pub back : (sh : Shape) (d : Datum) (p : ℕ) (rest : List ℕ) → domain sh d ≡ true
+    → readDatum sh p (bytesOf sh d ++ rest) ≡ ok (d, length (bytesOf sh d))
 unfolding readDatum cut judged
 back sh d p rest h =
     let b = bytesOf sh d in
     let n = need-bytes sh d rest h in
     let l : length b ≤ length (b ++ rest) = simp length-append (omega arith) in
-    rw (taken-domain sh d p h, n, le-leb (length b) (length (b ++ rest)) l, take-at b rest (length b) refl, decode-bytes sh d h, eq-eqb (fault sh b) 0 (fault-bytes sh d h))
+    rw (
+      taken-domain sh d p h,
+      n,
+      le-leb (length b) (length (b ++ rest)) l,
+      take-at b rest (length b) refl,
+      decode-bytes sh d h,
+      eq-eqb (fault sh b) 0 (fault-bytes sh d h),
+    )
 
 -- a shape that there is, is there at every place
 pub taken-at : (sh : Shape) (p : ℕ) → isTaken sh ≡ true → taken sh p ≡ ok sh
@@ -57,7 +67,9 @@ unfolding readDatum cut judged
 took sh p s d n e =
     let a = after-is-ok (taken sh p) _ _ e in
     let i = taken-same sh (a .0) p (a .1) in
-    let a₂ = subst (λ (x : Shape). after {B = Datum × ℕ} (cut x p s) (λ b. after {B = Datum × ℕ} (judged x p b) (λ d. ok (d, length b))) ≡ ok (d, n)) (i .0) (a .2) in
+    let a₂ =
+    subst (λ (x : Shape). after {B = Datum × ℕ} (cut x p s) (λ b. after {B = Datum × ℕ} (judged x p b) (λ d. ok (d, length b)))
+    ≡ ok (d, n)) (i .0) (a .2) in
     let b = after-is-ok (cut sh p s) _ _ a₂ in
     let c = after-is-ok (judged sh p (b .0)) _ _ (b .2) in
     let j = test-is-ok (leb (need sh s) (length s)) (take (need sh s) s) (why 9 p) (b .0) (b .1) in
@@ -87,23 +99,29 @@ sound sh p s d n z h e =
     (subst (λ (x : Datum). domain sh x ≡ true) (sym (t .says)) (w .0), t .fits, ap (bytesOf sh) (t .says) ∙ w .1)
 
 -- a value that was read says what its place in the bytes says
-pub said-read : (sh : Shape) (p : ℕ) (s : List ℕ) (at : ℕ) (d : Datum) (n : ℕ) → readDatum sh p (drop at s) ≡ ok (d, n) → datumOf s (placed (at + n) d) ≡ d
+pub said-read : (sh : Shape) (p : ℕ) (s : List ℕ) (at : ℕ) (d : Datum) (n : ℕ) → readDatum sh p (drop at s) ≡ ok (d, n)
+    → datumOf s (placed (at + n) d) ≡ d
 said-read sh p s at d n e =
     let t = took sh p (drop at s) d n e in
     ap (λ (x : Datum). datumOf s (placed (at + n) x)) (t .says) ∙ said sh s at n (sym (t .size)) (t .fits) ∙ sym (t .says)
 
 -- ---- a shape that there is refuses exactly so
-fails-9 : (sh : Shape) (p : ℕ) (s : List ℕ) (w : Refusal) → leb (need sh s) (length s) ≡ false → why 9 p ≡ w → (w .place ≡ p) × Fails sh s (w .number)
+fails-9 : (sh : Shape) (p : ℕ) (s : List ℕ) (w : Refusal) → leb (need sh s) (length s) ≡ false → why 9 p ≡ w
+    → (w .place ≡ p) × Fails sh s (w .number)
 fails-9 sh p s w h e =
     (ap (λ (x : Refusal). x .place) (sym e), subst (λ (x : Refusal). Fails sh s (x .number)) e (short (leb-false (need sh s) (length s) h)))
 
-fails-10 : (sh : Shape) (p : ℕ) (s b : List ℕ) (w : Refusal) → leb (need sh s) (length s) ≡ true → take (need sh s) s ≡ b → eqb (fault sh b) 0 ≡ false → why 10 p ≡ w
+fails-10 : (sh : Shape) (p : ℕ) (s b : List ℕ) (w : Refusal) → leb (need sh s) (length s) ≡ true → take (need sh s) s ≡ b
+    → eqb (fault sh b) 0 ≡ false → why 10 p ≡ w
     → (w .place ≡ p) × Fails sh s (w .number)
 fails-10 sh p s b w h f r e =
-    let z : fault sh (take (need sh s) s) ≡ 0 → ⊥ = λ y. eqb-false (fault sh b) 0 r (ap (fault sh) (sym f) ∙ y) in
-    (ap (λ (x : Refusal). x .place) (sym e), subst (λ (x : Refusal). Fails sh s (x .number)) e (range (leb-true (need sh s) (length s) h) z))
+    let z : fault sh (take (need sh s) s) ≡ 0 → ⊥ = λ y. eqb-false (fault sh b) 0 r (ap (fault sh) (sym f) ∙ y) in (
+      ap (λ (x : Refusal). x .place) (sym e),
+      subst (λ (x : Refusal). Fails sh s (x .number)) e (range (leb-true (need sh s) (length s) h) z),
+    )
 
-pub fails : (sh : Shape) (p : ℕ) (s : List ℕ) (w : Refusal) → isTaken sh ≡ true → readDatum sh p s ≡ refused w → (w .place ≡ p) × Fails sh s (w .number)
+pub fails : (sh : Shape) (p : ℕ) (s : List ℕ) (w : Refusal) → isTaken sh ≡ true → readDatum sh p s ≡ refused w
+    → (w .place ≡ p) × Fails sh s (w .number)
 unfolding readDatum cut judged
 fails sh p s w t e =
     let e′ = rw (taken-at sh p t) at e in

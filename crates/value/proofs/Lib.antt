@@ -1,7 +1,7 @@
--- The laws of the crate. `Facts`: what each shape owes, a clause for each. `Laws`: what follows for all shapes at once: a stored form is unique. `Tables`: what
--- holds of every column. `Charts`: document 01's own facts of column types, computed. `Bits`: type 254 by its bits. `Readers`, `Writers`: what the proofs
--- of readers and of writers use. `Arms`, `Sorts`: for a match with an arm that serves several families, or several sorts of values or shapes. `Views`: no
--- two answers look the same on paper.
+-- The laws of the crate. `Facts`: what each shape owes, a clause for each. `Laws`: what follows for all shapes at once: a stored form is
+-- unique. `Tables`: what holds of every column. `Charts`: document 01's own facts of column types, computed. `Bits`: type 254 by its bits.
+-- `Readers`, `Writers`: what the proofs of readers and of writers use. `Arms`, `Sorts`: for a match with an arm that serves several
+-- families, or several sorts of values or shapes. `Views`: no two answers look the same on paper.
 pub mod Facts
 pub mod Laws
 pub mod Tables

@@ -11,26 +11,28 @@ use lib.Dec.{eqb}
 use lib.ListN.{length, take, drop, length-drop}
 use lib.Seq.{length-take-le}
 use Rattle.wire.specs.Outcome.{Outcome, ok, refuse, after}
-use Rattle.temporal.specs.declared.kind.Kind.{Kind}
+use Rattle.temporal.specs.declared.storage.Storage.{Storage}
 use Rattle.temporal.specs.declared.parts.Temporal.{Temporal}
-use Rattle.temporal.specs.Reading.{sizeOf, readTemporal, fault as timedFault, decode as timedDecode}
+use Rattle.temporal.specs.Reading.{temporalSize, readTemporal, temporalFault, temporalDecode}
 use Rattle.temporal.proofs.Forms.{size-least}
 use Rattle.value.specs.declared.shape.Shape.{Shape}
 use Rattle.value.specs.declared.shape.Shape.the-variants.{Timed, NotTaken}
 use Rattle.value.specs.declared.datum.Value.{Value}
-use Rattle.value.specs.declared.datum.Value.the-variants.{When}
 use Rattle.value.specs.Columns.{isTaken}
 use Rattle.value.specs.Shapes.{need, decode, fault}
 use Rattle.value.specs.Reading.{taken, cut, judged, readDatum, readValue, placed, short}
-use Rattle.value.specs.Data.{Datum, when}
+use Rattle.value.specs.Data.{Datum, temporal}
 use Rattle.value.proofs.Laws.{reads, fails-back}
 
-pub got : (sh : Shape) (p : ℕ) (s : List ℕ) (at n : ℕ) (v : Value) (next : ℕ) → isTaken sh ≡ true → need sh (drop at s) ≡ n → n ≤ length s - at
-    → fault sh (take n (drop at s)) ≡ 0 → v ≡ placed (at + n) (decode sh (take n (drop at s))) → next ≡ at + n → ok (v, next) ≡ readValue sh p s at
+pub got : (sh : Shape) (p : ℕ) (s : List ℕ) (at n : ℕ) (v : Value) (next : ℕ) → isTaken sh ≡ true → need sh (drop at s) ≡ n
+    → n ≤ length s - at
+    → fault sh (take n (drop at s)) ≡ 0 → v ≡ placed (at + n) (decode sh (take n (drop at s))) → next ≡ at + n
+    → ok (v, next) ≡ readValue sh p s at
 unfolding readValue
 got sh p s at n v next t e h z d m = rw (reads sh p (drop at s) n t e (rw length-drop h) z, d, m)
 
-pub ends-early : (sh : Shape) (p : ℕ) (s : List ℕ) (at : ℕ) → isTaken sh ≡ true → length s - at < need sh (drop at s) → refuse 9 p ≡ readValue sh p s at
+pub ends-early : (sh : Shape) (p : ℕ) (s : List ℕ) (at : ℕ) → isTaken sh ≡ true → length s - at < need sh (drop at s)
+    → refuse 9 p ≡ readValue sh p s at
 unfolding readValue
 ends-early sh p s at t h = rw (fails-back sh p (drop at s) 9 t (short (rw length-drop h)))
 
@@ -52,22 +54,25 @@ no-column n p s at = refl
 
 -- the same judgement, of a temporal alone and of a temporal among values
 judged-same : (b : Bool) (t : Temporal) (at m n p : ℕ) → m ≡ n
-    → after {B = Value × ℕ} (after {B = Datum × ℕ} (cond b (ok (when t)) (refuse 10 p)) (λ d. ok (d, m))) (λ x. ok (placed (at + x .1) (x .0), at + x .1))
-    ≡ after {B = Value × ℕ} (cond {A = Outcome (Temporal × ℕ)} b (ok (t, at + n)) (refuse 10 p)) (λ x. ok (When (x .0), x .1))
+    → after {B = Value × ℕ} (after {B = Datum × ℕ} (cond b (ok (temporal t)) (refuse 10 p)) (λ d. ok (d, m)))
+    (λ x. ok (placed (at + x .1) (x .0), at + x .1))
+    ≡ after {B = Value × ℕ} (cond {A = Outcome (Temporal × ℕ)} b (ok (t, at + n)) (refuse 10 p)) (λ x. ok (Value.Temporal (x .0), x .1))
 unfolding placed
 judged-same true t at m n p e = rw e
 judged-same false t at m n p e = refl
 
 -- a temporal: read as its own crate says
-pub timed : (k : Kind) (p : ℕ) (s : List ℕ) (at : ℕ) → readValue (Timed k) p s at ≡ after (readTemporal k p s at) (λ x. ok (When (x .0), x .1))
+pub timed : (k : Storage) (p : ℕ) (s : List ℕ) (at : ℕ)
+    → readValue (Timed k) p s at ≡ after (readTemporal k p s at) (λ x. ok (Value.Temporal (x .0), x .1))
 unfolding readValue readDatum taken cut judged need decode fault placed readTemporal
 timed k p s at =
-    dite (decLe (at + sizeOf k) (length s))
+    dite (decLe (at + temporalSize k) (length s))
     (λ h.
-    let l : sizeOf k ≤ length (drop at s) = rw length-drop (omega arith) in
-    let b = take (sizeOf k) (drop at s) in
-    let n : length b ≡ sizeOf k = length-take-le (sizeOf k) (drop at s) l in
-    rw (le-leb (sizeOf k) (length (drop at s)) l, le-leb (at + sizeOf k) (length s) h) (judged-same (eqb (timedFault k b) 0) (timedDecode k b) at (length b) (sizeOf k) p n))
+    let l : temporalSize k ≤ length (drop at s) = rw length-drop (omega arith) in
+    let b = take (temporalSize k) (drop at s) in
+    let n : length b ≡ temporalSize k = length-take-le (temporalSize k) (drop at s) l in
+    rw (le-leb (temporalSize k) (length (drop at s)) l, le-leb (at + temporalSize k) (length s) h)
+    (judged-same (eqb (temporalFault k b) 0) (temporalDecode k b) at (length b) (temporalSize k) p n))
     (λ h.
-    let l : length (drop at s) < sizeOf k = rw length-drop (omega (arith, size-least k)) in
-    rw (lt-leb (sizeOf k) (length (drop at s)) l, lt-leb (at + sizeOf k) (length s) (omega arith)))
+    let l : length (drop at s) < temporalSize k = rw length-drop (omega (arith, size-least k)) in
+    rw (lt-leb (temporalSize k) (length (drop at s)) l, lt-leb (at + temporalSize k) (length s) (omega arith)))

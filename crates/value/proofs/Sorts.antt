@@ -7,12 +7,13 @@ use denote.Enum.Declared.{tagOf}
 use lib.IntN.{pos}
 use Rattle.wire.specs.Parts.{part}
 use Rattle.value.specs.declared.datum.Value.{Value}
-use Rattle.value.specs.declared.datum.Value.the-variants.{Null, Int, Uint, Float, Double, Year, When, Bytes}
+use Rattle.value.specs.declared.datum.Value.the-variants.{Null, Int, Uint, Float, Double, Year, Bytes}
 use Rattle.value.proofs.datum.Value.{the-type as value-type}
 use Rattle.value.specs.declared.shape.Shape.{Shape}
-use Rattle.value.specs.declared.shape.Shape.the-variants.{Unsigned, Signed, FloatBits, DoubleBits, YearByte, Timed, Fixed, Counted, NotTaken}
+use Rattle.value.specs.declared.shape.Shape.the-variants.{Unsigned, Signed, FloatBits, DoubleBits, YearByte, Timed, Fixed, Counted}
+use Rattle.value.specs.declared.shape.Shape.the-variants.{NotTaken}
 use Rattle.value.proofs.shape.Shape.{the-type as shape-type}
-use Rattle.value.specs.Data.{intIn, numberIn, noWhen, whenIn}
+use Rattle.value.specs.Data.{intIn, numberIn, noTemporal, temporalIn}
 use Rattle.value.specs.Columns.{isTaken, refusalOf}
 use Rattle.value.specs.Reading.{datumOf}
 use Rattle.value.specs.Storing.{bytesAt}
@@ -26,7 +27,7 @@ not-int (Uint n) o = refl
 not-int (Float n) o = refl
 not-int (Double n) o = refl
 not-int (Year n) o = refl
-not-int (When t) o = refl
+not-int (Value.Temporal t) o = refl
 not-int (Bytes p) o = refl
 
 pub not-number : (v : Value) → OneOf (0 ∷ 1 ∷ 6 ∷ 7 ∷ []) (tagOf value-type v) → numberIn (datumOf [] v) ≡ 0
@@ -37,19 +38,19 @@ not-number (Uint n) o = absurd (miss (0 ∷ 1 ∷ 6 ∷ 7 ∷ []) 2 tt o)
 not-number (Float n) o = absurd (miss (0 ∷ 1 ∷ 6 ∷ 7 ∷ []) 3 tt o)
 not-number (Double n) o = absurd (miss (0 ∷ 1 ∷ 6 ∷ 7 ∷ []) 4 tt o)
 not-number (Year n) o = absurd (miss (0 ∷ 1 ∷ 6 ∷ 7 ∷ []) 5 tt o)
-not-number (When t) o = refl
+not-number (Value.Temporal t) o = refl
 not-number (Bytes p) o = refl
 
-pub not-when : (v : Value) → OneOf (0 ∷ 1 ∷ 2 ∷ 3 ∷ 4 ∷ 5 ∷ 7 ∷ []) (tagOf value-type v) → whenIn (datumOf [] v) ≡ noWhen
-unfolding whenIn datumOf
-not-when Null o = refl
-not-when (Int z) o = refl
-not-when (Uint n) o = refl
-not-when (Float n) o = refl
-not-when (Double n) o = refl
-not-when (Year n) o = refl
-not-when (When t) o = absurd (miss (0 ∷ 1 ∷ 2 ∷ 3 ∷ 4 ∷ 5 ∷ 7 ∷ []) 6 tt o)
-not-when (Bytes p) o = refl
+pub not-temporal : (v : Value) → OneOf (0 ∷ 1 ∷ 2 ∷ 3 ∷ 4 ∷ 5 ∷ 7 ∷ []) (tagOf value-type v) → temporalIn (datumOf [] v) ≡ noTemporal
+unfolding temporalIn datumOf
+not-temporal Null o = refl
+not-temporal (Int z) o = refl
+not-temporal (Uint n) o = refl
+not-temporal (Float n) o = refl
+not-temporal (Double n) o = refl
+not-temporal (Year n) o = refl
+not-temporal (Value.Temporal t) o = absurd (miss (0 ∷ 1 ∷ 2 ∷ 3 ∷ 4 ∷ 5 ∷ 7 ∷ []) 6 tt o)
+not-temporal (Bytes p) o = refl
 
 pub not-bytes : (v : Value) → OneOf (0 ∷ 1 ∷ 2 ∷ 3 ∷ 4 ∷ 5 ∷ 6 ∷ []) (tagOf value-type v) → bytesAt v ≡ part 0 0
 unfolding bytesAt
@@ -59,7 +60,7 @@ not-bytes (Uint n) o = refl
 not-bytes (Float n) o = refl
 not-bytes (Double n) o = refl
 not-bytes (Year n) o = refl
-not-bytes (When t) o = refl
+not-bytes (Value.Temporal t) o = refl
 not-bytes (Bytes p) o = absurd (miss (0 ∷ 1 ∷ 2 ∷ 3 ∷ 4 ∷ 5 ∷ 6 ∷ []) 7 tt o)
 
 -- ---- a shape that there is

@@ -16,15 +16,20 @@ use Rattle.wire.proofs.Outcomes.{both-true}
 use Rattle.wire.proofs.Each.{below, left, right}
 use Rattle.temporal.proofs.Forms.{size-least}
 use Rattle.value.specs.declared.shape.Shape.{Shape}
-use Rattle.value.specs.declared.shape.Shape.the-variants.{Unsigned, Signed, FloatBits, DoubleBits, YearByte, Timed, Fixed, Counted, NotTaken}
+use Rattle.value.specs.declared.shape.Shape.the-variants.{Unsigned, Signed, FloatBits, DoubleBits, YearByte, Timed, Fixed, Counted}
+use Rattle.value.specs.declared.shape.Shape.the-variants.{NotTaken}
 use Rattle.value.specs.declared.column.Column.{Column}
 use Rattle.value.specs.declared.types.Family.{Family}
-use Rattle.value.specs.declared.types.Family.the-variants.{Integer, Float, Double, Year, Timestamp, Date, Time, Datetime, Timestamp2, Datetime2, Time2, Varchar, Char, Blob, Json, Bit, Decimal, Enum, Set, Unknown}
+use Rattle.value.specs.declared.types.Family.the-variants.{Integer, Float, Double, Year, Timestamp, Date, Time, Datetime, Timestamp2}
+use Rattle.value.specs.declared.types.Family.the-variants.{Datetime2, Time2, Varchar, Char, Blob, Json, Bit, Decimal, Enum, Set}
+use Rattle.value.specs.declared.types.Family.the-variants.{Unknown}
 use Rattle.value.specs.Types.{familyOf, or30}
-use Rattle.value.specs.Columns.{shapeIn, shapeOf, isTaken, refusalOf, leftoverBytes, digitsBytes, decimalBytes, declaredIn, lengthBytes}
+use Rattle.value.specs.Columns.{shapeIn, shapeOf, isTaken, refusalOf, leftoverBytes, digitsBytes, decimalBytes, declaredIn}
+use Rattle.value.specs.Columns.{lengthBytes}
 use Rattle.value.specs.Data.{Datum, tag, bytesIn}
 use Rattle.value.specs.Domains.{domain}
-use Rattle.value.specs.Shapes.{Sized, need}
+use Rattle.value.specs.Shapes.{need}
+use Rattle.value.specs.Inner.Shapes.{Sized}
 use Rattle.value.proofs.Facts.{made, sorted}
 
 -- ---- the table of a decimal's leftover digits
@@ -156,8 +161,8 @@ fine-in Unknown m0 m1 u w = inl refl
 fine : (c : Column) → Fine (shapeOf c)
 unfolding shapeOf
 fine c =
-    pick Fine (eqb (c .kind) 10) (λ e. inl refl)
-    (fine-in (familyOf (c .kind)) (c .m0) (c .m1) (c .unsigned) (width-of (c .kind)))
+    pick Fine (eqb (c .real) 10) (λ e. inl refl)
+    (fine-in (familyOf (c .real)) (c .m0) (c .m1) (c .unsigned) (width-of (c .real)))
 
 -- every column's shape has a width that there is
 sized-of : (sh : Shape) → Fine sh → Sized sh
@@ -220,12 +225,12 @@ few-bytes c d = few-of (shapeOf c) d (fine c)
 
 -- ---- a column's shape is its family's, where its type is a real type
 pub by-family :
-    (c : Column) (f : Family) → (c .kind ≡ 10 → ⊥) → f ≡ familyOf (c .kind) →
+    (c : Column) (f : Family) → (c .real ≡ 10 → ⊥) → f ≡ familyOf (c .real) →
     shapeIn f (c .m0) (c .m1) (c .unsigned) ≡ shapeOf c
 unfolding shapeOf
 by-family c f h e =
     ap (λ (g : Family). shapeIn g (c .m0) (c .m1) (c .unsigned)) e
-    ∙ sym (ap (λ (b : Bool). cond b (NotTaken 4) (shapeIn (familyOf (c .kind)) (c .m0) (c .m1) (c .unsigned))) (ne-eqb (c .kind) 10 h))
+    ∙ sym (ap (λ (b : Bool). cond b (NotTaken 4) (shapeIn (familyOf (c .real)) (c .m0) (c .m1) (c .unsigned))) (ne-eqb (c .real) 10 h))
 
 -- a column that there is not is refused with 4 or 5
 number-of : (sh : Shape) → Fine sh → isTaken sh ≡ false → (refusalOf sh ≡ 4) ⊎ (refusalOf sh ≡ 5)

@@ -19,14 +19,16 @@ use Rattle.wire.proofs.Bytes.{leBytes-length}
 use Rattle.wire.proofs.Inverse.{bytes-take, bytes-drop, bytes-are}
 use Rattle.wire.proofs.Outcomes.{both-true}
 use Rattle.wire.proofs.Parts.{part-length, lent-is}
-use Rattle.temporal.specs.declared.kind.Kind.{Kind}
-use Rattle.temporal.specs.Domains.{domain as timedDomain}
+use Rattle.temporal.specs.declared.storage.Storage.{Storage}
+use Rattle.temporal.specs.Domains.{temporalDomain}
 use Rattle.temporal.specs.Reading.{writeTemporal}
 use Rattle.value.specs.declared.shape.Shape.{Shape}
-use Rattle.value.specs.declared.shape.Shape.the-variants.{Unsigned, Signed, FloatBits, DoubleBits, YearByte, Timed, Fixed, Counted, NotTaken}
+use Rattle.value.specs.declared.shape.Shape.the-variants.{Unsigned, Signed, FloatBits, DoubleBits, YearByte, Timed, Fixed, Counted}
+use Rattle.value.specs.declared.shape.Shape.the-variants.{NotTaken}
 use Rattle.value.specs.declared.datum.Value.{Value}
-use Rattle.value.specs.declared.datum.Value.the-variants.{Null, Int, Uint, Float, Double, Year, When, Bytes}
-use Rattle.value.specs.Data.{Datum, bytes, tag, isInt, isUint, isFloat, isDouble, isYear, isWhen, isBytes, intIn, numberIn, whenIn, bytesIn}
+use Rattle.value.specs.declared.datum.Value.the-variants.{Null, Int, Uint, Float, Double, Year, Bytes}
+use Rattle.value.specs.Data.{Datum, bytes, tag, isInt, isUint, isFloat, isDouble, isYear, isTemporal, isBytes, intIn, numberIn}
+use Rattle.value.specs.Data.{temporalIn, bytesIn}
 use Rattle.value.specs.Domains.{domain}
 use Rattle.value.specs.Shapes.{bytesOf, need}
 use Rattle.value.specs.Columns.{isTaken, refusalOf}
@@ -37,7 +39,8 @@ use Rattle.value.proofs.Laws.{taken-at}
 use Rattle.value.proofs.Readers.{narrow}
 
 -- ---- all but its bytes a value says whatever is lent
-any : {B : Type 0} (f : Datum → B) → ((b c : List ℕ) → f (bytes b) ≡ f (bytes c)) → (s : List ℕ) (v : Value) → f (datumOf s v) ≡ f (datumOf [] v)
+any : {B : Type 0} (f : Datum → B) → ((b c : List ℕ) → f (bytes b) ≡ f (bytes c)) → (s : List ℕ) (v : Value)
+    → f (datumOf s v) ≡ f (datumOf [] v)
 unfolding datumOf
 any f e s Null = refl
 any f e s (Int z) = refl
@@ -45,7 +48,7 @@ any f e s (Uint n) = refl
 any f e s (Float n) = refl
 any f e s (Double n) = refl
 any f e s (Year n) = refl
-any f e s (When t) = refl
+any f e s (Value.Temporal t) = refl
 any f e s (Bytes p) = e _ _
 
 pub tag-any : (s : List ℕ) (v : Value) → tag (datumOf s v) ≡ tag (datumOf [] v)
@@ -60,9 +63,9 @@ pub int-any : (s : List ℕ) (v : Value) → intIn (datumOf s v) ≡ intIn (datu
 unfolding intIn
 int-any = any intIn (λ b c. refl)
 
-pub when-any : (s : List ℕ) (v : Value) → whenIn (datumOf s v) ≡ whenIn (datumOf [] v)
-unfolding whenIn
-when-any = any whenIn (λ b c. refl)
+pub temporal-any : (s : List ℕ) (v : Value) → temporalIn (datumOf s v) ≡ temporalIn (datumOf [] v)
+unfolding temporalIn
+temporal-any = any temporalIn (λ b c. refl)
 
 -- its bytes are a part of what is lent
 pub bytes-part : (s : List ℕ) (v : Value) → bytesIn (datumOf s v) ≡ partOf s (bytesAt v)
@@ -73,7 +76,7 @@ bytes-part s (Uint n) = refl
 bytes-part s (Float n) = refl
 bytes-part s (Double n) = refl
 bytes-part s (Year n) = refl
-bytes-part s (When t) = refl
+bytes-part s (Value.Temporal t) = refl
 bytes-part s (Bytes p) = refl
 
 -- which end within it
@@ -107,8 +110,10 @@ pub top-narrow : (k most : ℕ) → k ≤ 8 → most + 1 ≡ 256 ^ min k 8 → m
 top-narrow k most h e = rw (narrow k h) at e
 
 -- a number of k bytes, of the sort t
-pub in-plain : (sh : Shape) (t k most : ℕ) (s : List ℕ) (v : Value) → ((d : Datum) → domain sh d ≡ (eqb (tag d) t && ltb (numberIn d) (256 ^ k))) → most + 1 ≡ 256 ^ k
-    → isLent s v ≡ true → (eqb (tag (datumOf [] v)) t && (leb 0 (numberIn (datumOf [] v)) && leb (numberIn (datumOf [] v)) most)) ≡ isIn sh s v
+pub in-plain : (sh : Shape) (t k most : ℕ) (s : List ℕ) (v : Value)
+    → ((d : Datum) → domain sh d ≡ (eqb (tag d) t && ltb (numberIn d) (256 ^ k))) → most + 1 ≡ 256 ^ k
+    → isLent s v ≡ true → (eqb (tag (datumOf [] v)) t && (leb 0 (numberIn (datumOf [] v)) && leb (numberIn (datumOf [] v)) most))
+    ≡ isIn sh s v
 unfolding isIn
 in-plain sh t k most s v f e h = rw (h, f (datumOf s v), tag-any s v, number-any s v, below (numberIn (datumOf [] v)) most k e)
 
@@ -134,10 +139,10 @@ pub in-signed : (k : ℕ) (s : List ℕ) (v : Value) → k ≤ 8 → isLent s v 
 unfolding isIn domain
 in-signed k s v l h = rw (h, tag-any s v, int-any s v, narrow k l)
 
-pub in-timed : (k : Kind) (s : List ℕ) (v : Value) → isLent s v ≡ true
-    → (isWhen (datumOf [] v) && timedDomain k (whenIn (datumOf [] v))) ≡ isIn (Timed k) s v
+pub in-timed : (k : Storage) (s : List ℕ) (v : Value) → isLent s v ≡ true
+    → (isTemporal (datumOf [] v) && temporalDomain k (temporalIn (datumOf [] v))) ≡ isIn (Timed k) s v
 unfolding isIn domain
-in-timed k s v h = rw (h, tag-any s v, when-any s v)
+in-timed k s v h = rw (h, tag-any s v, temporal-any s v)
 
 just : (n m : ℕ) → (leb n m && leb m n) ≡ eqb m n
 just n m =
@@ -172,14 +177,18 @@ unfolding domain
 none-in n s v h = false≢true (is-in (NotTaken n) s v h .1)
 
 -- ---- how many bytes it is stored in
-pub size-is : (sh : Shape) (s : List ℕ) (v : Value) → isIn sh s v ≡ true → need sh (bytesOf sh (datumOf s v)) ≡ length (bytesOf sh (datumOf s v))
+pub size-is : (sh : Shape) (s : List ℕ) (v : Value) → isIn sh s v ≡ true
+    → need sh (bytesOf sh (datumOf s v)) ≡ length (bytesOf sh (datumOf s v))
 size-is sh s v h = rw (append-nil (bytesOf sh (datumOf s v))) at (need-bytes sh (datumOf s v) [] (is-in sh s v h .1))
 
 -- where the shape's need is n whatever the bytes
-pub size-at : (sh sh′ : Shape) (n : ℕ) (s : List ℕ) (v : Value) → sh ≡ sh′ → isIn sh s v ≡ true → ((b : List ℕ) → need sh′ b ≡ n) → n ≡ length (bytesOf sh (datumOf s v))
-size-at sh sh′ n s v e h f = sym (f (bytesOf sh (datumOf s v))) ∙ ap (λ (x : Shape). need x (bytesOf sh (datumOf s v))) (sym e) ∙ size-is sh s v h
+pub size-at : (sh sh′ : Shape) (n : ℕ) (s : List ℕ) (v : Value) → sh ≡ sh′ → isIn sh s v ≡ true → ((b : List ℕ) → need sh′ b ≡ n)
+    → n ≡ length (bytesOf sh (datumOf s v))
+size-at sh sh′ n s v e h f =
+    sym (f (bytesOf sh (datumOf s v))) ∙ ap (λ (x : Shape). need x (bytesOf sh (datumOf s v))) (sym e) ∙ size-is sh s v h
 
-pub size-counted : (k : ℕ) (s : List ℕ) (v : Value) → isIn (Counted k) s v ≡ true → k + bytesAt v .len ≡ length (bytesOf (Counted k) (datumOf s v))
+pub size-counted : (k : ℕ) (s : List ℕ) (v : Value) → isIn (Counted k) s v ≡ true
+    → k + bytesAt v .len ≡ length (bytesOf (Counted k) (datumOf s v))
 unfolding bytesOf
 size-counted k s v h =
     let l = bytes-length s v (is-in (Counted k) s v h .0) in
@@ -195,11 +204,13 @@ year-least s v h =
     rw (number-any s v) at (leb-true 1900 (numberIn (datumOf s v)) (t .0))
 
 -- ---- and which bytes these are
-pub put-unsigned : (k : ℕ) (s : List ℕ) (v : Value) → k ≤ 8 → bytesOf (Unsigned k) (datumOf s v) ≡ leBytes (min k 8) (numberIn (datumOf [] v))
+pub put-unsigned : (k : ℕ) (s : List ℕ) (v : Value) → k ≤ 8
+    → bytesOf (Unsigned k) (datumOf s v) ≡ leBytes (min k 8) (numberIn (datumOf [] v))
 unfolding bytesOf
 put-unsigned k s v h = rw (narrow k h, number-any s v)
 
-pub put-signed : (k : ℕ) (s : List ℕ) (v : Value) → k ≤ 8 → bytesOf (Signed k) (datumOf s v) ≡ leBytes (min k 8) (twosOf (256 ^ min k 8) (intIn (datumOf [] v)))
+pub put-signed : (k : ℕ) (s : List ℕ) (v : Value) → k ≤ 8
+    → bytesOf (Signed k) (datumOf s v) ≡ leBytes (min k 8) (twosOf (256 ^ min k 8) (intIn (datumOf [] v)))
 unfolding bytesOf
 put-signed k s v h = rw (narrow k h, int-any s v)
 
@@ -219,18 +230,19 @@ pub put-fixed : (n : ℕ) (s : List ℕ) (v : Value) → bytesOf (Fixed n) (datu
 unfolding bytesOf leBytes
 put-fixed n s v = bytes-part s v
 
-pub put-counted : (k : ℕ) (s : List ℕ) (v : Value) → isLent s v ≡ true → bytesOf (Counted k) (datumOf s v) ≡ leBytes k (bytesAt v .len) ++ partOf s (bytesAt v)
+pub put-counted : (k : ℕ) (s : List ℕ) (v : Value) → isLent s v ≡ true
+    → bytesOf (Counted k) (datumOf s v) ≡ leBytes k (bytesAt v .len) ++ partOf s (bytesAt v)
 unfolding bytesOf
 put-counted k s v h = rw (bytes-length s v h, bytes-part s v)
 
-pub put-timed : (k : Kind) (s : List ℕ) (v : Value) (buf : List ℕ) (at : ℕ) → isIn (Timed k) s v ≡ true
-    → store buf at (bytesOf (Timed k) (datumOf s v)) ≡ writeTemporal k 0 buf at (whenIn (datumOf [] v))
+pub put-timed : (k : Storage) (s : List ℕ) (v : Value) (buf : List ℕ) (at : ℕ) → isIn (Timed k) s v ≡ true
+    → store (bytesOf (Timed k) (datumOf s v)) buf at ≡ writeTemporal k 0 (temporalIn (datumOf [] v)) buf at
 unfolding isIn domain bytesOf writeTemporal
 put-timed k s v buf at h =
     let w = both-true (isLent s v) _ h in
-    let d = both-true (isWhen (datumOf s v)) _ (w .1) in
-    let t : timedDomain k (whenIn (datumOf [] v)) ≡ true = rw (when-any s v) at (d .1) in
-    rw (t, when-any s v)
+    let d = both-true (isTemporal (datumOf s v)) _ (w .1) in
+    let t : temporalDomain k (temporalIn (datumOf [] v)) ≡ true = rw (temporal-any s v) at (d .1) in
+    rw (t, temporal-any s v)
 
 -- ---- the refusals before that
 pub not-taken : (sh : Shape) (p : ℕ) → isTaken sh ≡ false → taken sh p ≡ refuse (refusalOf sh) p
@@ -242,11 +254,13 @@ pub stored-not : (sh : Shape) (p : ℕ) (s : List ℕ) (v : Value) → isTaken s
 unfolding storedBytes
 stored-not sh p s v h = rw (not-taken sh p h)
 
-pub stored-out : (sh : Shape) (p : ℕ) (s : List ℕ) (v : Value) → isTaken sh ≡ true → isIn sh s v ≡ false → storedBytes sh p s v ≡ refuse 13 p
+pub stored-out : (sh : Shape) (p : ℕ) (s : List ℕ) (v : Value) → isTaken sh ≡ true → isIn sh s v ≡ false
+    → storedBytes sh p s v ≡ refuse 13 p
 unfolding storedBytes
 stored-out sh p s v t h = rw (taken-at sh p t, h)
 
-pub stored-in : (sh : Shape) (p : ℕ) (s : List ℕ) (v : Value) → isTaken sh ≡ true → isIn sh s v ≡ true → storedBytes sh p s v ≡ ok (bytesOf sh (datumOf s v))
+pub stored-in : (sh : Shape) (p : ℕ) (s : List ℕ) (v : Value) → isTaken sh ≡ true → isIn sh s v ≡ true
+    → storedBytes sh p s v ≡ ok (bytesOf sh (datumOf s v))
 unfolding storedBytes
 stored-in sh p s v t h = rw (taken-at sh p t, h)
 
@@ -259,16 +273,18 @@ lent-part s v k p b h e f =
     rw (g, part-length s (bytesAt v) l)
 
 -- ---- what the writer and the size answer
-pub writes-not : (sh : Shape) (p : ℕ) (s : List ℕ) (v : Value) (buf : List ℕ) (at : ℕ) → isTaken sh ≡ false → writeValue sh p s v buf at ≡ refuse (refusalOf sh) p
+pub writes-not : (sh : Shape) (p : ℕ) (s : List ℕ) (v : Value) (buf : List ℕ) (at : ℕ) → isTaken sh ≡ false
+    → writeValue sh p s v buf at ≡ refuse (refusalOf sh) p
 unfolding writeValue
 writes-not sh p s v buf at h = rw (stored-not sh p s v h)
 
-pub writes-out : (sh : Shape) (p : ℕ) (s : List ℕ) (v : Value) (buf : List ℕ) (at : ℕ) → isTaken sh ≡ true → isIn sh s v ≡ false → writeValue sh p s v buf at ≡ refuse 13 p
+pub writes-out : (sh : Shape) (p : ℕ) (s : List ℕ) (v : Value) (buf : List ℕ) (at : ℕ) → isTaken sh ≡ true → isIn sh s v ≡ false
+    → writeValue sh p s v buf at ≡ refuse 13 p
 unfolding writeValue
 writes-out sh p s v buf at t h = rw (stored-out sh p s v t h)
 
 pub writes-in : (sh : Shape) (p : ℕ) (s : List ℕ) (v : Value) (buf : List ℕ) (at : ℕ) → isTaken sh ≡ true → isIn sh s v ≡ true
-    → writeValue sh p s v buf at ≡ store buf at (bytesOf sh (datumOf s v))
+    → writeValue sh p s v buf at ≡ store (bytesOf sh (datumOf s v)) buf at
 unfolding writeValue
 writes-in sh p s v buf at t h = rw (stored-in sh p s v t h)
 
@@ -280,6 +296,7 @@ pub sizes-out : (sh : Shape) (p : ℕ) (s : List ℕ) (v : Value) → isTaken sh
 unfolding sizeOf
 sizes-out sh p s v t h = rw (stored-out sh p s v t h)
 
-pub sizes-in : (sh : Shape) (p : ℕ) (s : List ℕ) (v : Value) → isTaken sh ≡ true → isIn sh s v ≡ true → sizeOf sh p s v ≡ ok (length (bytesOf sh (datumOf s v)))
+pub sizes-in : (sh : Shape) (p : ℕ) (s : List ℕ) (v : Value) → isTaken sh ≡ true → isIn sh s v ≡ true
+    → sizeOf sh p s v ≡ ok (length (bytesOf sh (datumOf s v)))
 unfolding sizeOf
 sizes-in sh p s v t h = rw (stored-in sh p s v t h)

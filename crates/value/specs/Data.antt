@@ -5,7 +5,6 @@ use mathlib.Core.List.{List, []}
 use lib.Dec.{eqb}
 use lib.IntN.{ℤ, pos}
 use Rattle.temporal.specs.declared.parts.Temporal.{Temporal}
-use Rattle.temporal.specs.declared.parts.Temporal.the-variants.{Since}
 
 pub data Datum : Type 0 where
   null : Datum
@@ -14,7 +13,7 @@ pub data Datum : Type 0 where
   float : ℕ → Datum
   double : ℕ → Datum
   year : ℕ → Datum
-  when : Temporal → Datum
+  temporal : Temporal → Datum
   bytes : List ℕ → Datum
 
 -- which of these it is
@@ -25,7 +24,7 @@ tag (uint n) = 2
 tag (float n) = 3
 tag (double n) = 4
 tag (year n) = 5
-tag (when t) = 6
+tag (temporal t) = 6
 tag (bytes b) = 7
 
 -- whether it is this one
@@ -44,8 +43,8 @@ isDouble d = eqb (tag d) 4
 abbrev pub isYear : Datum → Bool
 isYear d = eqb (tag d) 5
 
-abbrev pub isWhen : Datum → Bool
-isWhen d = eqb (tag d) 6
+abbrev pub isTemporal : Datum → Bool
+isTemporal d = eqb (tag d) 6
 
 abbrev pub isBytes : Datum → Bool
 isBytes d = eqb (tag d) 7
@@ -58,7 +57,7 @@ intIn (uint n) = pos 0
 intIn (float n) = pos 0
 intIn (double n) = pos 0
 intIn (year n) = pos 0
-intIn (when t) = pos 0
+intIn (temporal t) = pos 0
 intIn (bytes b) = pos 0
 
 -- the number of any sort that is one
@@ -69,22 +68,22 @@ numberIn (uint n) = n
 numberIn (float n) = n
 numberIn (double n) = n
 numberIn (year n) = n
-numberIn (when t) = 0
+numberIn (temporal t) = 0
 numberIn (bytes b) = 0
 
 -- no temporal in particular
-abbrev pub noWhen : Temporal
-noWhen = Since (record { seconds = 0; micros = 0 })
+abbrev pub noTemporal : Temporal
+noTemporal = Temporal.Seconds (record { seconds = 0; micros = 0 })
 
-unfoldable pub whenIn : Datum → Temporal
-whenIn null = noWhen
-whenIn (int z) = noWhen
-whenIn (uint n) = noWhen
-whenIn (float n) = noWhen
-whenIn (double n) = noWhen
-whenIn (year n) = noWhen
-whenIn (when t) = t
-whenIn (bytes b) = noWhen
+unfoldable pub temporalIn : Datum → Temporal
+temporalIn null = noTemporal
+temporalIn (int z) = noTemporal
+temporalIn (uint n) = noTemporal
+temporalIn (float n) = noTemporal
+temporalIn (double n) = noTemporal
+temporalIn (year n) = noTemporal
+temporalIn (temporal t) = t
+temporalIn (bytes b) = noTemporal
 
 unfoldable pub bytesIn : Datum → List ℕ
 bytesIn null = []
@@ -93,5 +92,5 @@ bytesIn (uint n) = []
 bytesIn (float n) = []
 bytesIn (double n) = []
 bytesIn (year n) = []
-bytesIn (when t) = []
+bytesIn (temporal t) = []
 bytesIn (bytes b) = b

@@ -10,7 +10,7 @@ use Rattle.wire.specs.Parts.{part}
 use Rattle.wire.specs.Stored.{store}
 use Rattle.value.specs.declared.shape.Shape.{Shape}
 use Rattle.value.specs.declared.datum.Value.{Value}
-use Rattle.value.specs.declared.datum.Value.the-variants.{Null, Int, Uint, Float, Double, Year, When, Bytes}
+use Rattle.value.specs.declared.datum.Value.the-variants.{Null, Int, Uint, Float, Double, Year, Bytes}
 use Rattle.value.specs.Domains.{domain}
 use Rattle.value.specs.Shapes.{bytesOf}
 use Rattle.value.specs.Reading.{taken, datumOf}
@@ -23,7 +23,7 @@ bytesAt (Uint n) = part 0 0
 bytesAt (Float n) = part 0 0
 bytesAt (Double n) = part 0 0
 bytesAt (Year n) = part 0 0
-bytesAt (When t) = part 0 0
+bytesAt (Value.Temporal t) = part 0 0
 bytesAt (Bytes p) = p
 
 -- whether they are all there
@@ -39,14 +39,14 @@ isIn sh s v = isLent s v && domain sh (datumOf s v)
 -- the stored bytes of a value that a column of the shape takes
 unfoldable pub storedBytes : Shape → ℕ → List ℕ → Value → Outcome (List ℕ)
 unfolding taken isIn bytesOf datumOf
-storedBytes sh p s v = after (taken sh p) (λ sh. cond (isIn sh s v) (ok (bytesOf sh (datumOf s v))) (refuse 13 p))
+storedBytes sh place s v = after (taken sh place) (λ sh. cond (isIn sh s v) (ok (bytesOf sh (datumOf s v))) (refuse 13 place))
 
 -- how many they are
 unfoldable pub sizeOf : Shape → ℕ → List ℕ → Value → Outcome ℕ
 unfolding storedBytes
-sizeOf sh p s v = after (storedBytes sh p s v) (λ b. ok (length b))
+sizeOf sh place s v = after (storedBytes sh place s v) (λ b. ok (length b))
 
 -- stored in a buffer from `at` on: the place after them, and the buffer
 unfoldable pub writeValue : Shape → ℕ → List ℕ → Value → List ℕ → ℕ → Outcome (ℕ × List ℕ)
 unfolding storedBytes store
-writeValue sh p s v buf at = after (storedBytes sh p s v) (λ b. store buf at b)
+writeValue sh place s v buf at = after (storedBytes sh place s v) (λ b. store b buf at)

@@ -1,9 +1,12 @@
--- The one table of column types, and what a type alone tells: how many bytes of metadata it has, whether it is numeric, and the real type. Assumes nothing.
+-- The one table of column types, and what a type alone tells: how many bytes of metadata it has, whether it is numeric, and the real type.
+-- Assumes nothing.
 use Prim.Native.Nat.{ℕ, _+_, _*_, _/_, _%_}
 use mathlib.Core.Bool.{Bool, true, false, cond}
 use lib.Dec.{eqb}
 use Rattle.value.specs.declared.types.Family.{Family}
-use Rattle.value.specs.declared.types.Family.the-variants.{Integer, Float, Double, Year, Timestamp, Date, Time, Datetime, Timestamp2, Datetime2, Time2, Varchar, Char, Blob, Json, Bit, Decimal, Enum, Set, Unknown}
+use Rattle.value.specs.declared.types.Family.the-variants.{Integer, Float, Double, Year, Timestamp, Date, Time, Datetime, Timestamp2}
+use Rattle.value.specs.declared.types.Family.the-variants.{Datetime2, Time2, Varchar, Char, Blob, Json, Bit, Decimal, Enum, Set}
+use Rattle.value.specs.declared.types.Family.the-variants.{Unknown}
 
 -- ---- the table
 unfoldable pub familyOf : ℕ → Family

@@ -1,4 +1,13 @@
 // The classes by which a map's optional fields count columns, by dialect (constants.rs: ColumnType).
+use crate::types::MYSQL_TYPE_BLOB;
+use crate::types::MYSQL_TYPE_ENUM;
+use crate::types::MYSQL_TYPE_GEOMETRY;
+use crate::types::MYSQL_TYPE_SET;
+use crate::types::MYSQL_TYPE_STRING;
+use crate::types::MYSQL_TYPE_VAR_STRING;
+use crate::types::MYSQL_TYPE_VARCHAR;
+use crate::types::MYSQL_TYPE_VECTOR;
+use crate::types::MYSQL_TYPE_YEAR;
 use crate::types::is_numeric;
 ghost use mathlib.Core.Path.{_≡_};
 ghost use mathlib.Core.Bool.{_||_};
@@ -46,7 +55,7 @@ fn is_server(dialect: Dialect) -> bool
 pub fn has_sign_bit(dialect: Dialect, kind: u8) -> bool
     ensures { λ r. ⌜ r ≡ hasSignBit dialect kind ⌝ }
 {
-    if kind == 13 {
+    if kind == MYSQL_TYPE_YEAR {
         return is_server(dialect);
     }
     is_numeric(kind)
@@ -57,10 +66,10 @@ pub fn is_character(real: u8) -> bool
     ensures { λ r. ⌜ r ≡ isCharacter real ⌝ }
 {
     match real {
-        15 => true,
-        252 => true,
-        253 => true,
-        254 => true,
+        MYSQL_TYPE_VARCHAR => true,
+        MYSQL_TYPE_BLOB => true,
+        MYSQL_TYPE_VAR_STRING => true,
+        MYSQL_TYPE_STRING => true,
         _ => false,
     }
 }
@@ -69,10 +78,10 @@ pub fn is_character(real: u8) -> bool
 pub fn has_charset(dialect: Dialect, real: u8) -> bool
     ensures { λ r. ⌜ r ≡ hasCharset dialect real ⌝ }
 {
-    if real == 242 {
+    if real == MYSQL_TYPE_VECTOR {
         return is_mysql(dialect);
     }
-    if real == 255 {
+    if real == MYSQL_TYPE_GEOMETRY {
         return is_mariadb(dialect);
     }
     is_character(real)
@@ -83,8 +92,8 @@ pub fn is_enum_or_set(real: u8) -> bool
     ensures { λ r. ⌜ r ≡ isEnumOrSet real ⌝ }
 {
     match real {
-        247 => true,
-        248 => true,
+        MYSQL_TYPE_ENUM => true,
+        MYSQL_TYPE_SET => true,
         _ => false,
     }
 }

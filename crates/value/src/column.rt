@@ -2,9 +2,11 @@
 use crate::shape::Shape;
 use crate::shape::is_taken;
 use crate::types::Family;
+use crate::types::MYSQL_TYPE_DATE;
+use crate::types::MYSQL_TYPE_STRING;
 use crate::types::family_of;
 use crate::types::or_30;
-use temporal::Kind;
+use temporal::Storage;
 use wire::refusal::BAD_METADATA;
 use wire::refusal::TYPE_NOT_TAKEN;
 use wire::wide;
@@ -12,19 +14,21 @@ ghost use mathlib.Core.Path.{_≡_};
 ghost use mathlib.Core.Bool.{false, cond, _&&_};
 ghost use Prim.Native.Nat.{_≤_, _<_};
 ghost use lib.Dec.{leb, eqb};
-ghost use Rattle.value.specs.Columns.{declaredIn, declaredLength, lengthBytes, leftoverBytes, digitsBytes, decimalBytes, given, shapeIn, shapeOf, isTaken};
+ghost use Rattle.value.specs.Columns.{declaredIn, declaredLength, lengthBytes, leftoverBytes, digitsBytes, decimalBytes, shapeIf};
+ghost use Rattle.value.specs.Columns.{shapeIn, shapeOf, isTaken};
 ghost use Rattle.value.specs.declared.types.Family.the-variants.{Char, Blob, Bit, Decimal, Enum, Set};
 ghost use Rattle.value.specs.declared.shape.Shape.the-variants.{Unsigned, Signed};
 
 // What must be known of a column to read its values: its real type, its metadata, and whether an integer is unsigned.
 pub struct Column {
-    pub kind: u8,
+    pub real: u8,
     pub m0: u8,
     pub m1: u8,
     pub unsigned: bool,
 }
 
-// The declared length of a string, in bytes; other families declare none. That of a CHAR is m1 and, above it, two bits of m0 that are kept inverted.
+// The declared length of a string, in bytes; other families declare none. That of a CHAR is m1 and, above it, two bits of m0 that are kept
+// inverted.
 fn declared_in(family: Family, m0: u8, m1: u8) -> usize
     ensures { λ r. ⌜ r ≡ declaredIn family m0 m1 ⌝ }
 {
@@ -37,9 +41,9 @@ fn declared_in(family: Family, m0: u8, m1: u8) -> usize
 
 // The same of a column.
 pub fn declared_length(column: Column) -> usize
-    ensures { λ r. ⌜ r ≡ declaredLength (column .kind) (column .m0) (column .m1) ⌝ }
+    ensures { λ r. ⌜ r ≡ declaredLength (column .real) (column .m0) (column .m1) ⌝ }
 {
-    declared_in(family_of(column.kind), column.m0, column.m1)
+    declared_in(family_of(column.real), column.m0, column.m1)
 }
 
 // How many bytes the length of a string takes, by the declared length.
@@ -80,7 +84,7 @@ fn decimal_bytes(precision: u8, scale: u8) -> usize
 
 // The shape, if m0 is as told and m1 is 0.
 fn if_just(m0: u8, m1: u8, told: u8, shape: Shape) -> Shape
-    ensures { λ r. ⌜ r ≡ given (eqb m0 told && eqb m1 0) shape ⌝ }
+    ensures { λ r. ⌜ r ≡ shapeIf (eqb m0 told && eqb m1 0) shape ⌝ }
 {
     if m0 != told {
         return Shape::NotTaken(BAD_METADATA);
@@ -93,7 +97,7 @@ fn if_just(m0: u8, m1: u8, told: u8, shape: Shape) -> Shape
 
 // The shape, if m0 is a number of fraction digits and m1 is 0.
 fn if_digits(m0: u8, m1: u8, shape: Shape) -> Shape
-    ensures { λ r. ⌜ r ≡ given (leb m0 6 && eqb m1 0) shape ⌝ }
+    ensures { λ r. ⌜ r ≡ shapeIf (leb m0 6 && eqb m1 0) shape ⌝ }
 {
     if 6 < m0 {
         return Shape::NotTaken(BAD_METADATA);
@@ -116,7 +120,7 @@ fn integer_shape(width: usize, unsigned: bool) -> Shape
 fn char_shape(m0: u8, m1: u8) -> Shape
     ensures { λ r. ⌜ r ≡ shapeIn Char m0 m1 false ⌝ }
 {
-    if or_30(m0) == 254 {
+    if or_30(m0) == MYSQL_TYPE_STRING {
         return Shape::Counted(length_bytes(declared_in(Family::Char, m0, m1)));
     }
     Shape::NotTaken(BAD_METADATA)
@@ -207,13 +211,13 @@ fn shape_in(family: Family, m0: u8, m1: u8, unsigned: bool) -> Shape
         Family::Float => if_just(m0, m1, 4, Shape::FloatBits),
         Family::Double => if_just(m0, m1, 8, Shape::DoubleBits),
         Family::Year => if_just(m0, m1, 0, Shape::YearByte),
-        Family::Timestamp => if_just(m0, m1, 0, Shape::Timed(Kind::Timestamp)),
-        Family::Date => if_just(m0, m1, 0, Shape::Timed(Kind::Newdate)),
-        Family::Time => if_just(m0, m1, 0, Shape::Timed(Kind::OldTime)),
-        Family::Datetime => if_just(m0, m1, 0, Shape::Timed(Kind::OldDatetime)),
-        Family::Timestamp2 => if_digits(m0, m1, Shape::Timed(Kind::Timestamp2 { m0 })),
-        Family::Datetime2 => if_digits(m0, m1, Shape::Timed(Kind::Datetime2 { m0 })),
-        Family::Time2 => if_digits(m0, m1, Shape::Timed(Kind::Time2 { m0 })),
+        Family::Timestamp => if_just(m0, m1, 0, Shape::Timed(Storage::Timestamp)),
+        Family::Date => if_just(m0, m1, 0, Shape::Timed(Storage::Newdate)),
+        Family::Time => if_just(m0, m1, 0, Shape::Timed(Storage::OldTime)),
+        Family::Datetime => if_just(m0, m1, 0, Shape::Timed(Storage::OldDatetime)),
+        Family::Timestamp2 => if_digits(m0, m1, Shape::Timed(Storage::Timestamp2 { m0 })),
+        Family::Datetime2 => if_digits(m0, m1, Shape::Timed(Storage::Datetime2 { m0 })),
+        Family::Time2 => if_digits(m0, m1, Shape::Timed(Storage::Time2 { m0 })),
         Family::Varchar => Shape::Counted(length_bytes(declared_in(Family::Varchar, m0, m1))),
         Family::Char => char_shape(m0, m1),
         Family::Blob => blob_shape(m0, m1),
@@ -230,11 +234,11 @@ fn shape_in(family: Family, m0: u8, m1: u8, unsigned: bool) -> Shape
 pub fn shape_of(column: Column) -> Shape
     ensures { λ r. ⌜ r ≡ shapeOf column ⌝ }
 {
-    if column.kind == 10 {
+    if column.real == MYSQL_TYPE_DATE {
         return Shape::NotTaken(TYPE_NOT_TAKEN);
     }
     shape_in(
-        family_of(column.kind),
+        family_of(column.real),
         column.m0,
         column.m1,
         column.unsigned,

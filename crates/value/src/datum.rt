@@ -1,10 +1,10 @@
 // A value of a column, and its parts by sort.
-use temporal::Stamp;
+use temporal::Seconds;
 use temporal::Temporal;
 use wire::Part;
 ghost use mathlib.Core.Path.{_≡_};
 ghost use mathlib.Core.List.{[]};
-ghost use Rattle.value.specs.Data.{tag, intIn, numberIn, whenIn};
+ghost use Rattle.value.specs.Data.{tag, intIn, numberIn, temporalIn};
 ghost use Rattle.value.specs.Reading.{datumOf};
 ghost use Rattle.value.specs.Storing.{bytesAt};
 
@@ -16,24 +16,24 @@ pub enum Value {
     Float(u32),
     Double(u64),
     Year(u16),
-    When(Temporal),
+    Temporal(Temporal),
     Bytes(Part),
 }
 
 // The sorts of values that `tag_of` tells; it tells 0 for NULL.
-pub(crate) const INT: u8 = 1;
+pub(crate) const TAG_INT: u8 = 1;
 
-pub(crate) const UINT: u8 = 2;
+pub(crate) const TAG_UINT: u8 = 2;
 
-pub(crate) const FLOAT: u8 = 3;
+pub(crate) const TAG_FLOAT: u8 = 3;
 
-pub(crate) const DOUBLE: u8 = 4;
+pub(crate) const TAG_DOUBLE: u8 = 4;
 
-pub(crate) const YEAR: u8 = 5;
+pub(crate) const TAG_YEAR: u8 = 5;
 
-pub(crate) const WHEN: u8 = 6;
+pub(crate) const TAG_TEMPORAL: u8 = 6;
 
-pub(crate) const BYTES: u8 = 7;
+pub(crate) const TAG_BYTES: u8 = 7;
 
 // Which sort a value is of. That does not hang on its bytes, so the contract speaks of a value with none lent beside it.
 pub(crate) fn tag_of(value: Value) -> u8
@@ -41,13 +41,13 @@ pub(crate) fn tag_of(value: Value) -> u8
 {
     match value {
         Value::Null => 0,
-        Value::Int(_) => INT,
-        Value::Uint(_) => UINT,
-        Value::Float(_) => FLOAT,
-        Value::Double(_) => DOUBLE,
-        Value::Year(_) => YEAR,
-        Value::When(_) => WHEN,
-        Value::Bytes(_) => BYTES,
+        Value::Int(_) => TAG_INT,
+        Value::Uint(_) => TAG_UINT,
+        Value::Float(_) => TAG_FLOAT,
+        Value::Double(_) => TAG_DOUBLE,
+        Value::Year(_) => TAG_YEAR,
+        Value::Temporal(_) => TAG_TEMPORAL,
+        Value::Bytes(_) => TAG_BYTES,
     }
 }
 
@@ -75,12 +75,12 @@ pub(crate) fn number_in(value: Value) -> u64
     }
 }
 
-pub(crate) fn when_in(value: Value) -> Temporal
-    ensures { λ r. ⌜ r ≡ whenIn (datumOf [] value) ⌝ }
+pub(crate) fn temporal_in(value: Value) -> Temporal
+    ensures { λ r. ⌜ r ≡ temporalIn (datumOf [] value) ⌝ }
 {
     match value {
-        Value::When(t) => t,
-        _ => Temporal::Since(Stamp {
+        Value::Temporal(t) => t,
+        _ => Temporal::Seconds(Seconds {
             seconds: 0,
             micros: 0,
         }),

@@ -1,4 +1,4 @@
-// The kinds of columns, and one stored value of a column: read, written, and its size.
+// The types of columns, and one stored value of a column: read, written, and its size.
 // Ports mysql_common 0.38.2: binlog/value.rs, and of constants.rs the column types and their classes.
 mod classes;
 mod column;
@@ -6,7 +6,7 @@ mod datum;
 mod reading;
 mod shape;
 mod storing;
-mod types;
+pub mod types;
 
 pub use classes::Dialect;
 pub use classes::has_charset;
@@ -32,16 +32,16 @@ pub use types::real_type;
 use wire::Size;
 use wire::Written;
 ghost use mathlib.Core.Path.{_≡_};
-ghost use Rattle.wire.specs.Stored.{answerOf, leftOf, writtenOf, sizeSaid};
+ghost use Rattle.wire.specs.Stored.{answerOf, leftOf, writtenTold, sizeTold};
 ghost use Rattle.value.specs.Columns.{shapeOf};
-ghost use Rattle.value.specs.Reading.{readValue, readOf};
+ghost use Rattle.value.specs.Reading.{readValue, readTold};
 ghost use Rattle.value.specs.Storing.{writeValue, sizeOf};
 
 // ---- a value of a column at a place; `place` is what a refusal tells
 
 // The value that stands at `at` of s.
 pub fn read_value(column: Column, s: &[u8], at: usize, place: usize) -> Read
-    ensures { λ r. ⌜ readOf r ≡ readValue (shapeOf column) place (now (s .entry)) at ⌝ }
+    ensures { λ r. ⌜ readTold r ≡ readValue (shapeOf column) place (now (s .entry)) at ⌝ }
 {
     read_shape(shape_of(column), s, at, place)
 }
@@ -55,15 +55,16 @@ pub fn write_value(
     at: usize,
     place: usize,
 ) -> Written
-    ensures { λ r. ⌜ writtenOf r ≡ answerOf (writeValue (shapeOf column) place (now (lent .entry)) value (now (buf .entry)) at) ⌝ }
-    ensures { λ _. ⌜ now (buf .exit) ≡ leftOf (now (buf .entry)) (writeValue (shapeOf column) place (now (lent .entry)) value (now (buf .entry)) at) ⌝ }
+    ensures { λ r. ⌜ writtenTold r ≡ answerOf (writeValue (shapeOf column) place (now (lent .entry)) value (now (buf .entry)) at) ⌝ }
+    ensures { λ _. ⌜ now (buf .exit)
+        ≡ leftOf (now (buf .entry)) (writeValue (shapeOf column) place (now (lent .entry)) value (now (buf .entry)) at) ⌝ }
 {
     write_shape(shape_of(column), value, lent, buf, at, place)
 }
 
 // How many bytes a value takes.
 pub fn value_size(column: Column, value: Value, lent: &[u8], place: usize) -> Size
-    ensures { λ r. ⌜ sizeSaid r ≡ sizeOf (shapeOf column) place (now (lent .entry)) value ⌝ }
+    ensures { λ r. ⌜ sizeTold r ≡ sizeOf (shapeOf column) place (now (lent .entry)) value ⌝ }
 {
     size_shape(shape_of(column), value, lent, place)
 }
@@ -71,20 +72,21 @@ pub fn value_size(column: Column, value: Value, lent: &[u8], place: usize) -> Si
 // ---- a lone value: at the start of what is lent, and every place is 0
 
 pub fn read_lone(column: Column, s: &[u8]) -> Read
-    ensures { λ r. ⌜ readOf r ≡ readValue (shapeOf column) 0 (now (s .entry)) 0 ⌝ }
+    ensures { λ r. ⌜ readTold r ≡ readValue (shapeOf column) 0 (now (s .entry)) 0 ⌝ }
 {
     read_value(column, s, 0, 0)
 }
 
 pub fn write_lone(column: Column, value: Value, lent: &[u8], buf: &mut [u8]) -> Written
-    ensures { λ r. ⌜ writtenOf r ≡ answerOf (writeValue (shapeOf column) 0 (now (lent .entry)) value (now (buf .entry)) 0) ⌝ }
-    ensures { λ _. ⌜ now (buf .exit) ≡ leftOf (now (buf .entry)) (writeValue (shapeOf column) 0 (now (lent .entry)) value (now (buf .entry)) 0) ⌝ }
+    ensures { λ r. ⌜ writtenTold r ≡ answerOf (writeValue (shapeOf column) 0 (now (lent .entry)) value (now (buf .entry)) 0) ⌝ }
+    ensures { λ _. ⌜ now (buf .exit)
+        ≡ leftOf (now (buf .entry)) (writeValue (shapeOf column) 0 (now (lent .entry)) value (now (buf .entry)) 0) ⌝ }
 {
     write_value(column, value, lent, buf, 0, 0)
 }
 
 pub fn lone_size(column: Column, value: Value, lent: &[u8]) -> Size
-    ensures { λ r. ⌜ sizeSaid r ≡ sizeOf (shapeOf column) 0 (now (lent .entry)) value ⌝ }
+    ensures { λ r. ⌜ sizeTold r ≡ sizeOf (shapeOf column) 0 (now (lent .entry)) value ⌝ }
 {
     value_size(column, value, lent, 0)
 }

@@ -1,7 +1,7 @@
 // A stored value read, by its shape (binlog/value.rs: BinlogValue::deserialize).
 use crate::datum::Value;
 use crate::shape::Shape;
-use temporal::Kind;
+use temporal::Storage;
 use temporal::TemporalRead;
 use wire::Part;
 use wire::Refusal;
@@ -10,8 +10,8 @@ ghost use mathlib.Core.Path.{_≡_};
 ghost use Prim.Native.Nat.{_-_, _≤_, _<_};
 ghost use lib.ListN.{length};
 ghost use Rattle.wire.specs.Outcome.{why};
-ghost use Rattle.value.specs.Shapes.{Sized};
-ghost use Rattle.value.specs.Reading.{readValue, readOf};
+ghost use Rattle.value.specs.Inner.Shapes.{Sized};
+ghost use Rattle.value.specs.Reading.{readValue, readTold};
 
 // The value and the place after it, or why there is none.
 pub enum Read {
@@ -38,7 +38,7 @@ fn rest(s: &[u8], at: usize) -> usize
 
 pub(crate) fn read_shape(shape: Shape, s: &[u8], at: usize, place: usize) -> Read
     requires { ⌜ Sized shape ⌝ }
-    ensures { λ r. ⌜ readOf r ≡ readValue shape place (now (s .entry)) at ⌝ }
+    ensures { λ r. ⌜ readTold r ≡ readValue shape place (now (s .entry)) at ⌝ }
 {
     match shape {
         Shape::Unsigned(k) => read_unsigned(k, s, at, place),
@@ -46,7 +46,7 @@ pub(crate) fn read_shape(shape: Shape, s: &[u8], at: usize, place: usize) -> Rea
         Shape::FloatBits => read_float(s, at, place),
         Shape::DoubleBits => read_double(s, at, place),
         Shape::YearByte => read_year(s, at, place),
-        Shape::Timed(kind) => read_timed(kind, s, at, place),
+        Shape::Timed(storage) => read_timed(storage, s, at, place),
         Shape::Fixed(n) => read_fixed(n, s, at, place),
         Shape::Counted(k) => read_counted(k, s, at, place),
         Shape::NotTaken(n) => Read::Refused(wire::refuse(n, place)),
@@ -55,7 +55,7 @@ pub(crate) fn read_shape(shape: Shape, s: &[u8], at: usize, place: usize) -> Rea
 
 fn read_unsigned(k: usize, s: &[u8], at: usize, place: usize) -> Read
     requires { ⌜ k ≤ 8 ⌝ }
-    ensures { λ r. ⌜ readOf r ≡ readValue (Shape.Unsigned k) place (now (s .entry)) at ⌝ }
+    ensures { λ r. ⌜ readTold r ≡ readValue (Shape.Unsigned k) place (now (s .entry)) at ⌝ }
 {
     if rest(s, at) < k {
         return short(place);
@@ -67,7 +67,7 @@ fn read_unsigned(k: usize, s: &[u8], at: usize, place: usize) -> Read
 
 fn read_signed(k: usize, s: &[u8], at: usize, place: usize) -> Read
     requires { ⌜ (0 < k) × (k ≤ 8) ⌝ }
-    ensures { λ r. ⌜ readOf r ≡ readValue (Shape.Signed k) place (now (s .entry)) at ⌝ }
+    ensures { λ r. ⌜ readTold r ≡ readValue (Shape.Signed k) place (now (s .entry)) at ⌝ }
 {
     if rest(s, at) < k {
         return short(place);
@@ -79,7 +79,7 @@ fn read_signed(k: usize, s: &[u8], at: usize, place: usize) -> Read
 }
 
 fn read_float(s: &[u8], at: usize, place: usize) -> Read
-    ensures { λ r. ⌜ readOf r ≡ readValue Shape.FloatBits place (now (s .entry)) at ⌝ }
+    ensures { λ r. ⌜ readTold r ≡ readValue Shape.FloatBits place (now (s .entry)) at ⌝ }
 {
     if rest(s, at) < 4 {
         return short(place);
@@ -91,7 +91,7 @@ fn read_float(s: &[u8], at: usize, place: usize) -> Read
 }
 
 fn read_double(s: &[u8], at: usize, place: usize) -> Read
-    ensures { λ r. ⌜ readOf r ≡ readValue Shape.DoubleBits place (now (s .entry)) at ⌝ }
+    ensures { λ r. ⌜ readTold r ≡ readValue Shape.DoubleBits place (now (s .entry)) at ⌝ }
 {
     if rest(s, at) < 8 {
         return short(place);
@@ -102,7 +102,7 @@ fn read_double(s: &[u8], at: usize, place: usize) -> Read
 }
 
 fn read_year(s: &[u8], at: usize, place: usize) -> Read
-    ensures { λ r. ⌜ readOf r ≡ readValue Shape.YearByte place (now (s .entry)) at ⌝ }
+    ensures { λ r. ⌜ readTold r ≡ readValue Shape.YearByte place (now (s .entry)) at ⌝ }
 {
     if rest(s, at) < 1 {
         return short(place);
@@ -114,12 +114,12 @@ fn read_year(s: &[u8], at: usize, place: usize) -> Read
     Read::Got { value, next }
 }
 
-fn read_timed(kind: Kind, s: &[u8], at: usize, place: usize) -> Read
-    ensures { λ r. ⌜ readOf r ≡ readValue (Shape.Timed kind) place (now (s .entry)) at ⌝ }
+fn read_timed(storage: Storage, s: &[u8], at: usize, place: usize) -> Read
+    ensures { λ r. ⌜ readTold r ≡ readValue (Shape.Timed storage) place (now (s .entry)) at ⌝ }
 {
-    match temporal::read_temporal(kind, s, at, place) {
+    match temporal::read_temporal(storage, s, at, place) {
         TemporalRead::Read { temporal, next } => Read::Got {
-            value: Value::When(temporal),
+            value: Value::Temporal(temporal),
             next,
         },
         TemporalRead::Refused(why) => Read::Refused(why),
@@ -127,7 +127,7 @@ fn read_timed(kind: Kind, s: &[u8], at: usize, place: usize) -> Read
 }
 
 fn read_fixed(n: usize, s: &[u8], at: usize, place: usize) -> Read
-    ensures { λ r. ⌜ readOf r ≡ readValue (Shape.Fixed n) place (now (s .entry)) at ⌝ }
+    ensures { λ r. ⌜ readTold r ≡ readValue (Shape.Fixed n) place (now (s .entry)) at ⌝ }
 {
     if rest(s, at) < n {
         return short(place);
@@ -139,7 +139,7 @@ fn read_fixed(n: usize, s: &[u8], at: usize, place: usize) -> Read
 
 fn read_counted(k: usize, s: &[u8], at: usize, place: usize) -> Read
     requires { ⌜ k ≤ 4 ⌝ }
-    ensures { λ r. ⌜ readOf r ≡ readValue (Shape.Counted k) place (now (s .entry)) at ⌝ }
+    ensures { λ r. ⌜ readTold r ≡ readValue (Shape.Counted k) place (now (s .entry)) at ⌝ }
 {
     if rest(s, at) < k {
         return short(place);

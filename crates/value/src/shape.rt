@@ -1,5 +1,5 @@
 // How a column's values are stored.
-use temporal::Kind;
+use temporal::Storage;
 ghost use mathlib.Core.Path.{_≡_};
 ghost use Rattle.value.specs.Columns.{isTaken, refusalOf};
 
@@ -12,7 +12,7 @@ pub enum Shape {
     DoubleBits,
     // One byte, from 1900 on.
     YearByte,
-    Timed(Kind),
+    Timed(Storage),
     // Just so many bytes.
     Fixed(usize),
     // A length of so many bytes, and then the bytes.

@@ -1,21 +1,21 @@
 // A value stored, by its shape: whether it is one of the column's, how many bytes it takes, and these bytes written.
-use crate::datum::BYTES;
-use crate::datum::DOUBLE;
-use crate::datum::FLOAT;
-use crate::datum::INT;
-use crate::datum::UINT;
+use crate::datum::TAG_BYTES;
+use crate::datum::TAG_DOUBLE;
+use crate::datum::TAG_FLOAT;
+use crate::datum::TAG_INT;
+use crate::datum::TAG_TEMPORAL;
+use crate::datum::TAG_UINT;
+use crate::datum::TAG_YEAR;
 use crate::datum::Value;
-use crate::datum::WHEN;
-use crate::datum::YEAR;
 use crate::datum::bytes_at;
 use crate::datum::int_in;
 use crate::datum::number_in;
 use crate::datum::tag_of;
-use crate::datum::when_in;
+use crate::datum::temporal_in;
 use crate::shape::Shape;
 use crate::shape::is_taken;
 use crate::shape::refusal_of;
-use temporal::Kind;
+use temporal::Storage;
 use wire::Size;
 use wire::Written;
 use wire::refusal::NO_ROOM;
@@ -30,16 +30,18 @@ ghost use lib.Dec.{leb, eqb};
 ghost use Rattle.wire.specs.Number.{leBytes};
 ghost use Rattle.wire.specs.Parts.{partOf};
 ghost use Rattle.wire.specs.Signed.{inHalves};
-ghost use Rattle.wire.specs.Stored.{store, answerOf, leftOf, writtenOf, sizeSaid};
-ghost use Rattle.temporal.specs.Domains.{domain as timedDomain};
-ghost use Rattle.value.specs.Data.{tag, isInt, isWhen, isBytes, intIn, numberIn, whenIn};
-ghost use Rattle.value.specs.Shapes.{Sized, bytesOf};
+ghost use Rattle.wire.specs.Stored.{store, answerOf, leftOf, writtenTold, sizeTold};
+ghost use Rattle.temporal.specs.Domains.{temporalDomain};
+ghost use Rattle.value.specs.Data.{tag, isInt, isTemporal, isBytes, intIn, numberIn, temporalIn};
+ghost use Rattle.value.specs.Shapes.{bytesOf};
+ghost use Rattle.value.specs.Inner.Shapes.{Sized};
 ghost use Rattle.value.specs.Reading.{datumOf};
 ghost use Rattle.value.specs.Storing.{bytesAt, isLent, isIn, writeValue, sizeOf};
 
 // Whether a value is a number of a sort, from least to most.
 fn is_number(value: Value, sort: u8, least: u64, most: u64) -> bool
-    ensures { λ r. ⌜ r ≡ (eqb (tag (datumOf [] value)) sort && (leb least (numberIn (datumOf [] value)) && leb (numberIn (datumOf [] value)) most)) ⌝ }
+    ensures { λ r. ⌜ r ≡ (eqb (tag (datumOf [] value)) sort
+        && (leb least (numberIn (datumOf [] value)) && leb (numberIn (datumOf [] value)) most)) ⌝ }
 {
     if tag_of(value) != sort {
         return false;
@@ -55,7 +57,7 @@ fn is_number(value: Value, sort: u8, least: u64, most: u64) -> bool
 fn is_signed(value: Value, k: usize) -> bool
     ensures { λ r. ⌜ r ≡ (isInt (datumOf [] value) && inHalves (256 ^ min k 8) (intIn (datumOf [] value))) ⌝ }
 {
-    if tag_of(value) != INT {
+    if tag_of(value) != TAG_INT {
         return false;
     }
     wire::in_halves(k, int_in(value))
@@ -65,7 +67,7 @@ fn is_signed(value: Value, k: usize) -> bool
 fn is_bytes(value: Value, least: u64, most: u64) -> bool
     ensures { λ r. ⌜ r ≡ (isBytes (datumOf [] value) && (leb least (bytesAt value .len) && leb (bytesAt value .len) most)) ⌝ }
 {
-    if tag_of(value) != BYTES {
+    if tag_of(value) != TAG_BYTES {
         return false;
     }
     let n = bytes_at(value).len as u64;
@@ -75,14 +77,14 @@ fn is_bytes(value: Value, least: u64, most: u64) -> bool
     n <= most
 }
 
-// Whether a value is a temporal that a column of the kind holds.
-fn is_timed(value: Value, kind: Kind) -> bool
-    ensures { λ r. ⌜ r ≡ (isWhen (datumOf [] value) && timedDomain kind (whenIn (datumOf [] value))) ⌝ }
+// Whether a value is a temporal that a column of the storage holds.
+fn is_timed(value: Value, storage: Storage) -> bool
+    ensures { λ r. ⌜ r ≡ (isTemporal (datumOf [] value) && temporalDomain storage (temporalIn (datumOf [] value))) ⌝ }
 {
-    if tag_of(value) != WHEN {
+    if tag_of(value) != TAG_TEMPORAL {
         return false;
     }
-    temporal::in_domain(kind, when_in(value))
+    temporal::in_domain(storage, temporal_in(value))
 }
 
 // Whether all of a value's bytes are among those lent.
@@ -102,12 +104,12 @@ pub(crate) fn is_in(shape: Shape, value: Value, lent: &[u8]) -> bool
         return false;
     }
     match shape {
-        Shape::Unsigned(k) => is_number(value, UINT, 0, top_of(k)),
+        Shape::Unsigned(k) => is_number(value, TAG_UINT, 0, top_of(k)),
         Shape::Signed(k) => is_signed(value, k),
-        Shape::FloatBits => is_number(value, FLOAT, 0, top_of(4)),
-        Shape::DoubleBits => is_number(value, DOUBLE, 0, top_of(8)),
-        Shape::YearByte => is_number(value, YEAR, 1900, 2155),
-        Shape::Timed(kind) => is_timed(value, kind),
+        Shape::FloatBits => is_number(value, TAG_FLOAT, 0, top_of(4)),
+        Shape::DoubleBits => is_number(value, TAG_DOUBLE, 0, top_of(8)),
+        Shape::YearByte => is_number(value, TAG_YEAR, 1900, 2155),
+        Shape::Timed(storage) => is_timed(value, storage),
         Shape::Fixed(n) => is_bytes(value, n as u64, n as u64),
         Shape::Counted(k) => is_bytes(value, 0, top_of(k)),
         Shape::NotTaken(_) => false,
@@ -125,7 +127,7 @@ pub(crate) fn size_in(shape: Shape, value: Value, lent: &[u8]) -> usize
         Shape::FloatBits => 4,
         Shape::DoubleBits => 8,
         Shape::YearByte => 1,
-        Shape::Timed(kind) => temporal::temporal_size(kind),
+        Shape::Timed(storage) => temporal::temporal_size(storage),
         Shape::Fixed(n) => n,
         Shape::Counted(k) => k + bytes_at(value).len,
         // Not reached: such a shape takes no value.
@@ -136,14 +138,16 @@ pub(crate) fn size_in(shape: Shape, value: Value, lent: &[u8]) -> usize
 // Writes a length of k bytes, and then the bytes.
 fn write_counted(k: usize, bytes: &[u8], buf: &mut [u8], at: usize) -> Written
     requires { ⌜ k ≤ 4 ⌝ }
-    ensures { λ r. ⌜ writtenOf r ≡ answerOf (store (now (buf .entry)) at (leBytes k (length (now (bytes .entry))) ++ now (bytes .entry))) ⌝ }
-    ensures { λ _. ⌜ now (buf .exit) ≡ leftOf (now (buf .entry)) (store (now (buf .entry)) at (leBytes k (length (now (bytes .entry))) ++ now (bytes .entry))) ⌝ }
+    ensures { λ r. ⌜ writtenTold r
+        ≡ answerOf (store (leBytes k (length (now (bytes .entry))) ++ now (bytes .entry)) (now (buf .entry)) at) ⌝ }
+    ensures { λ _. ⌜ now (buf .exit)
+        ≡ leftOf (now (buf .entry)) (store (leBytes k (length (now (bytes .entry))) ++ now (bytes .entry)) (now (buf .entry)) at) ⌝ }
 {
     let size = k + bytes.len();
     if wire::has_room(buf.len(), at, size) {
-        wire::write_le(buf, at, k, bytes.len() as u64);
+        wire::write_le(k, bytes.len() as u64, buf, at);
         let behind = at + k;
-        return wire::write_bytes(buf, behind, bytes);
+        return wire::write_bytes(bytes, buf, behind);
     }
     Written::Refused(wire::refuse(NO_ROOM, 0))
 }
@@ -151,8 +155,11 @@ fn write_counted(k: usize, bytes: &[u8], buf: &mut [u8], at: usize) -> Written
 // Writes the bytes of a value behind a length of k bytes.
 fn write_part(k: usize, value: Value, lent: &[u8], buf: &mut [u8], at: usize) -> Written
     requires { ⌜ (k ≤ 4) × (isLent (now lent) value ≡ true) ⌝ }
-    ensures { λ r. ⌜ writtenOf r ≡ answerOf (store (now (buf .entry)) at (leBytes k (bytesAt value .len) ++ partOf (now (lent .entry)) (bytesAt value))) ⌝ }
-    ensures { λ _. ⌜ now (buf .exit) ≡ leftOf (now (buf .entry)) (store (now (buf .entry)) at (leBytes k (bytesAt value .len) ++ partOf (now (lent .entry)) (bytesAt value))) ⌝ }
+    ensures { λ r. ⌜ writtenTold r
+        ≡ answerOf (store (leBytes k (bytesAt value .len) ++ partOf (now (lent .entry)) (bytesAt value)) (now (buf .entry)) at) ⌝ }
+    ensures { λ _. ⌜ now (buf .exit)
+        ≡ leftOf (now (buf .entry))
+        (store (leBytes k (bytesAt value .len) ++ partOf (now (lent .entry)) (bytesAt value)) (now (buf .entry)) at) ⌝ }
 {
     write_counted(k, wire::part_of(lent, bytes_at(value)), buf, at)
 }
@@ -166,16 +173,17 @@ pub(crate) fn store_shape(
     at: usize,
 ) -> Written
     requires { ⌜ Sized shape × (isIn shape (now lent) value ≡ true) ⌝ }
-    ensures { λ r. ⌜ writtenOf r ≡ answerOf (store (now (buf .entry)) at (bytesOf shape (datumOf (now (lent .entry)) value))) ⌝ }
-    ensures { λ _. ⌜ now (buf .exit) ≡ leftOf (now (buf .entry)) (store (now (buf .entry)) at (bytesOf shape (datumOf (now (lent .entry)) value))) ⌝ }
+    ensures { λ r. ⌜ writtenTold r ≡ answerOf (store (bytesOf shape (datumOf (now (lent .entry)) value)) (now (buf .entry)) at) ⌝ }
+    ensures { λ _. ⌜ now (buf .exit)
+        ≡ leftOf (now (buf .entry)) (store (bytesOf shape (datumOf (now (lent .entry)) value)) (now (buf .entry)) at) ⌝ }
 {
     match shape {
-        Shape::Unsigned(k) => wire::write_le(buf, at, k, number_in(value)),
-        Shape::Signed(k) => wire::write_le(buf, at, k, wire::twos_of(k, int_in(value))),
-        Shape::FloatBits => wire::write_le(buf, at, 4, number_in(value)),
-        Shape::DoubleBits => wire::write_le(buf, at, 8, number_in(value)),
-        Shape::YearByte => wire::write_le(buf, at, 1, number_in(value) - 1900),
-        Shape::Timed(kind) => temporal::write_temporal(kind, buf, at, when_in(value), 0),
+        Shape::Unsigned(k) => wire::write_le(k, number_in(value), buf, at),
+        Shape::Signed(k) => wire::write_le(k, wire::twos_of(k, int_in(value)), buf, at),
+        Shape::FloatBits => wire::write_le(4, number_in(value), buf, at),
+        Shape::DoubleBits => wire::write_le(8, number_in(value), buf, at),
+        Shape::YearByte => wire::write_le(1, number_in(value) - 1900, buf, at),
+        Shape::Timed(storage) => temporal::write_temporal(storage, temporal_in(value), buf, at, 0),
         Shape::Fixed(_) => write_part(0, value, lent, buf, at),
         Shape::Counted(k) => write_part(k, value, lent, buf, at),
         // Not reached: such a shape takes no value.
@@ -193,8 +201,9 @@ pub(crate) fn write_shape(
     place: usize,
 ) -> Written
     requires { ⌜ Sized shape ⌝ }
-    ensures { λ r. ⌜ writtenOf r ≡ answerOf (writeValue shape place (now (lent .entry)) value (now (buf .entry)) at) ⌝ }
-    ensures { λ _. ⌜ now (buf .exit) ≡ leftOf (now (buf .entry)) (writeValue shape place (now (lent .entry)) value (now (buf .entry)) at) ⌝ }
+    ensures { λ r. ⌜ writtenTold r ≡ answerOf (writeValue shape place (now (lent .entry)) value (now (buf .entry)) at) ⌝ }
+    ensures { λ _. ⌜ now (buf .exit)
+        ≡ leftOf (now (buf .entry)) (writeValue shape place (now (lent .entry)) value (now (buf .entry)) at) ⌝ }
 {
     if !is_taken(shape) {
         return Written::Refused(wire::refuse(refusal_of(shape), place));
@@ -208,7 +217,7 @@ pub(crate) fn write_shape(
 // How many bytes a value takes in a column of the shape, judged as by the writer.
 pub(crate) fn size_shape(shape: Shape, value: Value, lent: &[u8], place: usize) -> Size
     requires { ⌜ Sized shape ⌝ }
-    ensures { λ r. ⌜ sizeSaid r ≡ sizeOf shape place (now (lent .entry)) value ⌝ }
+    ensures { λ r. ⌜ sizeTold r ≡ sizeOf shape place (now (lent .entry)) value ⌝ }
 {
     if !is_taken(shape) {
         return Size::Refused(wire::refuse(refusal_of(shape), place));

@@ -2,6 +2,67 @@
 ghost use mathlib.Core.Path.{_≡_};
 ghost use Rattle.value.specs.Types.{familyOf, isKnown, metadataBytes, isNumeric, or30, realType};
 
+// The column types that are taken, by the Rust's names.
+pub const MYSQL_TYPE_TINY: u8 = 1;
+
+pub const MYSQL_TYPE_SHORT: u8 = 2;
+
+pub const MYSQL_TYPE_LONG: u8 = 3;
+
+pub const MYSQL_TYPE_FLOAT: u8 = 4;
+
+pub const MYSQL_TYPE_DOUBLE: u8 = 5;
+
+pub const MYSQL_TYPE_TIMESTAMP: u8 = 7;
+
+pub const MYSQL_TYPE_LONGLONG: u8 = 8;
+
+pub const MYSQL_TYPE_INT24: u8 = 9;
+
+pub const MYSQL_TYPE_DATE: u8 = 10;
+
+pub const MYSQL_TYPE_TIME: u8 = 11;
+
+pub const MYSQL_TYPE_DATETIME: u8 = 12;
+
+pub const MYSQL_TYPE_YEAR: u8 = 13;
+
+pub const MYSQL_TYPE_NEWDATE: u8 = 14;
+
+pub const MYSQL_TYPE_VARCHAR: u8 = 15;
+
+pub const MYSQL_TYPE_BIT: u8 = 16;
+
+pub const MYSQL_TYPE_TIMESTAMP2: u8 = 17;
+
+pub const MYSQL_TYPE_DATETIME2: u8 = 18;
+
+pub const MYSQL_TYPE_TIME2: u8 = 19;
+
+pub const MYSQL_TYPE_VECTOR: u8 = 242;
+
+pub const MYSQL_TYPE_JSON: u8 = 245;
+
+pub const MYSQL_TYPE_NEWDECIMAL: u8 = 246;
+
+pub const MYSQL_TYPE_ENUM: u8 = 247;
+
+pub const MYSQL_TYPE_SET: u8 = 248;
+
+pub const MYSQL_TYPE_TINY_BLOB: u8 = 249;
+
+pub const MYSQL_TYPE_MEDIUM_BLOB: u8 = 250;
+
+pub const MYSQL_TYPE_LONG_BLOB: u8 = 251;
+
+pub const MYSQL_TYPE_BLOB: u8 = 252;
+
+pub const MYSQL_TYPE_VAR_STRING: u8 = 253;
+
+pub const MYSQL_TYPE_STRING: u8 = 254;
+
+pub const MYSQL_TYPE_GEOMETRY: u8 = 255;
+
 // What a column type is.
 pub enum Family {
     // 1, 2, 9, 3, 8
@@ -50,36 +111,36 @@ pub fn family_of(kind: u8) -> Family
     ensures { λ r. ⌜ r ≡ familyOf kind ⌝ }
 {
     match kind {
-        1 => Family::Integer { width: 1 },
-        2 => Family::Integer { width: 2 },
-        3 => Family::Integer { width: 4 },
-        4 => Family::Float,
-        5 => Family::Double,
-        7 => Family::Timestamp,
-        8 => Family::Integer { width: 8 },
-        9 => Family::Integer { width: 3 },
-        10 => Family::Date,
-        11 => Family::Time,
-        12 => Family::Datetime,
-        13 => Family::Year,
-        14 => Family::Date,
-        15 => Family::Varchar,
-        16 => Family::Bit,
-        17 => Family::Timestamp2,
-        18 => Family::Datetime2,
-        19 => Family::Time2,
-        242 => Family::Blob,
-        245 => Family::Json,
-        246 => Family::Decimal,
-        247 => Family::Enum,
-        248 => Family::Set,
-        249 => Family::Blob,
-        250 => Family::Blob,
-        251 => Family::Blob,
-        252 => Family::Blob,
-        253 => Family::Varchar,
-        254 => Family::Char,
-        255 => Family::Blob,
+        MYSQL_TYPE_TINY => Family::Integer { width: 1 },
+        MYSQL_TYPE_SHORT => Family::Integer { width: 2 },
+        MYSQL_TYPE_LONG => Family::Integer { width: 4 },
+        MYSQL_TYPE_FLOAT => Family::Float,
+        MYSQL_TYPE_DOUBLE => Family::Double,
+        MYSQL_TYPE_TIMESTAMP => Family::Timestamp,
+        MYSQL_TYPE_LONGLONG => Family::Integer { width: 8 },
+        MYSQL_TYPE_INT24 => Family::Integer { width: 3 },
+        MYSQL_TYPE_DATE => Family::Date,
+        MYSQL_TYPE_TIME => Family::Time,
+        MYSQL_TYPE_DATETIME => Family::Datetime,
+        MYSQL_TYPE_YEAR => Family::Year,
+        MYSQL_TYPE_NEWDATE => Family::Date,
+        MYSQL_TYPE_VARCHAR => Family::Varchar,
+        MYSQL_TYPE_BIT => Family::Bit,
+        MYSQL_TYPE_TIMESTAMP2 => Family::Timestamp2,
+        MYSQL_TYPE_DATETIME2 => Family::Datetime2,
+        MYSQL_TYPE_TIME2 => Family::Time2,
+        MYSQL_TYPE_VECTOR => Family::Blob,
+        MYSQL_TYPE_JSON => Family::Json,
+        MYSQL_TYPE_NEWDECIMAL => Family::Decimal,
+        MYSQL_TYPE_ENUM => Family::Enum,
+        MYSQL_TYPE_SET => Family::Set,
+        MYSQL_TYPE_TINY_BLOB => Family::Blob,
+        MYSQL_TYPE_MEDIUM_BLOB => Family::Blob,
+        MYSQL_TYPE_LONG_BLOB => Family::Blob,
+        MYSQL_TYPE_BLOB => Family::Blob,
+        MYSQL_TYPE_VAR_STRING => Family::Varchar,
+        MYSQL_TYPE_STRING => Family::Char,
+        MYSQL_TYPE_GEOMETRY => Family::Blob,
         _ => Family::Unknown,
     }
 }
@@ -127,10 +188,10 @@ pub(crate) fn or_30(m0: u8) -> u8
 pub fn real_type(kind: u8, m0: u8) -> u8
     ensures { λ r. ⌜ r ≡ realType kind m0 ⌝ }
 {
-    if kind == 10 {
-        return 14;
+    if kind == MYSQL_TYPE_DATE {
+        return MYSQL_TYPE_NEWDATE;
     }
-    if kind == 254 {
+    if kind == MYSQL_TYPE_STRING {
         return or_30(m0);
     }
     kind

@@ -1,4 +1,5 @@
--- The other way: a value that was made has the kind and the parts that it was made of, so no two kinds or parts stand for one value. Assumes nothing.
+-- The other way: a value that was made has the sort and the parts that it was made of, so no two sorts or parts stand for one value.
+-- Assumes nothing.
 use Prim.Native.Nat.{ℕ, zero, suc, _^_, _≤_}
 use mathlib.Core.Path.{_≡_, refl, sym, ap, subst, _∙_}
 use mathlib.Core.Bool.{true, cond, _&&_, true≢false}
@@ -11,7 +12,7 @@ use Rattle.wire.specs.Outcome.{ok, why}
 use Rattle.wire.proofs.Outcomes.{test-is-ok, both-true}
 use Rattle.wire.proofs.Signs.{signs-sound}
 use Rattle.value.specs.declared.datum.Value.{Value}
-use Rattle.value_parts.specs.Parts.{kindOf, partsOf, topsOf, fit, isTaken, made, valueOf}
+use Rattle.value_parts.specs.Parts.{sortOf, partsOf, topsOf, fit, makesValue, made, valueOf}
 use Rattle.value_parts.proofs.Takes.{fit-at}
 
 -- ---- parts that fit, one by one
@@ -27,14 +28,15 @@ fit-listed : (ts ps : List ℕ) → fit ts ps ≡ true → take (length ts) ps �
 unfolding fit
 fit-listed [] ps h = refl
 fit-listed (t ∷ ts) [] h = absurd (true≢false (sym h))
-fit-listed (t ∷ ts) (p ∷ ps) h = ap (λ (l : List ℕ). p ∷ l) (fit-listed ts ps (both-true (leb p t) (fit ts ps) h .1) ∙ sym (listed-behind (length ts) 0 p ps))
+fit-listed (t ∷ ts) (p ∷ ps) h =
+    ap (λ (l : List ℕ). p ∷ l) (fit-listed ts ps (both-true (leb p t) (fit ts ps) h .1) ∙ sym (listed-behind (length ts) 0 p ps))
 
--- ---- what a kind makes of parts that fit it
+-- ---- what a sort makes of parts that fit it
 abbrev MadeFrom : ℕ → Type 0
-MadeFrom k = (ps : List ℕ) → fit (topsOf k) ps ≡ true → (kindOf (made k ps) ≡ k) × (partsOf (made k ps) ≡ take (length (topsOf k)) ps)
+MadeFrom k = (ps : List ℕ) → fit (topsOf k) ps ≡ true → (sortOf (made k ps) ≡ k) × (partsOf (made k ps) ≡ take (length (topsOf k)) ps)
 
 made-int : MadeFrom 2
-unfolding kindOf partsOf made topsOf
+unfolding sortOf partsOf made topsOf
 made-int ps h =
     let a : getD ps 0 0 ≤ 18446744073709551615 = fit-at (topsOf 2) ps 0 h (omega arith) in
     let w = signs-sound (2 ^ 64) (getD ps 0 0) refl (omega arith) in
@@ -46,14 +48,14 @@ sign-made (suc zero) h = refl
 sign-made (suc (suc n)) h = absurd (omega arith)
 
 made-time : MadeFrom 10
-unfolding kindOf partsOf made topsOf
+unfolding sortOf partsOf made topsOf
 made-time ps h =
     let a : getD ps 0 0 ≤ 1 = fit-at (topsOf 10) ps 0 h (omega arith) in
     (refl, ap (λ (x : ℕ). x ∷ listed 4 1 ps) (sign-made (getD ps 0 0) a) ∙ sym (fit-listed (topsOf 10) ps h))
 
--- ---- all kinds
+-- ---- all sorts
 made-any : (k : ℕ) → 1 ≤ k → k ≤ 11 → MadeFrom k
-unfolding kindOf partsOf made topsOf
+unfolding sortOf partsOf made topsOf
 made-any zero a b ps h = absurd (omega arith)
 made-any (suc zero) a b ps h = (refl, sym (fit-listed (topsOf 1) ps h))
 made-any (suc (suc zero)) a b ps h = made-int ps h
@@ -68,10 +70,12 @@ made-any (suc (suc (suc (suc (suc (suc (suc (suc (suc (suc zero)))))))))) a b ps
 made-any (suc (suc (suc (suc (suc (suc (suc (suc (suc (suc (suc zero))))))))))) a b ps h = (refl, sym (fit-listed (topsOf 11) ps h))
 made-any (suc (suc (suc (suc (suc (suc (suc (suc (suc (suc (suc (suc n)))))))))))) a b ps h = absurd (omega arith)
 
-pub parts-back : (kind : ℕ) (ps : List ℕ) (v : Value) → valueOf kind ps ≡ ok v → (kindOf v ≡ kind) × (partsOf v ≡ take (length (topsOf kind)) ps)
-unfolding valueOf isTaken
-parts-back kind ps v e =
-    let t = test-is-ok (isTaken kind ps) (made kind ps) (why 13 0) v e in
-    let u = both-true (leb 1 kind) (leb kind 11 && fit (topsOf kind) ps) (t .0) in
-    let w = both-true (leb kind 11) (fit (topsOf kind) ps) (u .1) in
-    subst (λ (x : Value). (kindOf x ≡ kind) × (partsOf x ≡ take (length (topsOf kind)) ps)) (t .1) (made-any kind (leb-true 1 kind (u .0)) (leb-true kind 11 (w .0)) ps (w .1))
+pub parts-back : (sort : ℕ) (ps : List ℕ) (v : Value) → valueOf sort ps ≡ ok v
+    → (sortOf v ≡ sort) × (partsOf v ≡ take (length (topsOf sort)) ps)
+unfolding valueOf makesValue
+parts-back sort ps v e =
+    let t = test-is-ok (makesValue sort ps) (made sort ps) (why 13 0) v e in
+    let u = both-true (leb 1 sort) (leb sort 11 && fit (topsOf sort) ps) (t .0) in
+    let w = both-true (leb sort 11) (fit (topsOf sort) ps) (u .1) in
+    subst (λ (x : Value). (sortOf x ≡ sort) × (partsOf x ≡ take (length (topsOf sort)) ps)) (t .1)
+    (made-any sort (leb-true 1 sort (u .0)) (leb-true sort 11 (w .0)) ps (w .1))

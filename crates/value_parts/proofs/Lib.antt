@@ -1,5 +1,5 @@
--- The laws of the crate. `Takes`: the parts that a kind takes. `Holds`: values whose parts are within their bits. `Backs`: a value's kind
--- and parts make the same value again. `Givens`: a value that was made has the kind and parts that it was made of. `Inside`: a value in a
+-- The laws of the crate. `Takes`: the parts that a sort takes. `Holds`: values whose parts are within their bits. `Backs`: a value's sort
+-- and parts make the same value again. `Givens`: a value that was made has the sort and parts that it was made of. `Inside`: a value in a
 -- column's domain is one that the machine can hold. `Views`: no two answers look the same on paper.
 pub mod Takes
 pub mod Holds

@@ -1,4 +1,4 @@
--- The parts that a kind takes. Assumes nothing.
+-- The parts that a sort takes. Assumes nothing.
 use Prim.Native.Nat.{ℕ, zero, suc, _+_, _≤_, _<_}
 use mathlib.Core.Path.{_≡_, refl, sym, ap, _∙_}
 use mathlib.Core.Bool.{Bool, true, false, cond, _&&_, true≢false}
@@ -14,7 +14,7 @@ use lib.Seq.{drop-cons}
 use lib.Dec.{leb}
 use mir.Val.{boolByte}
 use Rattle.wire.proofs.Outcomes.{both-true}
-use Rattle.value_parts.specs.Parts.{topsOf, fit, isTaken}
+use Rattle.value_parts.specs.Parts.{topsOf, fit, makesValue}
 
 -- ---- parts that fit
 -- none of them is too great
@@ -42,7 +42,8 @@ pub fit-great : (ts ps : List ℕ) (i : ℕ) → i < length ts → i < length ps
 unfolding fit
 fit-great ts ps i h l g = rw (drop-cons ts i 0 h, drop-cons ps i 0 l, lt-leb _ _ g)
 
-pub fit-on : (ts ps : List ℕ) (i : ℕ) → i < length ts → i < length ps → getD ps i 0 ≤ getD ts i 0 → fit (drop i ts) (drop i ps) ≡ fit (drop (i + 1) ts) (drop (i + 1) ps)
+pub fit-on : (ts ps : List ℕ) (i : ℕ) → i < length ts → i < length ps → getD ps i 0 ≤ getD ts i 0
+    → fit (drop i ts) (drop i ps) ≡ fit (drop (i + 1) ts) (drop (i + 1) ps)
 unfolding fit
 fit-on ts ps i h l g = rw (drop-cons ts i 0 h, drop-cons ps i 0 l, le-leb _ _ g, add-one i)
 
@@ -55,23 +56,23 @@ pub as-number : (b : Bool) → boolByte b ≡ cond b 1 0
 as-number true = refl
 as-number false = refl
 
--- ---- kinds
-pub taken-fit : (kind k : ℕ) (ps : List ℕ) → isTaken kind ps ≡ true → kind ≡ k → fit (topsOf k) ps ≡ true
-unfolding isTaken
-taken-fit kind k ps h e = let w = both-true (leb 1 kind) (leb kind 11 && fit (topsOf kind) ps) h in
-    ap (λ (n : ℕ). fit (topsOf n) ps) (sym e) ∙ both-true (leb kind 11) (fit (topsOf kind) ps) (w .1) .1
+-- ---- sorts
+pub taken-fit : (sort k : ℕ) (ps : List ℕ) → makesValue sort ps ≡ true → sort ≡ k → fit (topsOf k) ps ≡ true
+unfolding makesValue
+taken-fit sort k ps h e = let w = both-true (leb 1 sort) (leb sort 11 && fit (topsOf sort) ps) h in
+    ap (λ (n : ℕ). fit (topsOf n) ps) (sym e) ∙ both-true (leb sort 11) (fit (topsOf sort) ps) (w .1) .1
 
-pub taken-is : (kind : ℕ) (ps : List ℕ) → 1 ≤ kind → kind ≤ 11 → isTaken kind ps ≡ fit (topsOf kind) ps
-unfolding isTaken
-taken-is kind ps a b = rw (le-leb 1 kind a, le-leb kind 11 b)
+pub taken-is : (sort : ℕ) (ps : List ℕ) → 1 ≤ sort → sort ≤ 11 → makesValue sort ps ≡ fit (topsOf sort) ps
+unfolding makesValue
+taken-is sort ps a b = rw (le-leb 1 sort a, le-leb sort 11 b)
 
--- a number that is no kind: neither the least, nor the one behind it, and so on
-pub beyond : (k kind : ℕ) → k ≤ kind → (kind ≡ k → ⊥) → suc k ≤ kind
-beyond k kind h n = omega arith
+-- a number that is no sort: neither the least, nor the one behind it, and so on
+pub beyond : (k sort : ℕ) → k ≤ sort → (sort ≡ k → ⊥) → suc k ≤ sort
+beyond k sort h n = omega arith
 
-pub not-taken : (kind : ℕ) (ps : List ℕ) → (1 ≤ kind → 12 ≤ kind) → isTaken kind ps ≡ false
-unfolding isTaken
-not-taken kind ps h =
-    dite (decLt kind 1)
-    (λ a. rw (lt-leb 1 kind a))
-    (λ a. rw (le-leb 1 kind (omega arith), lt-leb kind 11 (h (omega arith))))
+pub not-taken : (sort : ℕ) (ps : List ℕ) → (1 ≤ sort → 12 ≤ sort) → makesValue sort ps ≡ false
+unfolding makesValue
+not-taken sort ps h =
+    dite (decLt sort 1)
+    (λ a. rw (lt-leb 1 sort a))
+    (λ a. rw (le-leb 1 sort (omega arith), lt-leb sort 11 (h (omega arith))))

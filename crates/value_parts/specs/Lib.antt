@@ -1,2 +1,2 @@
--- The definitions of the crate: what people must believe. `Parts`: a value as a kind and parts, and back.
+-- The definitions of the crate: what people must believe. `Parts`: a value as a sort and parts, and back.
 pub mod Parts

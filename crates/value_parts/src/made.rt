@@ -1,18 +1,18 @@
-// The value that a kind and parts make.
-use crate::kind::BYTES;
-use crate::kind::DATE;
-use crate::kind::DOUBLE;
-use crate::kind::FLOAT;
-use crate::kind::INT;
-use crate::kind::MOMENT;
-use crate::kind::NULL;
-use crate::kind::SINCE;
-use crate::kind::TIME;
-use crate::kind::UINT;
-use crate::kind::YEAR;
+// The value that a sort and parts make.
+use crate::sort::BYTES;
+use crate::sort::DATE;
+use crate::sort::DATETIME;
+use crate::sort::DOUBLE;
+use crate::sort::FLOAT;
+use crate::sort::INT;
+use crate::sort::NULL;
+use crate::sort::SECONDS;
+use crate::sort::TIME;
+use crate::sort::UINT;
+use crate::sort::YEAR;
 use temporal::Date;
-use temporal::Moment;
-use temporal::Stamp;
+use temporal::Datetime;
+use temporal::Seconds;
 use temporal::Temporal;
 use temporal::Time;
 use value::Value;
@@ -23,7 +23,8 @@ ghost use mathlib.Core.Path.{_≡_};
 ghost use mathlib.Core.Bool.{true};
 ghost use Prim.Native.Nat.{_≤_};
 ghost use lib.ListN.{getD};
-ghost use Rattle.value_parts.specs.Parts.{topOfBits, topsOf, fit, isTaken, stampOf, dateOf, momentOf, timeOf, made, valueOf, madeOf};
+ghost use Rattle.value_parts.specs.Parts.{topOfBits, topsOf, fit, makesValue, madeSeconds, madeDate, madeDatetime, madeTime, made};
+ghost use Rattle.value_parts.specs.Parts.{valueOf, madeTold};
 
 // The greatest number of so many bits.
 const TOP_1: u64 = 1;
@@ -59,20 +60,20 @@ fn fits(parts: &[u64], tops: &[u64]) -> bool
     true
 }
 
-// Whether there is such a kind, and all its parts are there, none wider than the kind has it.
-fn is_taken(kind: u64, parts: &[u64]) -> bool
-    ensures { λ r. ⌜ r ≡ isTaken kind (now (parts .entry)) ⌝ }
+// Whether there is such a sort, and all its parts are there, none wider than the sort has it.
+fn makes_value(sort: u64, parts: &[u64]) -> bool
+    ensures { λ r. ⌜ r ≡ makesValue sort (now (parts .entry)) ⌝ }
 {
-    match kind {
+    match sort {
         NULL => true,
         INT => fits(parts, &[TOP_64]),
         UINT => fits(parts, &[TOP_64]),
         FLOAT => fits(parts, &[TOP_32]),
         DOUBLE => fits(parts, &[TOP_64]),
-        SINCE => fits(parts, &[TOP_32, TOP_32]),
+        SECONDS => fits(parts, &[TOP_32, TOP_32]),
         YEAR => fits(parts, &[TOP_16]),
         DATE => fits(parts, &[TOP_16, TOP_8, TOP_8]),
-        MOMENT => fits(parts, &[TOP_16, TOP_8, TOP_8, TOP_8, TOP_8, TOP_8, TOP_32]),
+        DATETIME => fits(parts, &[TOP_16, TOP_8, TOP_8, TOP_8, TOP_8, TOP_8, TOP_32]),
         TIME => fits(parts, &[TOP_1, TOP_16, TOP_8, TOP_8, TOP_32]),
         BYTES => fits(parts, &[TOP_64, TOP_64]),
         _ => false,
@@ -111,19 +112,19 @@ fn part_32(parts: &[u64], i: usize) -> u32
     part(parts, i) as u32
 }
 
-fn stamp_of(parts: &[u64]) -> Stamp
+fn made_seconds(parts: &[u64]) -> Seconds
     requires { ⌜ fit (topsOf 6) (now parts) ≡ true ⌝ }
-    ensures { λ r. ⌜ r ≡ stampOf (now (parts .entry)) ⌝ }
+    ensures { λ r. ⌜ r ≡ madeSeconds (now (parts .entry)) ⌝ }
 {
-    Stamp {
+    Seconds {
         seconds: part_32(parts, 0),
         micros: part_32(parts, 1),
     }
 }
 
-fn date_of(parts: &[u64]) -> Date
+fn made_date(parts: &[u64]) -> Date
     requires { ⌜ fit (topsOf 8) (now parts) ≡ true ⌝ }
-    ensures { λ r. ⌜ r ≡ dateOf (now (parts .entry)) ⌝ }
+    ensures { λ r. ⌜ r ≡ madeDate (now (parts .entry)) ⌝ }
 {
     Date {
         year: part_16(parts, 0),
@@ -132,11 +133,11 @@ fn date_of(parts: &[u64]) -> Date
     }
 }
 
-fn moment_of(parts: &[u64]) -> Moment
+fn made_datetime(parts: &[u64]) -> Datetime
     requires { ⌜ fit (topsOf 9) (now parts) ≡ true ⌝ }
-    ensures { λ r. ⌜ r ≡ momentOf (now (parts .entry)) ⌝ }
+    ensures { λ r. ⌜ r ≡ madeDatetime (now (parts .entry)) ⌝ }
 {
-    Moment {
+    Datetime {
         year: part_16(parts, 0),
         month: part_8(parts, 1),
         day: part_8(parts, 2),
@@ -147,9 +148,9 @@ fn moment_of(parts: &[u64]) -> Moment
     }
 }
 
-fn time_of(parts: &[u64]) -> Time
+fn made_time(parts: &[u64]) -> Time
     requires { ⌜ fit (topsOf 10) (now parts) ≡ true ⌝ }
-    ensures { λ r. ⌜ r ≡ timeOf (now (parts .entry)) ⌝ }
+    ensures { λ r. ⌜ r ≡ madeTime (now (parts .entry)) ⌝ }
 {
     Time {
         negative: part(parts, 0) == 1,
@@ -160,21 +161,21 @@ fn time_of(parts: &[u64]) -> Time
     }
 }
 
-// The value of a kind and of parts that were judged.
-fn make_value(kind: u64, parts: &[u64]) -> Value
-    requires { ⌜ isTaken kind (now parts) ≡ true ⌝ }
-    ensures { λ r. ⌜ r ≡ made kind (now (parts .entry)) ⌝ }
+// The value of a sort and of parts that were judged.
+fn make_value(sort: u64, parts: &[u64]) -> Value
+    requires { ⌜ makesValue sort (now parts) ≡ true ⌝ }
+    ensures { λ r. ⌜ r ≡ made sort (now (parts .entry)) ⌝ }
 {
-    match kind {
+    match sort {
         INT => Value::Int(wire::signed_of(8, part(parts, 0))),
         UINT => Value::Uint(part(parts, 0)),
         FLOAT => Value::Float(part_32(parts, 0)),
         DOUBLE => Value::Double(part(parts, 0)),
-        SINCE => Value::When(Temporal::Since(stamp_of(parts))),
+        SECONDS => Value::Temporal(Temporal::Seconds(made_seconds(parts))),
         YEAR => Value::Year(part_16(parts, 0)),
-        DATE => Value::When(Temporal::On(date_of(parts))),
-        MOMENT => Value::When(Temporal::At(moment_of(parts))),
-        TIME => Value::When(Temporal::Lasts(time_of(parts))),
+        DATE => Value::Temporal(Temporal::Date(made_date(parts))),
+        DATETIME => Value::Temporal(Temporal::Datetime(made_datetime(parts))),
+        TIME => Value::Temporal(Temporal::Time(made_time(parts))),
         BYTES => Value::Bytes(Part {
             start: part(parts, 0) as usize,
             len: part(parts, 1) as usize,
@@ -183,12 +184,12 @@ fn make_value(kind: u64, parts: &[u64]) -> Value
     }
 }
 
-// The value that a kind and parts make; what stands behind the kind's own parts is not looked at.
-pub fn value_of(kind: u64, parts: &[u64]) -> Made
-    ensures { λ r. ⌜ madeOf r ≡ valueOf kind (now (parts .entry)) ⌝ }
+// The value that a sort and parts make; what stands behind the sort's own parts is not looked at.
+pub fn value_of(sort: u64, parts: &[u64]) -> Made
+    ensures { λ r. ⌜ madeTold r ≡ valueOf sort (now (parts .entry)) ⌝ }
 {
-    if is_taken(kind, parts) {
-        return Made::Value(make_value(kind, parts));
+    if makes_value(sort, parts) {
+        return Made::Value(make_value(sort, parts));
     }
     Made::Refused(wire::refuse(NOT_TAKEN, 0))
 }

@@ -4,17 +4,16 @@ use value::Value;
 ghost use mathlib.Core.Path.{_≡_};
 ghost use mathlib.Core.Bool.{true};
 ghost use mathlib.Core.List.{_∷_, []};
-ghost use Rattle.value.specs.declared.datum.Value.the-variants.{When};
 ghost use Rattle.value_parts.specs.Parts.{partsOf, padded, isHeld};
 
 fn temporal_parts(t: Temporal) -> [u64; 7]
-    ensures { λ r. ⌜ r ≡ padded 7 (partsOf (When t)) ⌝ }
-    ensures { λ _. ⌜ isHeld (When t) ≡ true ⌝ }
+    ensures { λ r. ⌜ r ≡ padded 7 (partsOf (Value.Temporal t)) ⌝ }
+    ensures { λ _. ⌜ isHeld (Value.Temporal t) ≡ true ⌝ }
 {
     match t {
-        Temporal::Since(s) => [s.seconds as u64, s.micros as u64, 0, 0, 0, 0, 0],
-        Temporal::On(d) => [d.year as u64, d.month as u64, d.day as u64, 0, 0, 0, 0],
-        Temporal::At(m) => [
+        Temporal::Seconds(s) => [s.seconds as u64, s.micros as u64, 0, 0, 0, 0, 0],
+        Temporal::Date(d) => [d.year as u64, d.month as u64, d.day as u64, 0, 0, 0, 0],
+        Temporal::Datetime(m) => [
             m.year as u64,
             m.month as u64,
             m.day as u64,
@@ -23,7 +22,7 @@ fn temporal_parts(t: Temporal) -> [u64; 7]
             m.second as u64,
             m.micros as u64,
         ],
-        Temporal::Lasts(t) => [
+        Temporal::Time(t) => [
             t.negative as u64,
             t.hours as u64,
             t.minutes as u64,
@@ -42,7 +41,8 @@ fn one_part(n: u64) -> [u64; 7]
     [n, 0, 0, 0, 0, 0, 0]
 }
 
-// The seven parts of a value, 0 for each that its kind has not. Every value that there is has each part within its bits, and so is made again of its kind and parts.
+// The seven parts of a value, 0 for each that its sort has not. Every value that there is has each part within its bits, and so is made
+// again of its sort and parts.
 pub fn parts_of(value: Value) -> [u64; 7]
     ensures { λ r. ⌜ r ≡ padded 7 (partsOf value) ⌝ }
     ensures { λ _. ⌜ isHeld value ≡ true ⌝ }
@@ -54,7 +54,7 @@ pub fn parts_of(value: Value) -> [u64; 7]
         Value::Float(bits) => one_part(bits as u64),
         Value::Double(bits) => one_part(bits),
         Value::Year(y) => one_part(y as u64),
-        Value::When(t) => temporal_parts(t),
+        Value::Temporal(t) => temporal_parts(t),
         Value::Bytes(part) => [part.start as u64, part.len as u64, 0, 0, 0, 0, 0],
     }
 }

@@ -8,7 +8,8 @@ use native.Mathlib.Decide.{decLe}
 use native.Mathlib.Omega.{arith}
 use native.Mathlib.Numerals.{add-one}
 use lib.ListN.{length, take, drop, getD, set, length-drop, length-reverse, take-append-drop}
-use lib.Seq.{drop-cons, take-suc, take-all, getD-drop, take-suc-set, take-set-le, drop-set-lt, append-snoc, set-split, drop-at, length-take-le}
+use lib.Seq.{drop-cons, take-suc, take-all, getD-drop, take-suc-set, take-set-le, drop-set-lt, append-snoc, set-split, drop-at}
+use lib.Seq.{length-take-le}
 use Rattle.wire.specs.Number.{leValue, beValue, leBytes, beBytes}
 use Rattle.wire.specs.Stored.{stored}
 
@@ -72,7 +73,7 @@ unfolding beBytes
 beBytes-length k v = length-reverse (leBytes k v) ∙ leBytes-length k v
 
 -- a buffer as a loop leaves it, which knows the length of what it stored by another name
-pub is-stored : (d bs : List ℕ) (at k : ℕ) → length bs ≡ k → take at d ++ (bs ++ drop (at + k) d) ≡ stored d at bs
+pub is-stored : (d bs : List ℕ) (at k : ℕ) → length bs ≡ k → take at d ++ (bs ++ drop (at + k) d) ≡ stored bs d at
 unfolding stored
 is-stored d bs at k e = rw e
 
@@ -89,7 +90,8 @@ put-le-turn d at k i r h m =
     rw (e, take-suc-set d (at + i) (r % 256) p, drop-set-lt (at + k) d (at + i) (r % 256) q, n, append-snoc)
 
 -- the end of the loop of `put_le`
-pub put-le-done : (d goal : List ℕ) (at k i r : ℕ) → i ≤ k → k ≤ i → take (at + i) d ++ (leBytes (k - i) r ++ drop (at + k) d) ≡ goal → d ≡ goal
+pub put-le-done : (d goal : List ℕ) (at k i r : ℕ) → i ≤ k → k ≤ i → take (at + i) d ++ (leBytes (k - i) r ++ drop (at + k) d) ≡ goal
+    → d ≡ goal
 unfolding leBytes
 put-le-done d goal at k i r h m e =
     let z : k - i ≡ 0 = omega arith in

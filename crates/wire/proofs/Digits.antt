@@ -129,7 +129,7 @@ digit-kept x (suc j) (suc k) on n =
 -- ---- bits of a list of bytes: digit q of the byte p, after digit j of the byte `at` was written
 module _ (d : List ℕ) (at j : ℕ) (on : Bool) (h : at < length d) where
   abbrev written : List ℕ
-  written = stored d at (withDigit (getD d at 0) j on ∷ [])
+  written = stored (withDigit (getD d at 0) j on ∷ []) d at
 
   same-byte : getD written at 0 ≡ withDigit (getD d at 0) j on
   same-byte = rw (← stored-one d at (withDigit (getD d at 0) j on)) (getD-set-same d at (withDigit (getD d at 0) j on) 0 h)
@@ -144,11 +144,13 @@ module _ (d : List ℕ) (at j : ℕ) (on : Bool) (h : at < length d) where
       (λ e. rw (other-byte p e))
 
 -- the bit that was written is read back
-pub lsb0-written : (d : List ℕ) (i : ℕ) (on : Bool) → i / 8 < length d → bitLsb0 (stored d (i / 8) (withDigit (getD d (i / 8) 0) (lsb0 i) on ∷ [])) i ≡ on
+pub lsb0-written : (d : List ℕ) (i : ℕ) (on : Bool) → i / 8 < length d
+    → bitLsb0 (stored (withDigit (getD d (i / 8) 0) (lsb0 i) on ∷ []) d (i / 8)) i ≡ on
 unfolding bitLsb0
 lsb0-written d i on h = rw (same-byte d (i / 8) (lsb0 i) on h) (digit-written (getD d (i / 8) 0) (lsb0 i) on)
 
 -- and every other bit is what it was
-pub lsb0-kept : (d : List ℕ) (i k : ℕ) (on : Bool) → i / 8 < length d → (k ≡ i → ⊥) → bitLsb0 (stored d (i / 8) (withDigit (getD d (i / 8) 0) (lsb0 i) on ∷ [])) k ≡ bitLsb0 d k
+pub lsb0-kept : (d : List ℕ) (i k : ℕ) (on : Bool) → i / 8 < length d → (k ≡ i → ⊥)
+    → bitLsb0 (stored (withDigit (getD d (i / 8) 0) (lsb0 i) on ∷ []) d (i / 8)) k ≡ bitLsb0 d k
 unfolding bitLsb0
 lsb0-kept d i k on h n = kept d (i / 8) (lsb0 i) on h (k / 8) (lsb0 k) (λ e f. n (omega arith))

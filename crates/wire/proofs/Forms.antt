@@ -1,5 +1,5 @@
--- Packed integers: what is written is read back, wherever it stands; what was read stands there in one of four forms; the written form is the
--- shortest, and the only one of its length. Assumes nothing.
+-- Packed integers: what is written is read back, wherever it stands; what was read stands there in one of four forms; the written form is
+-- the shortest, and the only one of its length. Assumes nothing.
 use Prim.Native.Nat.{ℕ, suc, _+_, _-_, _^_, _≤_, _<_}
 use mathlib.Core.Path.{_≡_, refl, sym, subst, _∙_}
 use mathlib.Core.Bool.{Bool, true, false, cond}
@@ -15,8 +15,9 @@ use lib.Dec.{leb, eqb}
 use Rattle.wire.specs.declared.refusal.Refusal.{Refusal}
 use Rattle.wire.specs.Outcome.{ok, refused, refuse, why}
 use Rattle.wire.specs.Number.{Bytes, leValue, leBytes}
-use Rattle.wire.specs.Packed.{packedBytes, readPacked, formOf, longForm}
-use Rattle.wire.specs.Layouts.{Precedes, two as two′, three as three′, eight as eight′, IntegerCut, no-byte, few-behind, IntegerRefused}
+use Rattle.wire.specs.Packed.{packedBytes, readPacked, packedForm, longForm}
+use Rattle.wire.specs.Layouts.{Precedes, two as two′, three as three′, eight as eight′, IntegerCut, no-byte, few-behind}
+use Rattle.wire.specs.Layouts.{IntegerRefused}
 use Rattle.wire.specs.Stored.{stored}
 use Rattle.wire.proofs.Outcomes.{by-test, test-is-ok, test-refuses, ok-not-refused, same-ok, same-refused}
 use Rattle.wire.proofs.Bytes.{leBytes-length, wider}
@@ -107,17 +108,19 @@ pub data Form (s : List ℕ) (at : ℕ) : ℕ → ℕ → Type 0 where
   behind : (first k least : ℕ) → Tag first k least → getD s at 0 ≡ first → at + 1 + k ≤ length s
       → Form s at (leValue (take k (drop (at + 1) s))) (at + 1 + k)
 
-long-form : {first k least : ℕ} (s : List ℕ) (at v next : ℕ) → Tag first k least → getD s at 0 ≡ first → longForm s at k ≡ ok (v, next) → Form s at v next
+long-form : {first k least : ℕ} (s : List ℕ) (at v next : ℕ) → Tag first k least → getD s at 0 ≡ first → longForm s at k ≡ ok (v, next)
+    → Form s at v next
 unfolding longForm
 long-form {first} {k} {least} s at v next t b e =
     let w = test-is-ok (leb (at + 1 + k) (length s)) (leValue (take k (drop (at + 1) s)), at + 1 + k) (why 1 at) (v, next) e in
     subst (λ (x : ℕ × ℕ). Form s at (x .0) (x .1)) (w .1) (behind first k least t b (leb-true (at + 1 + k) (length s) (w .0)))
 
-form-of : (s : List ℕ) (at b v next : ℕ) → at < length s → getD s at 0 ≡ b → formOf s at b ≡ ok (v, next) → Form s at v next
-unfolding formOf
+form-of : (s : List ℕ) (at b v next : ℕ) → at < length s → getD s at 0 ≡ b → packedForm s at b ≡ ok (v, next) → Form s at v next
+unfolding packedForm
 form-of s at b v next h g e =
     by-test (leb b 250) _ _ _ e
-    (λ t e₁. subst (λ (x : ℕ × ℕ). Form s at (x .0) (x .1)) (same-ok e₁) (subst (λ (y : ℕ). Form s at y (at + 1)) g (itself h (omega (arith, leb-true b 250 t)))))
+    (λ t e₁. subst (λ (x : ℕ × ℕ). Form s at (x .0) (x .1)) (same-ok e₁)
+    (subst (λ (y : ℕ). Form s at y (at + 1)) g (itself h (omega (arith, leb-true b 250 t)))))
     (λ t₀ e₀. by-test (eqb b 252) _ _ _ e₀ (λ t e₁. long-form s at v next two (g ∙ eqb-true b 252 t) e₁)
     (λ t₁ e₁. by-test (eqb b 253) _ _ _ e₁ (λ t e₂. long-form s at v next three (g ∙ eqb-true b 253 t) e₂)
     (λ t₂ e₂. by-test (eqb b 254) _ _ _ e₂ (λ t e₃. long-form s at v next eight (g ∙ eqb-true b 254 t) e₃)
@@ -175,25 +178,28 @@ read-only s at v next h e = go (read-form s at v next e)
         let o : at + 1 + k - at ≡ suc k = omega arith in
         let p : at < length s = omega arith in
         let m : length (take k (drop (at + 1) s)) ≡ k = length-take-le k (drop (at + 1) s) (rw length-drop (omega arith)) in
-        let bytes : leBytes k v ≡ take k (drop (at + 1) s) = rw m at (le-sound (take k (drop (at + 1) s)) (bytes-take k (drop (at + 1) s) (bytes-drop (at + 1) s h))) in
+        let bytes : leBytes k v ≡ take k (drop (at + 1) s) =
+        rw m at (le-sound (take k (drop (at + 1) s)) (bytes-take k (drop (at + 1) s) (bytes-drop (at + 1) s h))) in
         rw (o, drop-cons s at 0, b, of-length v t (omega arith), bytes, add-one)
 
 -- ---- what is written is read back
-long-back : (pre rest : List ℕ) (t k v : ℕ) → v < 256 ^ k → longForm (pre ++ (t ∷ (leBytes k v ++ rest))) (length pre) k ≡ ok (v, length pre + 1 + k)
+long-back : (pre rest : List ℕ) (t k v : ℕ) → v < 256 ^ k
+    → longForm (pre ++ (t ∷ (leBytes k v ++ rest))) (length pre) k ≡ ok (v, length pre + 1 + k)
 unfolding longForm
 long-back pre rest t k v h =
     let f : length pre + 1 + k ≤ length (pre ++ (t ∷ (leBytes k v ++ rest))) = simp (length-append, leBytes-length) (omega arith) in
     rw (le-leb _ _ f, drop-append-add, take-at (leBytes k v) rest k (leBytes-length k v), le-back k v h)
 
-tag-form : {first k least : ℕ} → Tag first k least → (s : List ℕ) (at : ℕ) → formOf s at first ≡ longForm s at k
-unfolding formOf
+tag-form : {first k least : ℕ} → Tag first k least → (s : List ℕ) (at : ℕ) → packedForm s at first ≡ longForm s at k
+unfolding packedForm
 tag-form two s at = refl
 tag-form three s at = refl
 tag-form eight s at = refl
 
 -- at any place, with anything behind
-pub read-back : (pre rest : List ℕ) (v : ℕ) → v < 2 ^ 64 → readPacked (pre ++ (packedBytes v ++ rest)) (length pre) ≡ ok (v, length pre + length (packedBytes v))
-unfolding readPacked formOf
+pub read-back : (pre rest : List ℕ) (v : ℕ) → v < 2 ^ 64
+    → readPacked (pre ++ (packedBytes v ++ rest)) (length pre) ≡ ok (v, length pre + length (packedBytes v))
+unfolding readPacked packedForm
 read-back pre rest v h = go (shortest v)
   where
     go : {bs : List ℕ} → Shortest v bs → readPacked (pre ++ (bs ++ rest)) (length pre) ≡ ok (v, length pre + length bs)
@@ -203,11 +209,12 @@ read-back pre rest v h = go (shortest v)
     go (behind first k least t g m) =
         let l : length pre < length (pre ++ (first ∷ (leBytes k v ++ rest))) = simp length-append (omega arith) in
         let n : length pre + 1 + k ≡ length pre + suc (length (leBytes k v)) = rw leBytes-length (omega arith) in
-        rw (lt-leb _ _ l, getD-append-seam) (tag-form t (pre ++ (first ∷ (leBytes k v ++ rest))) (length pre) ∙ long-back pre rest first k v (m h) ∙ rw n)
+        rw (lt-leb _ _ l, getD-append-seam)
+        (tag-form t (pre ++ (first ∷ (leBytes k v ++ rest))) (length pre) ∙ long-back pre rest first k v (m h) ∙ rw n)
 
 -- and from a buffer that it was written into
 pub read-stored : (d : List ℕ) (at v : ℕ) → v < 2 ^ 64 → at + length (packedBytes v) ≤ length d
-    → readPacked (stored d at (packedBytes v)) at ≡ ok (v, at + length (packedBytes v))
+    → readPacked (stored (packedBytes v) d at) at ≡ ok (v, at + length (packedBytes v))
 unfolding stored
 read-stored d at v h r =
     let n : length (take at d) ≡ at = length-take-le at d (omega arith) in
@@ -228,10 +235,11 @@ cut-refuses : {first k least : ℕ} (s : List ℕ) (at : ℕ) (w : Refusal) → 
 unfolding longForm
 cut-refuses {first} {k} {least} s at w t b e =
     let x = test-refuses (leb (at + 1 + k) (length s)) (leValue (take k (drop (at + 1) s)), at + 1 + k) (why 1 at) w e in
-    subst (Refuses s at) (x .1) (short (few-behind (subst (λ (y : ℕ). Precedes y k) (sym b) (precedes t)) (leb-false (at + 1 + k) (length s) (x .0))))
+    subst (Refuses s at) (x .1)
+    (short (few-behind (subst (λ (y : ℕ). Precedes y k) (sym b) (precedes t)) (leb-false (at + 1 + k) (length s) (x .0))))
 
-form-refuses : (s : List ℕ) (at b : ℕ) (w : Refusal) → at < length s → getD s at 0 ≡ b → formOf s at b ≡ refused w → Refuses s at w
-unfolding formOf
+form-refuses : (s : List ℕ) (at b : ℕ) (w : Refusal) → at < length s → getD s at 0 ≡ b → packedForm s at b ≡ refused w → Refuses s at w
+unfolding packedForm
 form-refuses s at b w h g e =
     by-test (leb b 250) _ _ _ e (λ t e₁. absurd (ok-not-refused e₁))
     (λ t₀ e₀. by-test (eqb b 252) _ _ _ e₀ (λ t e₁. cut-refuses s at w two (g ∙ eqb-true b 252 t) e₁)
@@ -254,8 +262,8 @@ read-refuses s at w e =
     (λ t e₁. form-refuses s at (getD s at 0) w (leb-false (length s) at t) refl e₁)
 
 -- ---- and the other way: an integer that ends early is told so, and so is one whose first byte is 251 or 255
-precedes-form : (s : List ℕ) (at b : ℕ) {k : ℕ} → Precedes b k → formOf s at b ≡ longForm s at k
-unfolding formOf
+precedes-form : (s : List ℕ) (at b : ℕ) {k : ℕ} → Precedes b k → packedForm s at b ≡ longForm s at k
+unfolding packedForm
 precedes-form s at b two′ = refl
 precedes-form s at b three′ = refl
 precedes-form s at b eight′ = refl
@@ -265,14 +273,14 @@ unfolding readPacked longForm
 cut-told {s} {at} (no-byte h) = rw (le-leb (length s) at h)
 cut-told {s} {at} (few-behind {k} p h) = go (leb (length s) at)
   where
-    go : (t : Bool) → cond t (refuse 1 at) (formOf s at (getD s at 0)) ≡ refuse 1 at
+    go : (t : Bool) → cond t (refuse 1 at) (packedForm s at (getD s at 0)) ≡ refuse 1 at
     go true = refl
     go false = precedes-form s at (getD s at 0) p ∙ rw (lt-leb (at + 1 + k) (length s) h)
 
 pub none-told : {s : List ℕ} {at : ℕ} → getD s at 0 < 256 → IntegerRefused s at → readPacked s at ≡ refuse 2 at
-unfolding readPacked formOf
+unfolding readPacked packedForm
 none-told {s} {at} b x = go (x .first b)
   where
-    go : (getD s at 0 ≡ 251) ⊎ (getD s at 0 ≡ 255) → cond (leb (length s) at) (refuse 1 at) (formOf s at (getD s at 0)) ≡ refuse 2 at
+    go : (getD s at 0 ≡ 251) ⊎ (getD s at 0 ≡ 255) → cond (leb (length s) at) (refuse 1 at) (packedForm s at (getD s at 0)) ≡ refuse 2 at
     go (inl e) = rw (lt-leb (length s) at (x .there), e)
     go (inr e) = rw (lt-leb (length s) at (x .there), e)

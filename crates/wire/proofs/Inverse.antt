@@ -1,5 +1,5 @@
--- Numbers and bytes, both ways, over every width. What is said of the least significant byte first is said of the most significant first by the
--- reversed list. Assumes nothing.
+-- Numbers and bytes, both ways, over every width. What is said of the least significant byte first is said of the most significant first by
+-- the reversed list. Assumes nothing.
 use Prim.Native.Nat.{ℕ, zero, suc, _+_, _*_, _/_, _%_, _^_, _<_}
 use mathlib.Core.Path.{_≡_, refl, sym, ap, _∙_, subst}
 use mathlib.Core.Bool.{true}

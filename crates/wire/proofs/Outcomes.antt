@@ -20,7 +20,8 @@ pub same-refused : {A : Type 0} {v w : Refusal} → _≡_ {A = Outcome A} (refus
 same-refused e = cc
 
 -- chains may be regrouped
-pub after-after : {A B C : Type 0} (o : Outcome A) (f : A → Outcome B) (g : B → Outcome C) → after (after o f) g ≡ after o (λ a. after (f a) g)
+pub after-after : {A B C : Type 0} (o : Outcome A) (f : A → Outcome B) (g : B → Outcome C)
+    → after (after o f) g ≡ after o (λ a. after (f a) g)
 after-after (ok a) f g = refl
 after-after (refused w) f g = refl
 

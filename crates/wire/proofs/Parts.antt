@@ -64,7 +64,8 @@ lent-ends s p = go (leb (p .start + p .len) (length s)) refl
 
 -- ---- the number of k bytes at a place
 -- as the code reads it, in a width w that it found
-pub fixed-read : (k w : ℕ) (s : List ℕ) (at v next : ℕ) → w ≡ k → within s at w at ≡ ok next → v ≡ leValue (take w (drop at s)) → ok (v, next) ≡ readFixed k s at
+pub fixed-read : (k w : ℕ) (s : List ℕ) (at v next : ℕ) → w ≡ k → within s at w at ≡ ok next → v ≡ leValue (take w (drop at s))
+    → ok (v, next) ≡ readFixed k s at
 unfolding readFixed
 fixed-read k w s at v next e q p = rw (← e, q, p)
 
@@ -97,7 +98,9 @@ pub fixed-bound : (k : ℕ) (s : List ℕ) (at v next : ℕ) → Bytes s → rea
 fixed-bound k s at v next h e =
     let f = fixed-ok k s at v next e in
     let n : length (take k (drop at s)) ≡ k = length-take-le k (drop at s) (rw length-drop (omega (arith, f .next-is, f .ends))) in
-    let b = subst (λ (j : ℕ). leValue (take k (drop at s)) < 256 ^ j) n (le-bound (take k (drop at s)) (bytes-take k (drop at s) (bytes-drop at s h))) in
+    let b =
+    subst (λ (j : ℕ). leValue (take k (drop at s)) < 256 ^ j) n
+    (le-bound (take k (drop at s)) (bytes-take k (drop at s) (bytes-drop at s h))) in
     subst (λ (y : ℕ). y < 256 ^ k) (sym (f .value)) b
 
 -- it is refused where the bytes end early, and at its place
@@ -109,16 +112,20 @@ pub fixed-refuses : (k : ℕ) (s : List ℕ) (at : ℕ) (w : Refusal) → readFi
 unfolding readFixed
 fixed-refuses k s at w e = go (after-refuses (within s at k at) _ _ e)
   where
-    go : (within s at k at ≡ refused w) ⊎ ((a : ℕ) × (within s at k at ≡ ok a) × _≡_ {A = Outcome (ℕ × ℕ)} (ok (leValue (take k (drop at s)), a)) (refused w)) → (length s < at + k) × (w ≡ why 1 at)
+    go : (within s at k at ≡ refused w)
+        ⊎ ((a : ℕ) × (within s at k at ≡ ok a) × _≡_ {A = Outcome (ℕ × ℕ)} (ok (leValue (take k (drop at s)), a)) (refused w))
+        → (length s < at + k) × (w ≡ why 1 at)
     go (inl r) = within-refuses s at k at w r
     go (inr x) = absurd (ok-not-refused (x .2))
 
 -- a number that was written is read back, at any place and with anything behind it
-pub fixed-back : (pre rest : List ℕ) (k v : ℕ) → v < 256 ^ k → readFixed k (pre ++ (leBytes k v ++ rest)) (length pre) ≡ ok (v, length pre + k)
+pub fixed-back : (pre rest : List ℕ) (k v : ℕ) → v < 256 ^ k
+    → readFixed k (pre ++ (leBytes k v ++ rest)) (length pre) ≡ ok (v, length pre + k)
 fixed-back pre rest k v h =
     let s = pre ++ (leBytes k v ++ rest) in
     let f : length pre + k ≤ length s = simp (length-append, leBytes-length) (omega arith) in
     let d : drop (length pre + 0) s ≡ leBytes k v ++ rest = drop-append-add pre (leBytes k v ++ rest) 0 in
     let z : length pre + 0 ≡ length pre = omega arith in
-    let e : leValue (take k (drop (length pre) s)) ≡ v = rw (rw z at d, take-at (leBytes k v) rest k (leBytes-length k v)) (le-back k v h) in
+    let e : leValue (take k (drop (length pre) s)) ≡ v =
+    rw (rw z at d, take-at (leBytes k v) rest k (leBytes-length k v)) (le-back k v h) in
     fixed-fits k s (length pre) f ∙ ap (λ (x : ℕ). ok (x, length pre + k)) e

@@ -1,5 +1,5 @@
--- Two's complement, both ways, among any even number m of numbers; and signed machine numbers, a negative one of which is made as -1 - n, with n below
--- 2^63, and taken apart the same way. Assumes nothing.
+-- Two's complement, both ways, among any even number m of numbers; and signed machine numbers, a negative one of which is made as -1 - n,
+-- with n below 2^63, and taken apart the same way. Assumes nothing.
 use Prim.Native.Nat.{ℕ, zero, suc, _+_, _-_, _*_, _/_, _^_, _≤_, _<_}
 use mathlib.Core.Path.{_≡_, refl, sym, ap, subst, _∙_}
 use mathlib.Core.Bool.{true, false, true≢false}
@@ -16,7 +16,8 @@ use lib.ListN.{getD}
 use mir.Syntax.{w64}
 use mir.Val.{SFits, Fits, toZ, ofZ}
 use mir.ValLaws.{toZ-ofZ}
-use Rattle.wire.specs.Signed.{signedOf, twosOf, inHalves, magnitudeOf}
+use Rattle.wire.specs.Signed.{signedOf, twosOf, inHalves}
+use Rattle.wire.specs.Inner.Signed.{magnitudeOf}
 use Rattle.wire.proofs.Each.{below}
 
 -- the number that a signed number is stored as, read
@@ -76,12 +77,14 @@ up n =
     let e : suc n - 1 ≡ n = omega arith in
     simp (le-ltb (suc n) 1 (omega arith)) (ap pos e)
 
-flip : (z : ℤ) → SFits w64 z → ltZ z (pos 0) ≡ true → (n : ℕ) × (z ≡ negsuc n) × (negsuc 0 -ℤ z ≡ pos n) × (n < 2 ^ 63) × SFits w64 (negsuc 0 -ℤ z)
+flip : (z : ℤ) → SFits w64 z → ltZ z (pos 0) ≡ true
+    → (n : ℕ) × (z ≡ negsuc n) × (negsuc 0 -ℤ z ≡ pos n) × (n < 2 ^ 63) × SFits w64 (negsuc 0 -ℤ z)
 flip (pos n) f t = absurd (not-suc-le-zero (ltb-true n 0 t))
 flip (negsuc n) f t = (n, refl, up n, f .sfits, rw up (record { sfits = f .sfits }))
 
 pub turned : (z : ℤ) → SFits w64 z → ltZ (toZ w64 (ofZ w64 z)) (pos 0) ≡ true
-    → (n : ℕ) × (z ≡ negsuc n) × (toZ w64 (ofZ w64 (negsuc 0 -ℤ toZ w64 (ofZ w64 z))) ≡ pos n) × (n < 2 ^ 63) × SFits w64 (negsuc 0 -ℤ toZ w64 (ofZ w64 z))
+    → (n : ℕ) × (z ≡ negsuc n) × (toZ w64 (ofZ w64 (negsuc 0 -ℤ toZ w64 (ofZ w64 z))) ≡ pos n) × (n < 2 ^ 63)
+    × SFits w64 (negsuc 0 -ℤ toZ w64 (ofZ w64 z))
 turned z f t =
     let b = toZ-ofZ w64 z f in
     let w = flip z f (subst (λ (y : ℤ). ltZ y (pos 0) ≡ true) b t) in

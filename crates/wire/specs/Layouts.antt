@@ -31,15 +31,15 @@ pub record IntegerRefused (s : List ℕ) (p : ℕ) : Type 0 where
 -- ---- one part
 -- how it tells where it ends: it has so many bytes; a length byte and so many; it is a packed integer; a packed length and so many; a
 -- length of two bytes, the least significant first, that counts itself and what is behind it
-pub data Form : Type 0 where
-  bytes : ℕ → Form
-  named : Form
-  integer : Form
-  string : Form
-  sized : Form
+pub data PartForm : Type 0 where
+  bytes : ℕ → PartForm
+  named : PartForm
+  integer : PartForm
+  string : PartForm
+  sized : PartForm
 
 -- the part of a form that starts at p is whole, and q is the place after it
-pub data Whole (s : List ℕ) : Form → ℕ → ℕ → Type 0 where
+pub data Whole (s : List ℕ) : PartForm → ℕ → ℕ → Type 0 where
   all-bytes : {k p : ℕ} → p + k ≤ length s → Whole s (bytes k) p (p + k)
   all-named : {p : ℕ} → p + 1 + getD s p 0 ≤ length s → Whole s named p (p + 1 + getD s p 0)
   all-integer : {n p q : ℕ} → readPacked s p ≡ ok (n, q) → Whole s integer p q
@@ -47,7 +47,7 @@ pub data Whole (s : List ℕ) : Form → ℕ → ℕ → Type 0 where
   all-sized : {n p : ℕ} → leValue (take 2 (drop p s)) ≡ n → 2 ≤ n → p + n ≤ length s → Whole s sized p (p + n)
 
 -- the bytes end in it
-pub data Cut (s : List ℕ) : Form → ℕ → Type 0 where
+pub data Cut (s : List ℕ) : PartForm → ℕ → Type 0 where
   few-bytes : {k p : ℕ} → length s < p + k → Cut s (bytes k) p
   few-named : {p : ℕ} → length s < p + 1 + getD s p 0 → Cut s named p
   few-integer : {p : ℕ} → IntegerCut s p → Cut s integer p
@@ -57,27 +57,27 @@ pub data Cut (s : List ℕ) : Form → ℕ → Type 0 where
   few-sized : {n p : ℕ} → leValue (take 2 (drop p s)) ≡ n → length s < p + n → Cut s sized p
 
 -- it starts with a packed integer whose first byte is 251 or 255
-pub data Unpacked (s : List ℕ) : Form → ℕ → Type 0 where
+pub data Unpacked (s : List ℕ) : PartForm → ℕ → Type 0 where
   bad-integer : {p : ℕ} → IntegerRefused s p → Unpacked s integer p
   bad-length : {p : ℕ} → IntegerRefused s p → Unpacked s string p
 
 -- ---- parts one behind the other: a part and what is behind it; a packed integer, and what is behind it by its number; and at the end
 -- whatever there is
 pub data Layout : Type 0 where
-  _then_ : Form → Layout → Layout
+  _then_ : PartForm → Layout → Layout
   counting : (ℕ → Layout) → Layout
   whatever : Layout
 
 -- of what is laid out from p on, a part of the form f starts at q, and all parts before it are whole
-pub data Starts (s : List ℕ) : Layout → ℕ → Form → ℕ → Type 0 where
-  here : {f : Form} {l : Layout} {p : ℕ} → Starts s (f then l) p f p
+pub data Starts (s : List ℕ) : Layout → ℕ → PartForm → ℕ → Type 0 where
+  here : {f : PartForm} {l : Layout} {p : ℕ} → Starts s (f then l) p f p
   count : {k : ℕ → Layout} {p : ℕ} → Starts s (counting k) p integer p
-  behind : {f g : Form} {l : Layout} {p q r : ℕ} → Whole s f p q → Starts s l q g r → Starts s (f then l) p g r
-  counted : {g : Form} {k : ℕ → Layout} {n p q r : ℕ} → readPacked s p ≡ ok (n, q) → Starts s (k n) q g r → Starts s (counting k) p g r
+  behind : {f g : PartForm} {l : Layout} {p q r : ℕ} → Whole s f p q → Starts s l q g r → Starts s (f then l) p g r
+  counted : {g : PartForm} {k : ℕ → Layout} {n p q r : ℕ} → readPacked s p ≡ ok (n, q) → Starts s (k n) q g r → Starts s (counting k) p g r
 
 -- ---- where 1 and 2 stand: at the start of such a part that is cut short, or that starts with a packed integer of 251 or 255
 pub data CutShort (s : List ℕ) (l : Layout) (p : ℕ) : ℕ → Type 0 where
-  cut-at : {f : Form} {q : ℕ} → Starts s l p f q → Cut s f q → CutShort s l p q
+  cut-at : {f : PartForm} {q : ℕ} → Starts s l p f q → Cut s f q → CutShort s l p q
 
 pub data NotPacked (s : List ℕ) (l : Layout) (p : ℕ) : ℕ → Type 0 where
-  unpacked-at : {f : Form} {q : ℕ} → Starts s l p f q → Unpacked s f q → NotPacked s l p q
+  unpacked-at : {f : PartForm} {q : ℕ} → Starts s l p f q → Unpacked s f q → NotPacked s l p q

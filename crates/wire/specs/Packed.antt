@@ -1,5 +1,6 @@
--- Packed integers (document 01, port order 1): a first byte 0..250 is the value; 252, 253, 254 precede 2, 3, 8 little-endian bytes; 251 and 255
--- are refused. Longer forms than needed are read; the shortest is written. Beside them the integers of a width, which are read alike. Assumes nothing.
+-- Packed integers (document 01, port order 1): a first byte 0..250 is the value; 252, 253, 254 precede 2, 3, 8 little-endian bytes; 251 and
+-- 255 are refused. Longer forms than needed are read; the shortest is written. Beside them the integers of a width, which are read alike.
+-- Assumes nothing.
 use Prim.Native.Nat.{ℕ, _+_}
 use mathlib.Core.List.{List, [], _∷_}
 use mathlib.Core.Bool.{cond}
@@ -22,9 +23,9 @@ unfolding leValue
 longForm s at k = cond (leb (at + 1 + k) (length s)) (ok (leValue (take k (drop (at + 1) s)), at + 1 + k)) (refuse 1 at)
 
 -- what the first byte b, at `at`, says
-unfoldable pub formOf : List ℕ → ℕ → ℕ → Outcome (ℕ × ℕ)
+unfoldable pub packedForm : List ℕ → ℕ → ℕ → Outcome (ℕ × ℕ)
 unfolding longForm
-formOf s at b =
+packedForm s at b =
     cond (leb b 250) (ok (b, at + 1))
     (cond (eqb b 252) (longForm s at 2)
     (cond (eqb b 253) (longForm s at 3)
@@ -33,8 +34,8 @@ formOf s at b =
 
 -- the packed integer at `at` of s and the place after it
 unfoldable pub readPacked : List ℕ → ℕ → Outcome (ℕ × ℕ)
-unfolding formOf
-readPacked s at = cond (leb (length s) at) (refuse 1 at) (formOf s at (getD s at 0))
+unfolding packedForm
+readPacked s at = cond (leb (length s) at) (refuse 1 at) (packedForm s at (getD s at 0))
 
 -- the shortest form of v
 unfoldable pub packedBytes : ℕ → List ℕ
@@ -46,6 +47,6 @@ packedBytes v =
     (254 ∷ leBytes 8 v)))
 
 -- what the answer of a reader says
-abbrev pub packedOf : Packed → Outcome (ℕ × ℕ)
-packedOf (Value value next) = ok (value, next)
-packedOf (Refused r) = refused r
+abbrev pub packedTold : Packed → Outcome (ℕ × ℕ)
+packedTold (Value value next) = ok (value, next)
+packedTold (Refused r) = refused r

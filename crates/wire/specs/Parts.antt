@@ -25,6 +25,6 @@ unfoldable pub within : List ℕ → ℕ → ℕ → ℕ → Outcome ℕ
 within s at n place = cond (leb (at + n) (length s)) (ok (at + n)) (refuse 1 place)
 
 -- what the answer of `within` says
-abbrev pub reachOf : Reach → Outcome ℕ
-reachOf (At next) = ok next
-reachOf (Refused r) = refused r
+abbrev pub reachTold : Reach → Outcome ℕ
+reachTold (At next) = ok next
+reachTold (Refused r) = refused r

@@ -18,8 +18,3 @@ twosOf m (negsuc n) = m - 1 - n
 unfoldable pub inHalves : ℕ → ℤ → Bool
 inHalves m (pos n) = ltb n (m / 2)
 inHalves m (negsuc n) = ltb n (m / 2)
-
--- the n of a number that is n or -1 - n
-unfoldable pub magnitudeOf : ℤ → ℕ
-magnitudeOf (pos n) = n
-magnitudeOf (negsuc n) = n

@@ -11,13 +11,13 @@ use Rattle.wire.specs.declared.store.Size.{Size}
 use Rattle.wire.specs.declared.store.Size.the-variants.{Takes, Refused as Refused′}
 
 -- the buffer with bs in it from `at` on
-unfoldable pub stored : List ℕ → ℕ → List ℕ → List ℕ
-stored buf at bs = take at buf ++ (bs ++ drop (at + length bs) buf)
+unfoldable pub stored : List ℕ → List ℕ → ℕ → List ℕ
+stored bs buf at = take at buf ++ (bs ++ drop (at + length bs) buf)
 
 -- bs written from `at` on: the place after them and the buffer, or refusal 8 at 0
-unfoldable pub store : List ℕ → ℕ → List ℕ → Outcome (ℕ × List ℕ)
+unfoldable pub store : List ℕ → List ℕ → ℕ → Outcome (ℕ × List ℕ)
 unfolding stored
-store buf at bs = cond (leb (at + length bs) (length buf)) (ok (at + length bs, stored buf at bs)) (refuse 8 0)
+store bs buf at = cond (leb (at + length bs) (length buf)) (ok (at + length bs, stored bs buf at)) (refuse 8 0)
 
 -- the two parts of what a writer does: its answer, and the buffer, which a refusal leaves as it was
 abbrev pub answerOf : {A : Type 0} → Outcome (A × List ℕ) → Outcome A
@@ -29,11 +29,11 @@ leftOf buf (ok x) = x .1
 leftOf buf (refused w) = buf
 
 -- what the answer of a writer says: the place after what it wrote
-abbrev pub writtenOf : Written → Outcome ℕ
-writtenOf (Done next) = ok next
-writtenOf (Refused r) = refused r
+abbrev pub writtenTold : Written → Outcome ℕ
+writtenTold (Done next) = ok next
+writtenTold (Refused r) = refused r
 
 -- what the answer of a call for a size says
-abbrev pub sizeSaid : Size → Outcome ℕ
-sizeSaid (Takes n) = ok n
-sizeSaid (Refused′ r) = refused r
+abbrev pub sizeTold : Size → Outcome ℕ
+sizeTold (Takes n) = ok n
+sizeTold (Refused′ r) = refused r

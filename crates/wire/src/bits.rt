@@ -1,4 +1,5 @@
-// Bits of a slice of bytes, numbered from the lowest of each byte up (Lsb0) or from the highest down (Msb0), as the Rust's BitSlice has them.
+// Bits of a slice of bytes, numbered from the lowest of each byte up (Lsb0) or from the highest down (Msb0), as the Rust's BitSlice has
+// them.
 ghost use mathlib.Core.Path.{_≡_};
 ghost use Prim.Native.Nat.{_<_};
 ghost use lib.ListN.{getD};

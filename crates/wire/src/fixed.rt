@@ -8,7 +8,7 @@ ghost use mathlib.Core.Path.{_≡_};
 ghost use Prim.Native.Nat.{_+_, _-_, _≤_, _<_, _^_, min};
 ghost use lib.ListN.{length, take, drop};
 ghost use Rattle.wire.specs.Number.{leValue, beValue, leBytes, beBytes};
-ghost use Rattle.wire.specs.Stored.{store, stored, answerOf, leftOf, writtenOf};
+ghost use Rattle.wire.specs.Stored.{store, stored, answerOf, leftOf, writtenTold};
 
 // A byte as a u64. By its contract those who call it know that the number is the same.
 pub fn wide(x: u8) -> u64
@@ -78,13 +78,13 @@ fn be(s: &[u8], at: usize, k: usize) -> u64
 }
 
 // Writes the k low bytes of v from at on, the least significant first.
-pub fn write_le(buf: &mut [u8], at: usize, k: usize, v: u64) -> Written
-    ensures { λ r. ⌜ writtenOf r ≡ answerOf (store (now (buf .entry)) at (leBytes (min k 8) v)) ⌝ }
-    ensures { λ _. ⌜ now (buf .exit) ≡ leftOf (now (buf .entry)) (store (now (buf .entry)) at (leBytes (min k 8) v)) ⌝ }
+pub fn write_le(k: usize, v: u64, buf: &mut [u8], at: usize) -> Written
+    ensures { λ r. ⌜ writtenTold r ≡ answerOf (store (leBytes (min k 8) v) (now (buf .entry)) at) ⌝ }
+    ensures { λ _. ⌜ now (buf .exit) ≡ leftOf (now (buf .entry)) (store (leBytes (min k 8) v) (now (buf .entry)) at) ⌝ }
 {
     let w = least(k, 8);
     if has_room(buf.len(), at, w) {
-        put_le(buf, at, w, v);
+        put_le(w, v, buf, at);
         let next = at + w;
         return Written::Done { next };
     }
@@ -92,13 +92,13 @@ pub fn write_le(buf: &mut [u8], at: usize, k: usize, v: u64) -> Written
 }
 
 // Writes the k low bytes of v from at on, the most significant first.
-pub fn write_be(buf: &mut [u8], at: usize, k: usize, v: u64) -> Written
-    ensures { λ r. ⌜ writtenOf r ≡ answerOf (store (now (buf .entry)) at (beBytes (min k 8) v)) ⌝ }
-    ensures { λ _. ⌜ now (buf .exit) ≡ leftOf (now (buf .entry)) (store (now (buf .entry)) at (beBytes (min k 8) v)) ⌝ }
+pub fn write_be(k: usize, v: u64, buf: &mut [u8], at: usize) -> Written
+    ensures { λ r. ⌜ writtenTold r ≡ answerOf (store (beBytes (min k 8) v) (now (buf .entry)) at) ⌝ }
+    ensures { λ _. ⌜ now (buf .exit) ≡ leftOf (now (buf .entry)) (store (beBytes (min k 8) v) (now (buf .entry)) at) ⌝ }
 {
     let w = least(k, 8);
     if has_room(buf.len(), at, w) {
-        put_be(buf, at, w, v);
+        put_be(w, v, buf, at);
         let next = at + w;
         return Written::Done { next };
     }
@@ -106,9 +106,9 @@ pub fn write_be(buf: &mut [u8], at: usize, k: usize, v: u64) -> Written
 }
 
 // The same as write_le, for those who know that there is room.
-pub(crate) fn put_le(buf: &mut [u8], at: usize, k: usize, v: u64)
+pub(crate) fn put_le(k: usize, v: u64, buf: &mut [u8], at: usize)
     requires { ⌜ at + k ≤ length (now buf) ⌝ }
-    ensures { λ _. ⌜ now (buf .exit) ≡ stored (now (buf .entry)) at (leBytes k v) ⌝ }
+    ensures { λ _. ⌜ now (buf .exit) ≡ stored (leBytes k v) (now (buf .entry)) at ⌝ }
 {
     let mut rest = v;
     let mut i: usize = 0;
@@ -120,9 +120,9 @@ pub(crate) fn put_le(buf: &mut [u8], at: usize, k: usize, v: u64)
 }
 
 // The same as write_be, for those who know that there is room. It starts at the last byte, the least significant.
-fn put_be(buf: &mut [u8], at: usize, k: usize, v: u64)
+fn put_be(k: usize, v: u64, buf: &mut [u8], at: usize)
     requires { ⌜ at + k ≤ length (now buf) ⌝ }
-    ensures { λ _. ⌜ now (buf .exit) ≡ stored (now (buf .entry)) at (beBytes k v) ⌝ }
+    ensures { λ _. ⌜ now (buf .exit) ≡ stored (beBytes k v) (now (buf .entry)) at ⌝ }
 {
     let mut rest = v;
     let mut i = k;

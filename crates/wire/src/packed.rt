@@ -1,5 +1,5 @@
-// Packed ("length-encoded") integers (io.rs: read_lenenc_int, put_lenenc_int; misc/mod.rs: lenenc_int_len), and those of a width, whose readers
-// answer alike.
+// Packed ("length-encoded") integers (io.rs: read_lenenc_int, put_lenenc_int; misc/mod.rs: lenenc_int_len), and those of a width, whose
+// readers answer alike.
 use crate::fixed::le;
 use crate::fixed::least;
 use crate::fixed::put_le;
@@ -18,8 +18,8 @@ ghost use mathlib.Core.List.{_∷_};
 ghost use Prim.Native.Nat.{_+_, _≤_, _<_, min};
 ghost use lib.ListN.{length};
 ghost use Rattle.wire.specs.Number.{leBytes};
-ghost use Rattle.wire.specs.Packed.{readFixed, readPacked, longForm, packedBytes, packedOf};
-ghost use Rattle.wire.specs.Stored.{store, answerOf, leftOf, writtenOf};
+ghost use Rattle.wire.specs.Packed.{readFixed, readPacked, longForm, packedBytes, packedTold};
+ghost use Rattle.wire.specs.Stored.{store, answerOf, leftOf, writtenTold};
 
 // The value and the place after it, or why there is none.
 pub enum Packed {
@@ -29,7 +29,7 @@ pub enum Packed {
 
 // The number of the k bytes at `at`, the least significant first: of all of them, or of none. A width over 8 is taken as 8.
 pub fn read_fixed(s: &[u8], at: usize, k: usize) -> Packed
-    ensures { λ r. ⌜ packedOf r ≡ readFixed (min k 8) (now (s .entry)) at ⌝ }
+    ensures { λ r. ⌜ packedTold r ≡ readFixed (min k 8) (now (s .entry)) at ⌝ }
 {
     let w = least(k, 8);
     match within(s, at, w, at) {
@@ -43,7 +43,7 @@ pub fn read_fixed(s: &[u8], at: usize, k: usize) -> Packed
 
 // The packed integer at `at`.
 pub fn read_packed(s: &[u8], at: usize) -> Packed
-    ensures { λ r. ⌜ packedOf r ≡ readPacked (now (s .entry)) at ⌝ }
+    ensures { λ r. ⌜ packedTold r ≡ readPacked (now (s .entry)) at ⌝ }
 {
     if s.len() <= at {
         return Packed::Refused(refuse(SHORT, at));
@@ -71,7 +71,7 @@ pub fn read_packed(s: &[u8], at: usize) -> Packed
 // A form whose value is in the k bytes behind its first, which is at `at`.
 fn read_long(s: &[u8], at: usize, k: usize) -> Packed
     requires { ⌜ (k ≤ 8) × (at < length (now s)) ⌝ }
-    ensures { λ r. ⌜ packedOf r ≡ longForm (now (s .entry)) at k ⌝ }
+    ensures { λ r. ⌜ packedTold r ≡ longForm (now (s .entry)) at k ⌝ }
 {
     let body = at + 1;
     if s.len() - body < k {
@@ -101,32 +101,32 @@ pub fn packed_size(v: u64) -> usize
 }
 
 // Writes v from at on, in its shortest form.
-pub fn write_packed(buf: &mut [u8], at: usize, v: u64) -> Written
-    ensures { λ r. ⌜ writtenOf r ≡ answerOf (store (now (buf .entry)) at (packedBytes v)) ⌝ }
-    ensures { λ _. ⌜ now (buf .exit) ≡ leftOf (now (buf .entry)) (store (now (buf .entry)) at (packedBytes v)) ⌝ }
+pub fn write_packed(v: u64, buf: &mut [u8], at: usize) -> Written
+    ensures { λ r. ⌜ writtenTold r ≡ answerOf (store (packedBytes v) (now (buf .entry)) at) ⌝ }
+    ensures { λ _. ⌜ now (buf .exit) ≡ leftOf (now (buf .entry)) (store (packedBytes v) (now (buf .entry)) at) ⌝ }
 {
     if v <= 250 {
-        return write_form(buf, at, v as u8, 0, 0);
+        return write_form(v as u8, 0, 0, buf, at);
     }
     if v < 65536 {
-        return write_form(buf, at, 252, 2, v);
+        return write_form(252, 2, v, buf, at);
     }
     if v < 16777216 {
-        return write_form(buf, at, 253, 3, v);
+        return write_form(253, 3, v, buf, at);
     }
-    write_form(buf, at, 254, 8, v)
+    write_form(254, 8, v, buf, at)
 }
 
 // Writes the byte first and the k low bytes of v after it.
-fn write_form(buf: &mut [u8], at: usize, first: u8, k: usize, v: u64) -> Written
+fn write_form(first: u8, k: usize, v: u64, buf: &mut [u8], at: usize) -> Written
     requires { ⌜ k ≤ 8 ⌝ }
-    ensures { λ r. ⌜ writtenOf r ≡ answerOf (store (now (buf .entry)) at (first ∷ leBytes k v)) ⌝ }
-    ensures { λ _. ⌜ now (buf .exit) ≡ leftOf (now (buf .entry)) (store (now (buf .entry)) at (first ∷ leBytes k v)) ⌝ }
+    ensures { λ r. ⌜ writtenTold r ≡ answerOf (store (first ∷ leBytes k v) (now (buf .entry)) at) ⌝ }
+    ensures { λ _. ⌜ now (buf .exit) ≡ leftOf (now (buf .entry)) (store (first ∷ leBytes k v) (now (buf .entry)) at) ⌝ }
 {
     if has_room(buf.len(), at, k + 1) {
         buf[at] = first;
         let body = at + 1;
-        put_le(buf, body, k, v);
+        put_le(k, v, buf, body);
         let next = body + k;
         return Written::Done { next };
     }

@@ -4,7 +4,7 @@ use crate::refusal::SHORT;
 use crate::refusal::refuse;
 use crate::store::has_room;
 ghost use mathlib.Core.Path.{_≡_};
-ghost use Rattle.wire.specs.Parts.{lentPart, within, reachOf};
+ghost use Rattle.wire.specs.Parts.{lentPart, within, reachTold};
 
 // A part of the lent bytes. It may run past them.
 pub struct Part {
@@ -32,7 +32,7 @@ pub fn part_of(s: &[u8], part: Part) -> &[u8]
 
 // The place after the n bytes from at on; if they end early, the refusal is placed at `place`.
 pub fn within(s: &[u8], at: usize, n: usize, place: usize) -> Reach
-    ensures { λ r. ⌜ reachOf r ≡ within (now (s .entry)) at n place ⌝ }
+    ensures { λ r. ⌜ reachTold r ≡ within (now (s .entry)) at n place ⌝ }
 {
     if has_room(s.len(), at, n) {
         let next = at + n;

@@ -2,7 +2,8 @@
 use crate::fixed::least;
 ghost use mathlib.Core.Path.{_≡_};
 ghost use Prim.Native.Nat.{_+_, _-_, _^_, min};
-ghost use Rattle.wire.specs.Signed.{signedOf, twosOf, inHalves, magnitudeOf};
+ghost use Rattle.wire.specs.Signed.{signedOf, twosOf, inHalves};
+ghost use Rattle.wire.specs.Inner.Signed.{magnitudeOf};
 
 // The greatest number of 0 to 8 bytes.
 const TOPS: [u64; 9] = [

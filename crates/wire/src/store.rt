@@ -6,7 +6,7 @@ ghost use mathlib.Core.Path.{_≡_};
 ghost use Prim.Native.Nat.{_+_, _≤_};
 ghost use lib.ListN.{length};
 ghost use lib.Dec.{leb};
-ghost use Rattle.wire.specs.Stored.{store, stored, answerOf, leftOf, writtenOf};
+ghost use Rattle.wire.specs.Stored.{store, stored, answerOf, leftOf, writtenTold};
 
 // What every writer of bytes answers: the place after what it wrote, or why it wrote nothing.
 pub enum Written {
@@ -31,12 +31,12 @@ pub fn has_room(len: usize, at: usize, n: usize) -> bool
 }
 
 // Writes all of bytes from at on.
-pub fn write_bytes(buf: &mut [u8], at: usize, bytes: &[u8]) -> Written
-    ensures { λ r. ⌜ writtenOf r ≡ answerOf (store (now (buf .entry)) at (now (bytes .entry))) ⌝ }
-    ensures { λ _. ⌜ now (buf .exit) ≡ leftOf (now (buf .entry)) (store (now (buf .entry)) at (now (bytes .entry))) ⌝ }
+pub fn write_bytes(bytes: &[u8], buf: &mut [u8], at: usize) -> Written
+    ensures { λ r. ⌜ writtenTold r ≡ answerOf (store (now (bytes .entry)) (now (buf .entry)) at) ⌝ }
+    ensures { λ _. ⌜ now (buf .exit) ≡ leftOf (now (buf .entry)) (store (now (bytes .entry)) (now (buf .entry)) at) ⌝ }
 {
     if has_room(buf.len(), at, bytes.len()) {
-        put_bytes(buf, at, bytes);
+        put_bytes(bytes, buf, at);
         let next = at + bytes.len();
         return Written::Done { next };
     }
@@ -44,9 +44,9 @@ pub fn write_bytes(buf: &mut [u8], at: usize, bytes: &[u8]) -> Written
 }
 
 // The same as write_bytes, for those who know that there is room.
-fn put_bytes(buf: &mut [u8], at: usize, bytes: &[u8])
+fn put_bytes(bytes: &[u8], buf: &mut [u8], at: usize)
     requires { ⌜ at + length (now bytes) ≤ length (now buf) ⌝ }
-    ensures { λ _. ⌜ now (buf .exit) ≡ stored (now (buf .entry)) at (now (bytes .entry)) ⌝ }
+    ensures { λ _. ⌜ now (buf .exit) ≡ stored (now (bytes .entry)) (now (buf .entry)) at ⌝ }
 {
     let mut i: usize = 0;
     while i < bytes.len() {

@@ -1,4 +1,5 @@
--- `cases::answer_all` is safe and ends. The measure is the number of turns that are left; a turn keeps the lengths of the slices that it writes to. Assumes nothing.
+-- `cases::answer_all` is safe and ends. The measure is the number of turns that are left; a turn keeps the lengths of the slices that it
+-- writes to. Assumes nothing.
 use mathlib.Core.Path.{_≡_}
 use borrow.Author.Needs.{needs}
 use lib.ListN.{length}
@@ -6,7 +7,9 @@ use Rattle.cases.proofs.answer_all.Statement.{statement}
 use Rattle.cases.proofs.answer_all.Tie as tie
 
 abbrev Inv-loop : tie.InvT-loop
-Inv-loop kinds block₀ line₀ args₀ room₀ out₀ source₀ used₀ turns₀ block line args room out source used turns = (length block ≡ length block₀) × (length line ≡ length line₀) × (length args ≡ length args₀) × (length room ≡ length room₀) × (length out ≡ length out₀)
+Inv-loop kinds block₀ line₀ args₀ room₀ out₀ source₀ used₀ turns₀ block line args room out source used turns =
+    (length block ≡ length block₀) × (length line ≡ length line₀) × (length args ≡ length args₀) × (length room ≡ length room₀)
+    × (length out ≡ length out₀)
 
 abbrev μ-loop : tie.MeasureT-loop
 μ-loop kinds block₀ line₀ args₀ room₀ out₀ source₀ used₀ turns₀ block line args room out source used turns = turns

@@ -1,5 +1,5 @@
--- `profile::put_columns` is safe and ends. The measure is how many numbers are left below the record's length, which every column with an entry in it is; a turn keeps the length of the slice
--- that it writes to. Assumes nothing.
+-- `profile::put_columns` is safe and ends. The measure is how many numbers are left below the record's length, which every column with an
+-- entry in it is; a turn keeps the length of the slice that it writes to. Assumes nothing.
 use Prim.Native.Nat.{_-_}
 use mathlib.Core.Path.{_≡_}
 use native.Mathlib.Omega.{arith}

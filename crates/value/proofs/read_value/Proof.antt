@@ -1,7 +1,7 @@
 -- `value::read_value` meets its contract. Assumes nothing.
 use mathlib.Core.Path.{sym, ap, subst, _∙_}
 use Rattle.value.specs.declared.shape.Shape.{Shape}
-use Rattle.value.specs.Shapes.{Sized}
+use Rattle.value.specs.Inner.Shapes.{Sized}
 use Rattle.value.specs.Reading.{readValue}
 use Rattle.value.proofs.Tables.{sized}
 use borrow.Author.Needs.{needs}
@@ -19,7 +19,8 @@ read-shape-requires : tie.Need-read-shape-requires
 read-shape-requires c κs = subst Sized (sym (c .shape-of .ensures)) (sized (c .before .before .args .column))
 
 returns : tie.Need-returns
-returns c = let a = c .before .before .before .args in c .read-shape .ensures ∙ ap (λ (sh : Shape). readValue sh (a .place) (a .s .now) (a .at)) (c .before .shape-of .ensures)
+returns c = let a = c .before .before .before .args in
+    c .read-shape .ensures ∙ ap (λ (sh : Shape). readValue sh (a .place) (a .s .now) (a .at)) (c .before .shape-of .ensures)
 
 pub read-value-spec : {M : Type 1} → statement M
 read-value-spec = tie.close (tie.spec shape-of-requires read-shape-requires returns)

@@ -1,7 +1,7 @@
 -- `value::value_size` meets its contract. Assumes nothing.
 use mathlib.Core.Path.{sym, ap, subst, _∙_}
 use Rattle.value.specs.declared.shape.Shape.{Shape}
-use Rattle.value.specs.Shapes.{Sized}
+use Rattle.value.specs.Inner.Shapes.{Sized}
 use Rattle.value.proofs.Tables.{sized}
 use Rattle.value.specs.Storing.{sizeOf}
 use borrow.Author.Needs.{needs}
@@ -19,7 +19,8 @@ size-shape-requires : tie.Need-size-shape-requires
 size-shape-requires c κs = subst Sized (sym (c .shape-of .ensures)) (sized (c .before .before .args .column))
 
 returns : tie.Need-returns
-returns c = let a = c .before .before .before .args in c .size-shape .ensures ∙ ap (λ (sh : Shape). sizeOf sh (a .place) (a .lent .now) (a .value)) (c .before .shape-of .ensures)
+returns c = let a = c .before .before .before .args in
+    c .size-shape .ensures ∙ ap (λ (sh : Shape). sizeOf sh (a .place) (a .lent .now) (a .value)) (c .before .shape-of .ensures)
 
 pub value-size-spec : {M : Type 1} → statement M
 value-size-spec = tie.close (tie.spec shape-of-requires size-shape-requires returns)

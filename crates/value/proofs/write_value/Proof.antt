@@ -1,6 +1,6 @@
 -- `value::write_value` meets its contract. Assumes nothing.
 use mathlib.Core.Path.{sym, subst}
-use Rattle.value.specs.Shapes.{Sized}
+use Rattle.value.specs.Inner.Shapes.{Sized}
 use Rattle.value.proofs.Tables.{sized}
 use borrow.Author.Needs.{needs}
 use Rattle.value.proofs.write_value.Statement.{statement}

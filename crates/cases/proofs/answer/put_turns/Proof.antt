@@ -1,4 +1,5 @@
--- `cases::answer::put_turns` is safe and ends. The measure is the number of turns that are left; a turn keeps the lengths of the slices that it writes to. Assumes nothing.
+-- `cases::answer::put_turns` is safe and ends. The measure is the number of turns that are left; a turn keeps the lengths of the slices
+-- that it writes to. Assumes nothing.
 use mathlib.Core.Path.{_≡_}
 use borrow.Author.Needs.{needs}
 use lib.ListN.{length}
@@ -6,7 +7,8 @@ use Rattle.cases.proofs.answer.put_turns.Statement.{statement}
 use Rattle.cases.proofs.answer.put_turns.Tie as tie
 
 abbrev Inv-loop : tie.InvT-loop
-Inv-loop kind form line args room₀ out₀ used state₀ now₀ turns₀ room out state now turns = (length room ≡ length room₀) × (length out ≡ length out₀)
+Inv-loop kind form line args room₀ out₀ used state₀ now₀ turns₀ room out state now turns =
+    (length room ≡ length room₀) × (length out ≡ length out₀)
 
 abbrev μ-loop : tie.MeasureT-loop
 μ-loop kind form line args room₀ out₀ used state₀ now₀ turns₀ room out state now turns = turns

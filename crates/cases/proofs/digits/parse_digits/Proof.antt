@@ -1,4 +1,5 @@
--- `cases::digits::parse_digits` is safe and ends. The measure is the number of digits that are left; nothing has to hold from turn to turn. Assumes nothing.
+-- `cases::digits::parse_digits` is safe and ends. The measure is the number of digits that are left; nothing has to hold from turn to turn.
+-- Assumes nothing.
 use Prim.Native.Nat.{_-_}
 use borrow.Author.Needs.{needs}
 use lib.ListN.{length}

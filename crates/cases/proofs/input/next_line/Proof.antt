@@ -1,4 +1,5 @@
--- `cases::input::next_line` is safe and ends. The measure is the number of turns that are left; a turn keeps the lengths of the slices that it writes to. Assumes nothing.
+-- `cases::input::next_line` is safe and ends. The measure is the number of turns that are left; a turn keeps the lengths of the slices that
+-- it writes to. Assumes nothing.
 use mathlib.Core.Path.{_≡_}
 use borrow.Author.Needs.{needs}
 use lib.ListN.{length}
@@ -6,7 +7,8 @@ use Rattle.cases.proofs.input.next_line.Statement.{statement}
 use Rattle.cases.proofs.input.next_line.Tie as tie
 
 abbrev Inv-loop : tie.InvT-loop
-Inv-loop block₀ line₀ source₀ length₀ is-too-long₀ turns₀ block line source count is-too-long turns = (length block ≡ length block₀) × (length line ≡ length line₀)
+Inv-loop block₀ line₀ source₀ length₀ is-too-long₀ turns₀ block line source count is-too-long turns =
+    (length block ≡ length block₀) × (length line ≡ length line₀)
 
 abbrev μ-loop : tie.MeasureT-loop
 μ-loop block₀ line₀ source₀ length₀ is-too-long₀ turns₀ block line source count is-too-long turns = turns

@@ -1,4 +1,5 @@
--- `cases::parsing::read_words` is safe and ends. The measure is the number of bytes that are left; there are no more words than bytes, and a turn keeps the length of the slice that it writes to. Assumes nothing.
+-- `cases::parsing::read_words` is safe and ends. The measure is the number of bytes that are left; there are no more words than bytes, and
+-- a turn keeps the length of the slice that it writes to. Assumes nothing.
 use Prim.Native.Nat.{_-_, _≤_}
 use mathlib.Core.Path.{_≡_}
 use borrow.Author.Needs.{needs}

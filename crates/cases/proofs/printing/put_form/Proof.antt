@@ -1,4 +1,5 @@
--- `cases::printing::put_form` is safe and ends. The measure is the number of letters that are left; a turn keeps the length of the slice that it writes to. Assumes nothing.
+-- `cases::printing::put_form` is safe and ends. The measure is the number of letters that are left; a turn keeps the length of the slice
+-- that it writes to. Assumes nothing.
 use Prim.Native.Nat.{_-_}
 use mathlib.Core.Path.{_≡_}
 use borrow.Author.Needs.{needs}

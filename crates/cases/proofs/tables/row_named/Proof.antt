@@ -1,4 +1,5 @@
--- `cases::tables::row_named` is safe and ends. The measure is the number of rows that a table of its length could have left; nothing has to hold from turn to turn. Assumes nothing.
+-- `cases::tables::row_named` is safe and ends. The measure is the number of rows that a table of its length could have left; nothing has to
+-- hold from turn to turn. Assumes nothing.
 use Prim.Native.Nat.{_-_}
 use borrow.Author.Needs.{needs}
 use lib.ListN.{length}

@@ -1,4 +1,5 @@
--- `cases::tables::row_text` is safe and ends. The measure is the number of rows that are left; nothing has to hold from turn to turn. Assumes nothing.
+-- `cases::tables::row_text` is safe and ends. The measure is the number of rows that are left; nothing has to hold from turn to turn.
+-- Assumes nothing.
 use Prim.Native.Nat.{_-_}
 use borrow.Author.Needs.{needs}
 use Rattle.cases.proofs.tables.row_text.Statement.{statement}

@@ -1,4 +1,5 @@
--- `cases::values::parse_parts` is safe and ends. The measure is the number of letters that are left; nothing has to hold from turn to turn. Assumes nothing.
+-- `cases::values::parse_parts` is safe and ends. The measure is the number of letters that are left; nothing has to hold from turn to turn.
+-- Assumes nothing.
 use Prim.Native.Nat.{_-_}
 use borrow.Author.Needs.{needs}
 use lib.ListN.{length}
@@ -6,10 +7,10 @@ use Rattle.cases.proofs.values.parse_parts.Statement.{statement}
 use Rattle.cases.proofs.values.parse_parts.Tie as tie
 
 abbrev Inv-loop : tie.InvT-loop
-Inv-loop kind letters s parts₀ at₀ i₀ parts at i = Unit {0}
+Inv-loop sort letters s parts₀ at₀ i₀ parts at i = Unit {0}
 
 abbrev μ-loop : tie.MeasureT-loop
-μ-loop kind letters s parts₀ at₀ i₀ parts at i = length letters - i
+μ-loop sort letters s parts₀ at₀ i₀ parts at i = length letters - i
 
 loop-holds : tie.Need-loop-holds Inv-loop μ-loop
 loop-holds c = search needs

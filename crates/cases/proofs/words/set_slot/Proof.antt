@@ -1,4 +1,5 @@
--- `cases::words::set_slot` is safe and ends. The measure is the number of numbers that are left; a turn keeps the length of the slice that it writes to. Assumes nothing.
+-- `cases::words::set_slot` is safe and ends. The measure is the number of numbers that are left; a turn keeps the length of the slice that
+-- it writes to. Assumes nothing.
 use Prim.Native.Nat.{_+_, _-_, _≤_}
 use mathlib.Core.Path.{_≡_}
 use borrow.Author.Needs.{needs}

@@ -45,8 +45,11 @@ loop-less c = search needs
 
 loop-again : tie.Need-loop-again Inv-loop μ-loop
 loop-again c = let a = c .before .before .before .args in
-    let l = c .before .before .loop in
-    (omega arith, simp length-set (l .inv .1), rw (add-one, l .inv .2) (paste-suc (a .out .now) (a .at) (a .numbers .now) (l .i) 0 (omega arith) (search needs)))
+    let l = c .before .before .loop in (
+      omega arith,
+      simp length-set (l .inv .1),
+      rw (add-one, l .inv .2) (paste-suc (a .out .now) (a .at) (a .numbers .now) (l .i) 0 (omega arith) (search needs)),
+    )
 
 same-length : tie.Need-same-length Inv-loop μ-loop
 same-length c = search needs

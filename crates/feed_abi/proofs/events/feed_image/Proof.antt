@@ -2,7 +2,7 @@
 use mathlib.Core.Path.{ap, _∙_}
 use native.Mathlib.Omega.{arith}
 use Rattle.wire.specs.Parts.{part}
-use Rattle.rows_event.specs.Images.{nextImage, toldImage}
+use Rattle.rows_event.specs.Images.{nextImage, imageTold}
 use Rattle.feed_abi.specs.Calls.{secondAsked, setsAsked, imagesAt, imageNumbers, feedImage}
 use Rattle.feed_abi.proofs.Tells.{no-numbers, said-ok, said-refused, image-asked}
 use borrow.Author.Needs.{needs}
@@ -52,9 +52,16 @@ same-length c = search needs
 
 returns-2 : tie.Need-returns-2
 unfolding feedImage
-returns-2 c = let a = c .before .before .before .before .before .before .before .before .before .before .before .before .before .before .args in
+returns-2 c =
+    let a = c .before .before .before .before .before .before .before .before .before .before .before .before .before .before .args in
     let w = setsAsked (part (a .first-start) (a .first-length)) (secondAsked (a .has-second) (a .second-start) (a .second-length)) in
-    said-ok 6 (a .out .now) imageNumbers (nextImage (a .profile .now) w (a .event .now) (imagesAt (a .offset) (a .second))) _ _ _ (omega arith) (image-asked (a .profile .now) (a .event .now) (part (a .first-start) (a .first-length)) _ _ _ _ _ (c .before .before .before .before .before .before .before .before .sets-asked .ensures) (c .before .before .before .before .before .before .before .before .before .second-asked .ensures) (c .before .before .before .before .before .before .before .next .ensures) ∙ ap toldImage (c .before .before .before .before .before .image .given .1)) (c .before .before .tell-image .ensures .0) (c .before .before .tell-image .ensures .1)
+    said-ok 6 (a .out .now) imageNumbers (nextImage (a .profile .now) w (a .event .now) (imagesAt (a .offset) (a .second))) _ _ _
+    (omega arith) (image-asked (a .profile .now) (a .event .now) (part (a .first-start) (a .first-length)) _ _ _ _ _
+    (c .before .before .before .before .before .before .before .before .sets-asked .ensures)
+    (c .before .before .before .before .before .before .before .before .before .second-asked .ensures)
+    (c .before .before .before .before .before .before .before .next .ensures)
+    ∙ ap imageTold (c .before .before .before .before .before .image .given .1)) (c .before .before .tell-image .ensures .0)
+    (c .before .before .tell-image .ensures .1)
 
 same-length-2 : tie.Need-same-length-2
 same-length-2 c = search needs
@@ -63,16 +70,29 @@ returns-3 : tie.Need-returns-3
 unfolding feedImage
 returns-3 c = let a = c .before .before .before .before .before .before .before .before .before .before .before .before .before .args in
     let w = setsAsked (part (a .first-start) (a .first-length)) (secondAsked (a .has-second) (a .second-start) (a .second-length)) in
-    said-ok 6 (a .out .now) imageNumbers (nextImage (a .profile .now) w (a .event .now) (imagesAt (a .offset) (a .second))) _ _ _ (omega arith) (image-asked (a .profile .now) (a .event .now) (part (a .first-start) (a .first-length)) _ _ _ _ _ (c .before .before .before .before .before .before .before .sets-asked .ensures) (c .before .before .before .before .before .before .before .before .second-asked .ensures) (c .before .before .before .before .before .before .next .ensures) ∙ ap toldImage (c .before .before .before .before .enum-told .given .1)) (c .before .before .tell-end .ensures .0) (c .before .before .tell-end .ensures .1)
+    said-ok 6 (a .out .now) imageNumbers (nextImage (a .profile .now) w (a .event .now) (imagesAt (a .offset) (a .second))) _ _ _
+    (omega arith) (image-asked (a .profile .now) (a .event .now) (part (a .first-start) (a .first-length)) _ _ _ _ _
+    (c .before .before .before .before .before .before .before .sets-asked .ensures)
+    (c .before .before .before .before .before .before .before .before .second-asked .ensures)
+    (c .before .before .before .before .before .before .next .ensures)
+    ∙ ap imageTold (c .before .before .before .before .enum-told .given .1)) (c .before .before .tell-end .ensures .0)
+    (c .before .before .tell-end .ensures .1)
 
 same-length-3 : tie.Need-same-length-3
 same-length-3 c = search needs
 
 returns-4 : tie.Need-returns-4
 unfolding feedImage
-returns-4 c = let a = c .before .before .before .before .before .before .before .before .before .before .before .before .before .before .args in
+returns-4 c =
+    let a = c .before .before .before .before .before .before .before .before .before .before .before .before .before .before .args in
     let w = setsAsked (part (a .first-start) (a .first-length)) (secondAsked (a .has-second) (a .second-start) (a .second-length)) in
-    said-refused 6 (a .out .now) imageNumbers (nextImage (a .profile .now) w (a .event .now) (imagesAt (a .offset) (a .second))) _ _ _ (omega arith) (image-asked (a .profile .now) (a .event .now) (part (a .first-start) (a .first-length)) _ _ _ _ _ (c .before .before .before .before .before .before .before .before .sets-asked .ensures) (c .before .before .before .before .before .before .before .before .before .second-asked .ensures) (c .before .before .before .before .before .before .before .next .ensures) ∙ ap toldImage (c .before .before .before .before .before .r .given .1)) (c .before .before .tell-refusal .ensures .0) (c .before .before .tell-refusal .ensures .1)
+    said-refused 6 (a .out .now) imageNumbers (nextImage (a .profile .now) w (a .event .now) (imagesAt (a .offset) (a .second))) _ _ _
+    (omega arith) (image-asked (a .profile .now) (a .event .now) (part (a .first-start) (a .first-length)) _ _ _ _ _
+    (c .before .before .before .before .before .before .before .before .sets-asked .ensures)
+    (c .before .before .before .before .before .before .before .before .before .second-asked .ensures)
+    (c .before .before .before .before .before .before .before .next .ensures)
+    ∙ ap imageTold (c .before .before .before .before .before .r .given .1)) (c .before .before .tell-refusal .ensures .0)
+    (c .before .before .tell-refusal .ensures .1)
 
 pub feed-image-spec : {M : Type 1} → statement M
 feed-image-spec =

@@ -37,7 +37,10 @@ same-length c = search needs
 returns-2 : tie.Need-returns-2
 unfolding feedRows
 returns-2 c = let a = c .before .before .before .before .before .before .before .before .before .before .before .before .args in
-    said-ok 10 (a .out .now) rowsNumbers (readRows (a .code) (a .profile .now) (a .table) (a .event .now)) _ _ _ (omega arith) (sym (c .before .before .before .before .before .before .before .read-rows .ensures) ∙ ap rowsTold (c .before .before .before .before .before .rows .given .1)) (c .before .before .tell-rows .ensures .0) (c .before .before .tell-rows .ensures .1)
+    said-ok 10 (a .out .now) rowsNumbers (readRows (a .code) (a .profile .now) (a .table) (a .event .now)) _ _ _ (omega arith)
+    (sym (c .before .before .before .before .before .before .before .read-rows .ensures)
+    ∙ ap rowsTold (c .before .before .before .before .before .rows .given .1)) (c .before .before .tell-rows .ensures .0)
+    (c .before .before .tell-rows .ensures .1)
 
 same-length-2 : tie.Need-same-length-2
 same-length-2 c = search needs
@@ -45,7 +48,10 @@ same-length-2 c = search needs
 returns-3 : tie.Need-returns-3
 unfolding feedRows
 returns-3 c = let a = c .before .before .before .before .before .before .before .before .before .before .before .before .args in
-    said-refused 10 (a .out .now) rowsNumbers (readRows (a .code) (a .profile .now) (a .table) (a .event .now)) _ _ _ (omega arith) (sym (c .before .before .before .before .before .before .before .read-rows .ensures) ∙ ap rowsTold (c .before .before .before .before .before .r .given .1)) (c .before .before .tell-refusal .ensures .0) (c .before .before .tell-refusal .ensures .1)
+    said-refused 10 (a .out .now) rowsNumbers (readRows (a .code) (a .profile .now) (a .table) (a .event .now)) _ _ _ (omega arith)
+    (sym (c .before .before .before .before .before .before .before .read-rows .ensures)
+    ∙ ap rowsTold (c .before .before .before .before .before .r .given .1)) (c .before .before .tell-refusal .ensures .0)
+    (c .before .before .tell-refusal .ensures .1)
 
 pub feed-rows-spec : {M : Type 1} → statement M
 feed-rows-spec =

@@ -24,7 +24,14 @@ same-length : tie.Need-same-length
 same-length c = search needs
 
 returns : tie.Need-returns
-returns c = (c .before .before .tell .ensures .0, c .before .before .tell .ensures .1 ∙ rw (as-number (c .before .before .before .before .before .before .before .args .second), as-number (c .before .before .before .before .before .before .before .args .next .second)))
+returns c = (
+  c .before .before .tell .ensures .0,
+  c .before .before .tell .ensures .1
+      ∙ rw (
+        as-number (c .before .before .before .before .before .before .before .args .second),
+        as-number (c .before .before .before .before .before .before .before .args .next .second),
+      ),
+)
 
 pub tell-image-spec : {M : Type 1} → statement M
 tell-image-spec =

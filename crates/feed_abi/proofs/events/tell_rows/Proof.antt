@@ -28,7 +28,14 @@ same-length : tie.Need-same-length
 same-length c = search needs
 
 returns : tie.Need-returns
-returns c = (c .before .before .tell .ensures .0, c .before .before .tell .ensures .1 ∙ rw (c .before .before .before .before .before .before .before .before .extra-given .ensures, c .before .before .before .before .before .before .second-given .ensures))
+returns c = (
+  c .before .before .tell .ensures .0,
+  c .before .before .tell .ensures .1
+      ∙ rw (
+        c .before .before .before .before .before .before .before .before .extra-given .ensures,
+        c .before .before .before .before .before .before .second-given .ensures,
+      ),
+)
 
 pub tell-rows-spec : {M : Type 1} → statement M
 tell-rows-spec =

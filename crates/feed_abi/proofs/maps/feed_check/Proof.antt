@@ -1,9 +1,10 @@
 -- `feed_abi::maps::feed_check` meets its contract. Assumes nothing.
 use mathlib.Core.Path.{sym, ap, _∙_}
 use native.Mathlib.Omega.{arith}
-use Rattle.wire.specs.Stored.{writtenOf}
+use Rattle.wire.specs.Stored.{writtenTold}
 use Rattle.map_check.specs.Check.{check}
-use Rattle.feed_abi.specs.Calls.{lengthNumbers, askedOf, feedCheck}
+use Rattle.feed_abi.specs.Calls.{lengthNumbers, feedCheck}
+use Rattle.feed_abi.specs.Inner.Calls.{askedTold}
 use Rattle.feed_abi.proofs.Tells.{no-bytes, wrote-ok, wrote-refused, not-called}
 use borrow.Author.Needs.{needs}
 use Rattle.feed_abi.proofs.maps.feed_check.Statement.{statement}
@@ -37,7 +38,10 @@ same-length c = search needs
 returns-2 : tie.Need-returns-2
 unfolding feedCheck
 returns-2 c = let a = c .before .before .before .before .before .before .before .before .before .before .before .before .args in
-    not-called 1 (a .out .now) (a .profile .now) (feedCheck (a .event .now) (a .post-header) (a .dialect) (a .profile .now)) _ _ _ (omega arith) (rw (sym (c .before .before .before .before .before .before .before .dialect-of .ensures) ∙ ap askedOf (c .before .before .before .before .before .r .given .1))) (c .before .before .tell-refusal .ensures .0) (c .before .before .tell-refusal .ensures .1)
+    not-called 1 (a .out .now) (a .profile .now) (feedCheck (a .event .now) (a .post-header) (a .dialect) (a .profile .now)) _ _ _
+    (omega arith) (rw (sym (c .before .before .before .before .before .before .before .dialect-of .ensures)
+    ∙ ap askedTold (c .before .before .before .before .before .r .given .1))) (c .before .before .tell-refusal .ensures .0)
+    (c .before .before .tell-refusal .ensures .1)
 
 check-requires : tie.Need-check-requires
 check-requires c κs = search needs
@@ -65,8 +69,19 @@ same-length-3 c = search needs
 
 returns-3 : tie.Need-returns-3
 unfolding feedCheck
-returns-3 c = let a = c .before .before .before .before .before .before .before .before .before .before .before .before .before .before .before .before .before .before .before .before .args in
-    wrote-ok 1 (a .out .now) (a .profile .now) lengthNumbers (check _ (a .event .now) (a .post-header) (a .profile .now)) (feedCheck (a .event .now) (a .post-header) (a .dialect) (a .profile .now)) _ _ _ _ (omega arith) (rw (sym (c .before .before .before .before .before .before .before .before .before .before .before .before .before .before .before .dialect-of .ensures) ∙ ap askedOf (c .before .before .before .before .before .before .before .before .before .before .before .before .before .asked .given .1))) (sym (c .before .before .before .before .before .before .before .before .before .before .check .ensures .0) ∙ ap writtenOf (c .before .before .before .before .before .before .next .given .1)) (c .before .before .tell .ensures .0) (c .before .before .tell .ensures .1) (c .before .before .before .before .before .before .before .before .before .before .check .ensures .1)
+returns-3 c =
+    let a =
+    c .before .before .before .before .before .before .before .before .before .before .before .before .before .before .before .before
+    .before .before .before .before .args in
+    wrote-ok 1 (a .out .now) (a .profile .now) lengthNumbers (check _ (a .event .now) (a .post-header) (a .profile .now))
+    (feedCheck (a .event .now) (a .post-header) (a .dialect) (a .profile .now)) _ _ _ _ (omega arith)
+    (rw (sym (c .before .before .before .before .before .before .before .before .before .before .before .before .before .before .before
+    .dialect-of .ensures) ∙ ap askedTold
+    (c .before .before .before .before .before .before .before .before .before .before .before .before .before .asked .given .1)))
+    (sym (c .before .before .before .before .before .before .before .before .before .before .check .ensures .0)
+    ∙ ap writtenTold (c .before .before .before .before .before .before .next .given .1)) (c .before .before .tell .ensures .0)
+    (c .before .before .tell .ensures .1)
+    (c .before .before .before .before .before .before .before .before .before .before .check .ensures .1)
 
 same-length-4 : tie.Need-same-length-4
 same-length-4 c = search needs
@@ -76,8 +91,19 @@ same-length-5 c = search needs
 
 returns-4 : tie.Need-returns-4
 unfolding feedCheck
-returns-4 c = let a = c .before .before .before .before .before .before .before .before .before .before .before .before .before .before .before .before .before .before .before .args in
-    wrote-refused 1 (a .out .now) (a .profile .now) lengthNumbers (check _ (a .event .now) (a .post-header) (a .profile .now)) (feedCheck (a .event .now) (a .post-header) (a .dialect) (a .profile .now)) _ _ _ _ (omega arith) (rw (sym (c .before .before .before .before .before .before .before .before .before .before .before .before .before .before .dialect-of .ensures) ∙ ap askedOf (c .before .before .before .before .before .before .before .before .before .before .before .before .asked .given .1))) (sym (c .before .before .before .before .before .before .before .before .before .check .ensures .0) ∙ ap writtenOf (c .before .before .before .before .before .r2 .given .1)) (c .before .before .tell-refusal2 .ensures .0) (c .before .before .tell-refusal2 .ensures .1) (c .before .before .before .before .before .before .before .before .before .check .ensures .1)
+returns-4 c =
+    let a =
+    c .before .before .before .before .before .before .before .before .before .before .before .before .before .before .before .before
+    .before .before .before .args in
+    wrote-refused 1 (a .out .now) (a .profile .now) lengthNumbers (check _ (a .event .now) (a .post-header) (a .profile .now))
+    (feedCheck (a .event .now) (a .post-header) (a .dialect) (a .profile .now)) _ _ _ _ (omega arith)
+    (rw (sym (c .before .before .before .before .before .before .before .before .before .before .before .before .before .before
+    .dialect-of .ensures) ∙ ap askedTold
+    (c .before .before .before .before .before .before .before .before .before .before .before .before .asked .given .1)))
+    (sym (c .before .before .before .before .before .before .before .before .before .check .ensures .0)
+    ∙ ap writtenTold (c .before .before .before .before .before .r2 .given .1)) (c .before .before .tell-refusal2 .ensures .0)
+    (c .before .before .tell-refusal2 .ensures .1)
+    (c .before .before .before .before .before .before .before .before .before .check .ensures .1)
 
 pub feed-check-spec : {M : Type 1} → statement M
 feed-check-spec =

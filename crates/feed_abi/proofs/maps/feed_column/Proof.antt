@@ -5,7 +5,7 @@ use Rattle.wire.specs.declared.refusal.Refusal.{Refusal}
 use mathlib.Core.List.{[], _∷_}
 use Rattle.wire.specs.Stored.{stored}
 use Rattle.record.specs.declared.entry.Entry.{Entry}
-use Rattle.record.specs.Records.{recordOf}
+use Rattle.record.specs.Records.{recordTold}
 use Rattle.feed_abi.specs.Calls.{entryNumbers}
 use Rattle.feed_abi.proofs.Tells.{no-numbers, tells-ok, tells-refused, column-refused, column-none, column-at}
 use borrow.Author.Needs.{needs}
@@ -39,7 +39,11 @@ same-length c = search needs
 
 returns-2 : tie.Need-returns-2
 returns-2 c = let a = c .before .before .before .before .before .before .before .before .before .before .before .args in
-    tells-refused 5 (a .out .now) _ _ _ _ (omega arith) (column-refused (a .profile .now) (a .column) _ (sym (c .before .before .before .before .before .before .before .read-record .ensures) ∙ ap recordOf (c .before .before .before .before .before .r .given .1))) (c .before .before .tell-refusal .ensures .0) (c .before .before .tell-refusal .ensures .1)
+    tells-refused 5 (a .out .now) _ _ _ _ (omega arith)
+    (column-refused (a .profile .now) (a .column) _
+    (sym (c .before .before .before .before .before .before .before .read-record .ensures)
+    ∙ ap recordTold (c .before .before .before .before .before .r .given .1))) (c .before .before .tell-refusal .ensures .0)
+    (c .before .before .tell-refusal .ensures .1)
 
 refuse-requires : tie.Need-refuse-requires
 refuse-requires c κs = search needs
@@ -52,7 +56,14 @@ same-length-2 c = search needs
 
 returns-3 : tie.Need-returns-3
 returns-3 c = let a = c .before .before .before .before .before .before .before .before .before .before .before .before .before .args in
-    tells-refused 5 (a .out .now) _ _ _ _ (omega arith) (column-none (a .profile .now) (a .column) _ (sym (c .before .before .before .before .before .before .before .before .before .read-record .ensures) ∙ ap recordOf (c .before .before .before .before .before .before .before .columns .given .1)) (c .before .before .before .before .before .if2 .taken)) (c .before .before .tell-refusal2 .ensures .0 ∙ ap (λ (w : Refusal). w .number) (c .before .before .before .refuse .ensures)) (c .before .before .tell-refusal2 .ensures .1 ∙ ap (λ (w : Refusal). stored (a .out .now) 0 (w .place ∷ [])) (c .before .before .before .refuse .ensures))
+    tells-refused 5 (a .out .now) _ _ _ _ (omega arith)
+    (column-none (a .profile .now) (a .column) _
+    (sym (c .before .before .before .before .before .before .before .before .before .read-record .ensures)
+    ∙ ap recordTold (c .before .before .before .before .before .before .before .columns .given .1))
+    (c .before .before .before .before .before .if2 .taken))
+    (c .before .before .tell-refusal2 .ensures .0 ∙ ap (λ (w : Refusal). w .number) (c .before .before .before .refuse .ensures))
+    (c .before .before .tell-refusal2 .ensures .1
+    ∙ ap (λ (w : Refusal). stored (w .place ∷ []) (a .out .now) 0) (c .before .before .before .refuse .ensures))
 
 entry-in-requires : tie.Need-entry-in-requires
 entry-in-requires c κs = search needs
@@ -65,7 +76,13 @@ same-length-3 c = search needs
 
 returns-4 : tie.Need-returns-4
 returns-4 c = let a = c .before .before .before .before .before .before .before .before .before .before .before .before .before .args in
-    tells-ok 5 (a .out .now) _ _ _ _ (omega arith) (column-at (a .profile .now) (a .column) _ (sym (c .before .before .before .before .before .before .before .before .before .read-record .ensures) ∙ ap recordOf (c .before .before .before .before .before .before .before .columns .given .1)) (c .before .before .before .before .before .if2 .left)) (c .before .before .tell-entry .ensures .0) (c .before .before .tell-entry .ensures .1 ∙ ap (λ (e : Entry). stored (a .out .now) 0 (entryNumbers e)) (c .before .before .before .entry-in .ensures))
+    tells-ok 5 (a .out .now) _ _ _ _ (omega arith)
+    (column-at (a .profile .now) (a .column) _
+    (sym (c .before .before .before .before .before .before .before .before .before .read-record .ensures)
+    ∙ ap recordTold (c .before .before .before .before .before .before .before .columns .given .1))
+    (c .before .before .before .before .before .if2 .left)) (c .before .before .tell-entry .ensures .0)
+    (c .before .before .tell-entry .ensures .1
+    ∙ ap (λ (e : Entry). stored (entryNumbers e) (a .out .now) 0) (c .before .before .before .entry-in .ensures))
 
 pub feed-column-spec : {M : Type 1} → statement M
 feed-column-spec =

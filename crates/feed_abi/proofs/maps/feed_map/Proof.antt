@@ -1,7 +1,7 @@
 -- `feed_abi::maps::feed_map` meets its contract. Assumes nothing.
 use mathlib.Core.Path.{sym, ap, _∙_}
 use native.Mathlib.Omega.{arith}
-use Rattle.table_map.specs.Events.{readEvent, eventOf}
+use Rattle.table_map.specs.Events.{readEvent, eventTold}
 use Rattle.feed_abi.specs.Calls.{mapNumbers, feedMap}
 use Rattle.feed_abi.proofs.Tells.{no-numbers, said-ok, said-refused}
 use borrow.Author.Needs.{needs}
@@ -37,7 +37,10 @@ same-length c = search needs
 returns-2 : tie.Need-returns-2
 unfolding feedMap
 returns-2 c = let a = c .before .before .before .before .before .before .before .before .before .before .before .args in
-    said-ok 6 (a .out .now) mapNumbers (readEvent (a .event .now) (a .post-header)) _ _ _ (omega arith) (sym (c .before .before .before .before .before .before .before .read-event .ensures) ∙ ap eventOf (c .before .before .before .before .before .map .given .1)) (c .before .before .tell-map .ensures .0) (c .before .before .tell-map .ensures .1)
+    said-ok 6 (a .out .now) mapNumbers (readEvent (a .event .now) (a .post-header)) _ _ _ (omega arith)
+    (sym (c .before .before .before .before .before .before .before .read-event .ensures)
+    ∙ ap eventTold (c .before .before .before .before .before .map .given .1)) (c .before .before .tell-map .ensures .0)
+    (c .before .before .tell-map .ensures .1)
 
 same-length-2 : tie.Need-same-length-2
 same-length-2 c = search needs
@@ -45,7 +48,10 @@ same-length-2 c = search needs
 returns-3 : tie.Need-returns-3
 unfolding feedMap
 returns-3 c = let a = c .before .before .before .before .before .before .before .before .before .before .before .args in
-    said-refused 6 (a .out .now) mapNumbers (readEvent (a .event .now) (a .post-header)) _ _ _ (omega arith) (sym (c .before .before .before .before .before .before .before .read-event .ensures) ∙ ap eventOf (c .before .before .before .before .before .r .given .1)) (c .before .before .tell-refusal .ensures .0) (c .before .before .tell-refusal .ensures .1)
+    said-refused 6 (a .out .now) mapNumbers (readEvent (a .event .now) (a .post-header)) _ _ _ (omega arith)
+    (sym (c .before .before .before .before .before .before .before .read-event .ensures)
+    ∙ ap eventTold (c .before .before .before .before .before .r .given .1)) (c .before .before .tell-refusal .ensures .0)
+    (c .before .before .tell-refusal .ensures .1)
 
 pub feed-map-spec : {M : Type 1} → statement M
 feed-map-spec =

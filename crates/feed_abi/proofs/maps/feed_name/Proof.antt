@@ -1,8 +1,8 @@
 -- `feed_abi::maps::feed_name` meets its contract. Assumes nothing.
 use mathlib.Core.Path.{sym, ap, _∙_}
 use native.Mathlib.Omega.{arith}
-use Rattle.map_check.specs.Ranks.{place}
-use Rattle.map_check.specs.Names.{columnName, nameOf}
+use Rattle.map_check.specs.Ranks.{tablePlace}
+use Rattle.map_check.specs.Names.{columnName, nameTold}
 use Rattle.feed_abi.specs.Calls.{partNumbers, feedName}
 use Rattle.feed_abi.proofs.Tells.{no-numbers, said-ok, said-refused}
 use borrow.Author.Needs.{needs}
@@ -38,7 +38,10 @@ same-length c = search needs
 returns-2 : tie.Need-returns-2
 unfolding feedName
 returns-2 c = let a = c .before .before .before .before .before .before .before .before .before .before .before .before .args in
-    said-ok 2 (a .out .now) partNumbers (columnName (a .names .now) (a .operator .now) (place (a .column))) _ _ _ (omega arith) (sym (c .before .before .before .before .before .before .before .column-name .ensures) ∙ ap nameOf (c .before .before .before .before .before .part .given .1)) (c .before .before .tell-part .ensures .0) (c .before .before .tell-part .ensures .1)
+    said-ok 2 (a .out .now) partNumbers (columnName (a .names .now) (a .operator .now) (tablePlace (a .column))) _ _ _ (omega arith)
+    (sym (c .before .before .before .before .before .before .before .column-name .ensures)
+    ∙ ap nameTold (c .before .before .before .before .before .part .given .1)) (c .before .before .tell-part .ensures .0)
+    (c .before .before .tell-part .ensures .1)
 
 same-length-2 : tie.Need-same-length-2
 same-length-2 c = search needs
@@ -46,7 +49,10 @@ same-length-2 c = search needs
 returns-3 : tie.Need-returns-3
 unfolding feedName
 returns-3 c = let a = c .before .before .before .before .before .before .before .before .before .before .before .before .args in
-    said-refused 2 (a .out .now) partNumbers (columnName (a .names .now) (a .operator .now) (place (a .column))) _ _ _ (omega arith) (sym (c .before .before .before .before .before .before .before .column-name .ensures) ∙ ap nameOf (c .before .before .before .before .before .r .given .1)) (c .before .before .tell-refusal .ensures .0) (c .before .before .tell-refusal .ensures .1)
+    said-refused 2 (a .out .now) partNumbers (columnName (a .names .now) (a .operator .now) (tablePlace (a .column))) _ _ _ (omega arith)
+    (sym (c .before .before .before .before .before .before .before .column-name .ensures)
+    ∙ ap nameTold (c .before .before .before .before .before .r .given .1)) (c .before .before .tell-refusal .ensures .0)
+    (c .before .before .tell-refusal .ensures .1)
 
 pub feed-name-spec : {M : Type 1} → statement M
 feed-name-spec =

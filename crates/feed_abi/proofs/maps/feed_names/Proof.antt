@@ -3,8 +3,9 @@ use mathlib.Core.Path.{sym, ap, _∙_}
 use mathlib.Core.Option.{none, some}
 use native.Mathlib.Omega.{arith}
 use Rattle.wire.specs.Outcome.{ok, refused}
-use Rattle.map_check.specs.Names.{namesOf}
-use Rattle.feed_abi.specs.Calls.{askedOf, feedNames}
+use Rattle.map_check.specs.Names.{namesTold}
+use Rattle.feed_abi.specs.Calls.{feedNames}
+use Rattle.feed_abi.specs.Inner.Calls.{askedTold}
 use Rattle.feed_abi.proofs.Tells.{no-numbers, tells-ok, tells-refused, names-asked, no-dialect}
 use borrow.Author.Needs.{needs}
 use Rattle.feed_abi.proofs.maps.feed_names.Statement.{statement}
@@ -37,7 +38,11 @@ same-length c = search needs
 
 returns-2 : tie.Need-returns-2
 returns-2 c = let a = c .before .before .before .before .before .before .before .before .before .before .before .args in
-    tells-refused 3 (a .out .now) (feedNames (a .event .now) (a .post-header) (a .dialect)) _ _ _ (omega arith) (no-dialect (a .event .now) (a .post-header) (a .dialect) _ (sym (c .before .before .before .before .before .before .before .dialect-of .ensures) ∙ ap askedOf (c .before .before .before .before .before .r .given .1))) (c .before .before .tell-refusal .ensures .0) (c .before .before .tell-refusal .ensures .1)
+    tells-refused 3 (a .out .now) (feedNames (a .event .now) (a .post-header) (a .dialect)) _ _ _ (omega arith)
+    (no-dialect (a .event .now) (a .post-header) (a .dialect) _
+    (sym (c .before .before .before .before .before .before .before .dialect-of .ensures)
+    ∙ ap askedTold (c .before .before .before .before .before .r .given .1))) (c .before .before .tell-refusal .ensures .0)
+    (c .before .before .tell-refusal .ensures .1)
 
 names-field-requires : tie.Need-names-field-requires
 names-field-requires c κs = search needs
@@ -64,22 +69,45 @@ same-length-2 : tie.Need-same-length-2
 same-length-2 c = search needs
 
 returns-3 : tie.Need-returns-3
-returns-3 c = let a = c .before .before .before .before .before .before .before .before .before .before .before .before .before .before .before .args in
-    tells-ok 3 (a .out .now) (feedNames (a .event .now) (a .post-header) (a .dialect)) _ _ _ (omega arith) (names-asked (a .event .now) (a .post-header) (a .dialect) _ (ok (some _)) (sym (c .before .before .before .before .before .before .before .before .before .before .before .dialect-of .ensures) ∙ ap askedOf (c .before .before .before .before .before .before .before .before .before .asked .given .1)) (sym (c .before .before .before .before .before .before .before .names-field .ensures) ∙ ap namesOf (c .before .before .before .before .before .names .given .1))) (c .before .before .tell-names .ensures .0) (c .before .before .tell-names .ensures .1)
+returns-3 c =
+    let a =
+    c .before .before .before .before .before .before .before .before .before .before .before .before .before .before .before .args in
+    tells-ok 3 (a .out .now) (feedNames (a .event .now) (a .post-header) (a .dialect)) _ _ _ (omega arith)
+    (names-asked (a .event .now) (a .post-header) (a .dialect) _ (ok (some _))
+    (sym (c .before .before .before .before .before .before .before .before .before .before .before .dialect-of .ensures)
+    ∙ ap askedTold (c .before .before .before .before .before .before .before .before .before .asked .given .1))
+    (sym (c .before .before .before .before .before .before .before .names-field .ensures)
+    ∙ ap namesTold (c .before .before .before .before .before .names .given .1))) (c .before .before .tell-names .ensures .0)
+    (c .before .before .tell-names .ensures .1)
 
 same-length-3 : tie.Need-same-length-3
 same-length-3 c = search needs
 
 returns-4 : tie.Need-returns-4
-returns-4 c = let a = c .before .before .before .before .before .before .before .before .before .before .before .before .before .before .args in
-    tells-ok 3 (a .out .now) (feedNames (a .event .now) (a .post-header) (a .dialect)) _ _ _ (omega arith) (names-asked (a .event .now) (a .post-header) (a .dialect) _ (ok none) (sym (c .before .before .before .before .before .before .before .before .before .before .dialect-of .ensures) ∙ ap askedOf (c .before .before .before .before .before .before .before .before .asked .given .1)) (sym (c .before .before .before .before .before .before .names-field .ensures) ∙ ap namesOf (c .before .before .before .before .enum-told .given .1))) (c .before .before .tell-no-names .ensures .0) (c .before .before .tell-no-names .ensures .1)
+returns-4 c =
+    let a = c .before .before .before .before .before .before .before .before .before .before .before .before .before .before .args in
+    tells-ok 3 (a .out .now) (feedNames (a .event .now) (a .post-header) (a .dialect)) _ _ _ (omega arith)
+    (names-asked (a .event .now) (a .post-header) (a .dialect) _ (ok none)
+    (sym (c .before .before .before .before .before .before .before .before .before .before .dialect-of .ensures)
+    ∙ ap askedTold (c .before .before .before .before .before .before .before .before .asked .given .1))
+    (sym (c .before .before .before .before .before .before .names-field .ensures)
+    ∙ ap namesTold (c .before .before .before .before .enum-told .given .1))) (c .before .before .tell-no-names .ensures .0)
+    (c .before .before .tell-no-names .ensures .1)
 
 same-length-4 : tie.Need-same-length-4
 same-length-4 c = search needs
 
 returns-5 : tie.Need-returns-5
-returns-5 c = let a = c .before .before .before .before .before .before .before .before .before .before .before .before .before .before .before .args in
-    tells-refused 3 (a .out .now) (feedNames (a .event .now) (a .post-header) (a .dialect)) _ _ _ (omega arith) (names-asked (a .event .now) (a .post-header) (a .dialect) _ (refused _) (sym (c .before .before .before .before .before .before .before .before .before .before .before .dialect-of .ensures) ∙ ap askedOf (c .before .before .before .before .before .before .before .before .before .asked .given .1)) (sym (c .before .before .before .before .before .before .before .names-field .ensures) ∙ ap namesOf (c .before .before .before .before .before .r2 .given .1))) (c .before .before .tell-refusal2 .ensures .0) (c .before .before .tell-refusal2 .ensures .1)
+returns-5 c =
+    let a =
+    c .before .before .before .before .before .before .before .before .before .before .before .before .before .before .before .args in
+    tells-refused 3 (a .out .now) (feedNames (a .event .now) (a .post-header) (a .dialect)) _ _ _ (omega arith)
+    (names-asked (a .event .now) (a .post-header) (a .dialect) _ (refused _)
+    (sym (c .before .before .before .before .before .before .before .before .before .before .before .dialect-of .ensures)
+    ∙ ap askedTold (c .before .before .before .before .before .before .before .before .before .asked .given .1))
+    (sym (c .before .before .before .before .before .before .before .names-field .ensures)
+    ∙ ap namesTold (c .before .before .before .before .before .r2 .given .1))) (c .before .before .tell-refusal2 .ensures .0)
+    (c .before .before .tell-refusal2 .ensures .1)
 
 pub feed-names-spec : {M : Type 1} → statement M
 feed-names-spec =

@@ -37,7 +37,10 @@ same-length c = search needs
 returns-2 : tie.Need-returns-2
 unfolding feedFirst
 returns-2 c = let a = c .before .before .before .before .before .before .before .before .before .before .before .before .args in
-    said-ok 2 (a .out .now) cursorNumbers (firstCursor (a .profile .now) (a .presence .now)) _ _ _ (omega arith) (sym (c .before .before .before .before .before .before .before .first-cursor .ensures) ∙ ap firstTold (c .before .before .before .before .before .at .given .1)) (c .before .before .tell-cursor .ensures .0) (c .before .before .tell-cursor .ensures .1)
+    said-ok 2 (a .out .now) cursorNumbers (firstCursor (a .profile .now) (a .presence .now)) _ _ _ (omega arith)
+    (sym (c .before .before .before .before .before .before .before .first-cursor .ensures)
+    ∙ ap firstTold (c .before .before .before .before .before .at .given .1)) (c .before .before .tell-cursor .ensures .0)
+    (c .before .before .tell-cursor .ensures .1)
 
 same-length-2 : tie.Need-same-length-2
 same-length-2 c = search needs
@@ -45,7 +48,10 @@ same-length-2 c = search needs
 returns-3 : tie.Need-returns-3
 unfolding feedFirst
 returns-3 c = let a = c .before .before .before .before .before .before .before .before .before .before .before .before .args in
-    said-refused 2 (a .out .now) cursorNumbers (firstCursor (a .profile .now) (a .presence .now)) _ _ _ (omega arith) (sym (c .before .before .before .before .before .before .before .first-cursor .ensures) ∙ ap firstTold (c .before .before .before .before .before .r .given .1)) (c .before .before .tell-refusal .ensures .0) (c .before .before .tell-refusal .ensures .1)
+    said-refused 2 (a .out .now) cursorNumbers (firstCursor (a .profile .now) (a .presence .now)) _ _ _ (omega arith)
+    (sym (c .before .before .before .before .before .before .before .first-cursor .ensures)
+    ∙ ap firstTold (c .before .before .before .before .before .r .given .1)) (c .before .before .tell-refusal .ensures .0)
+    (c .before .before .tell-refusal .ensures .1)
 
 pub feed-first-spec : {M : Type 1} → statement M
 feed-first-spec =

@@ -3,7 +3,7 @@ use mathlib.Core.Path.{sym, ap, _∙_}
 use native.Mathlib.Omega.{arith}
 use Rattle.image.specs.Split.{cursor}
 use Rattle.image.specs.Puts.{putFrom}
-use Rattle.value_parts.specs.Parts.{madeOf}
+use Rattle.value_parts.specs.Parts.{madeTold}
 use Rattle.feed_abi.specs.Calls.{cursorNumbers, feedPut}
 use Rattle.feed_abi.proofs.Tells.{no-bytes, wrote-told, not-called}
 use borrow.Author.Needs.{needs}
@@ -37,8 +37,16 @@ same-length c = search needs
 
 returns-2 : tie.Need-returns-2
 unfolding feedPut
-returns-2 c = let a = c .before .before .before .before .before .before .before .before .before .before .before .before .before .before .before .before .args in
-    not-called 2 (a .out .now) (a .image .now) (feedPut (a .profile .now) (a .presence .now) (a .nulls .now) (a .column) (a .offset) (a .kind) (a .parts .now) (a .lent .now) (a .image .now)) _ _ _ (omega arith) (rw (sym (c .before .before .before .before .before .before .before .value-of .ensures) ∙ ap madeOf (c .before .before .before .before .before .r .given .1))) (c .before .before .tell-refusal .ensures .0) (c .before .before .tell-refusal .ensures .1)
+returns-2 c =
+    let a =
+    c .before .before .before .before .before .before .before .before .before .before .before .before .before .before .before .before
+    .args in
+    not-called 2 (a .out .now) (a .image .now)
+    (feedPut (a .profile .now) (a .presence .now) (a .nulls .now) (a .column) (a .offset) (a .sort) (a .parts .now) (a .lent .now)
+    (a .image .now)) _ _ _ (omega arith)
+    (rw (sym (c .before .before .before .before .before .before .before .value-of .ensures)
+    ∙ ap madeTold (c .before .before .before .before .before .r .given .1))) (c .before .before .tell-refusal .ensures .0)
+    (c .before .before .tell-refusal .ensures .1)
 
 put-requires : tie.Need-put-requires
 put-requires c κs = search needs
@@ -54,8 +62,18 @@ same-length-3 c = search needs
 
 returns-3 : tie.Need-returns-3
 unfolding feedPut
-returns-3 c = let a = c .before .before .before .before .before .before .before .before .before .before .before .before .before .before .before .before .before .before .before .before .args in
-    wrote-told 2 (a .out .now) (a .image .now) cursorNumbers (putFrom (a .profile .now) (a .presence .now) (a .nulls .now) (cursor (a .column) (a .offset)) (a .lent .now) _ (a .image .now)) (feedPut (a .profile .now) (a .presence .now) (a .nulls .now) (a .column) (a .offset) (a .kind) (a .parts .now) (a .lent .now) (a .image .now)) _ _ _ _ (omega arith) (rw (sym (c .before .before .before .before .before .before .before .before .before .before .before .value-of .ensures) ∙ ap madeOf (c .before .before .before .before .before .before .before .before .before .value .given .1))) (c .before .before .before .before .before .put .ensures .0) (c .before .before .tell-put .ensures .0) (c .before .before .tell-put .ensures .1) (c .before .before .before .before .before .put .ensures .1)
+returns-3 c =
+    let a =
+    c .before .before .before .before .before .before .before .before .before .before .before .before .before .before .before .before
+    .before .before .before .before .args in
+    wrote-told 2 (a .out .now) (a .image .now) cursorNumbers
+    (putFrom (a .profile .now) (a .presence .now) (a .nulls .now) (cursor (a .column) (a .offset)) (a .lent .now) _ (a .image .now))
+    (feedPut (a .profile .now) (a .presence .now) (a .nulls .now) (a .column) (a .offset) (a .sort) (a .parts .now) (a .lent .now)
+    (a .image .now)) _ _ _ _ (omega arith)
+    (rw (sym (c .before .before .before .before .before .before .before .before .before .before .before .value-of .ensures)
+    ∙ ap madeTold (c .before .before .before .before .before .before .before .before .before .value .given .1)))
+    (c .before .before .before .before .before .put .ensures .0) (c .before .before .tell-put .ensures .0)
+    (c .before .before .tell-put .ensures .1) (c .before .before .before .before .before .put .ensures .1)
 
 pub feed-put-spec : {M : Type 1} → statement M
 feed-put-spec =

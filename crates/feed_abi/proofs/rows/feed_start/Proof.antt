@@ -30,8 +30,12 @@ same-length-2 c = search needs
 
 returns-2 : tie.Need-returns-2
 unfolding feedStart
-returns-2 c = let a = c .before .before .before .before .before .before .before .before .before .before .before .before .before .before .args in
-    wrote-told 2 (a .out .now) (a .image .now) cursorNumbers (startImage (a .profile .now) (a .presence .now) (a .nulls .now) (a .image .now)) _ _ _ _ _ (omega arith) refl (c .before .before .before .before .before .start .ensures .0) (c .before .before .tell-put .ensures .0) (c .before .before .tell-put .ensures .1) (c .before .before .before .before .before .start .ensures .1)
+returns-2 c =
+    let a = c .before .before .before .before .before .before .before .before .before .before .before .before .before .before .args in
+    wrote-told 2 (a .out .now) (a .image .now) cursorNumbers
+    (startImage (a .profile .now) (a .presence .now) (a .nulls .now) (a .image .now)) _ _ _ _ _ (omega arith) refl
+    (c .before .before .before .before .before .start .ensures .0) (c .before .before .tell-put .ensures .0)
+    (c .before .before .tell-put .ensures .1) (c .before .before .before .before .before .start .ensures .1)
 
 pub feed-start-spec : {M : Type 1} → statement M
 feed-start-spec =

@@ -1,7 +1,7 @@
 -- `feed_abi::rows::feed_step` meets its contract. Assumes nothing.
 use mathlib.Core.Path.{sym, ap, _∙_}
 use native.Mathlib.Omega.{arith}
-use Rattle.image.specs.Split.{cursor, stepFrom, told}
+use Rattle.image.specs.Split.{cursor, stepFrom, stepTold}
 use Rattle.feed_abi.specs.Calls.{toldNumbers, feedStep}
 use Rattle.feed_abi.proofs.Tells.{no-step, step-ok, step-refused}
 use borrow.Author.Needs.{needs}
@@ -52,7 +52,10 @@ same-length c = search needs
 returns-2 : tie.Need-returns-2
 unfolding feedStep toldNumbers
 returns-2 c = let a = c .before .before .before .before .before .before .before .before .before .before .before .before .before .args in
-    step-ok (a .out .now) (stepFrom (a .profile .now) (a .presence .now) (a .image .now) (cursor (a .column) (a .offset))) _ _ _ (omega arith) (sym (c .before .before .before .before .before .before .before .step .ensures) ∙ ap told (c .before .before .before .before .before .column .given .1)) (c .before .before .tell-value .ensures .0) (c .before .before .tell-value .ensures .1 .0) tt
+    step-ok (a .out .now) (stepFrom (a .profile .now) (a .presence .now) (a .image .now) (cursor (a .column) (a .offset))) _ _ _
+    (omega arith) (sym (c .before .before .before .before .before .before .before .step .ensures)
+    ∙ ap stepTold (c .before .before .before .before .before .column .given .1)) (c .before .before .tell-value .ensures .0)
+    (c .before .before .tell-value .ensures .1 .0) tt
 
 same-length-2 : tie.Need-same-length-2
 same-length-2 c = search needs
@@ -60,7 +63,10 @@ same-length-2 c = search needs
 returns-3 : tie.Need-returns-3
 unfolding feedStep toldNumbers
 returns-3 c = let a = c .before .before .before .before .before .before .before .before .before .before .before .before .before .args in
-    step-ok (a .out .now) (stepFrom (a .profile .now) (a .presence .now) (a .image .now) (cursor (a .column) (a .offset))) _ _ _ (omega arith) (sym (c .before .before .before .before .before .before .before .step .ensures) ∙ ap told (c .before .before .before .before .before .column2 .given .1)) (c .before .before .tell-value2 .ensures .0) (c .before .before .tell-value2 .ensures .1 .0) (c .before .before .tell-value2 .ensures .1 .1)
+    step-ok (a .out .now) (stepFrom (a .profile .now) (a .presence .now) (a .image .now) (cursor (a .column) (a .offset))) _ _ _
+    (omega arith) (sym (c .before .before .before .before .before .before .before .step .ensures)
+    ∙ ap stepTold (c .before .before .before .before .before .column2 .given .1)) (c .before .before .tell-value2 .ensures .0)
+    (c .before .before .tell-value2 .ensures .1 .0) (c .before .before .tell-value2 .ensures .1 .1)
 
 same-length-3 : tie.Need-same-length-3
 same-length-3 c = search needs
@@ -68,7 +74,10 @@ same-length-3 c = search needs
 returns-4 : tie.Need-returns-4
 unfolding feedStep toldNumbers
 returns-4 c = let a = c .before .before .before .before .before .before .before .before .before .before .before .before .before .args in
-    step-ok (a .out .now) (stepFrom (a .profile .now) (a .presence .now) (a .image .now) (cursor (a .column) (a .offset))) _ _ _ (omega arith) (sym (c .before .before .before .before .before .before .before .step .ensures) ∙ ap told (c .before .before .before .before .before .used .given .1)) (c .before .before .tell-end .ensures .0) (c .before .before .tell-end .ensures .1) tt
+    step-ok (a .out .now) (stepFrom (a .profile .now) (a .presence .now) (a .image .now) (cursor (a .column) (a .offset))) _ _ _
+    (omega arith) (sym (c .before .before .before .before .before .before .before .step .ensures)
+    ∙ ap stepTold (c .before .before .before .before .before .used .given .1)) (c .before .before .tell-end .ensures .0)
+    (c .before .before .tell-end .ensures .1) tt
 
 same-length-4 : tie.Need-same-length-4
 same-length-4 c = search needs
@@ -76,7 +85,10 @@ same-length-4 c = search needs
 returns-5 : tie.Need-returns-5
 unfolding feedStep toldNumbers
 returns-5 c = let a = c .before .before .before .before .before .before .before .before .before .before .before .before .before .args in
-    step-refused (a .out .now) (stepFrom (a .profile .now) (a .presence .now) (a .image .now) (cursor (a .column) (a .offset))) _ _ _ (omega arith) (sym (c .before .before .before .before .before .before .before .step .ensures) ∙ ap told (c .before .before .before .before .before .r .given .1)) (c .before .before .tell-refusal .ensures .0) (c .before .before .tell-refusal .ensures .1)
+    step-refused (a .out .now) (stepFrom (a .profile .now) (a .presence .now) (a .image .now) (cursor (a .column) (a .offset))) _ _ _
+    (omega arith) (sym (c .before .before .before .before .before .before .before .step .ensures)
+    ∙ ap stepTold (c .before .before .before .before .before .r .given .1)) (c .before .before .tell-refusal .ensures .0)
+    (c .before .before .tell-refusal .ensures .1)
 
 pub feed-step-spec : {M : Type 1} → statement M
 feed-step-spec =

@@ -8,11 +8,11 @@ use Rattle.feed_abi.proofs.rows.tell_value.Tie as tie
 use Rattle.feed_abi.proofs.rows.tell_value.Reads as reads
 use Rattle.feed_abi.proofs.rows.tell_value.Lts as lts
 use Rattle.feed_abi.proofs.answer.put_numbers.Reads as put-numbers-reads
-use Rattle.value_parts.proofs.kind_of.Reads as kind-of-reads
+use Rattle.value_parts.proofs.sort_of.Reads as sort-of-reads
 use Rattle.value_parts.proofs.parts_of.Reads as parts-of-reads
 
-kind-of-requires : tie.Need-kind-of-requires
-kind-of-requires c κs = search needs
+sort-of-requires : tie.Need-sort-of-requires
+sort-of-requires c κs = search needs
 
 parts-of-requires : tie.Need-parts-of-requires
 parts-of-requires c κs = search needs
@@ -33,13 +33,24 @@ same-length : tie.Need-same-length
 same-length c = search needs
 
 returns : tie.Need-returns
-returns c = (refl, (head-then _ _ _ _ _ refl (omega arith) (c .before .before .before .before .before .before .before .put-numbers .ensures) (c .before .before .put-numbers2 .ensures) ∙ rw (c .before .before .before .before .before .before .before .before .before .before .before .kind-of .ensures, c .before .before .before .before .before .before .before .before .before .before .parts-of .ensures .0), c .before .before .before .before .before .before .before .before .before .before .parts-of .ensures .1))
+returns c = (
+  refl,
+  (
+    head-then _ _ _ _ _ refl (omega arith) (c .before .before .before .before .before .before .before .put-numbers .ensures)
+        (c .before .before .put-numbers2 .ensures)
+        ∙ rw (
+          c .before .before .before .before .before .before .before .before .before .before .before .sort-of .ensures,
+          c .before .before .before .before .before .before .before .before .before .before .parts-of .ensures .0,
+        ),
+    c .before .before .before .before .before .before .before .before .before .before .parts-of .ensures .1,
+  ),
+)
 
 pub tell-value-spec : {M : Type 1} → statement M
 tell-value-spec =
     tie.close
     (tie.spec
-    kind-of-requires
+    sort-of-requires
     parts-of-requires
     slice-aggregate-put-numbers
     put-numbers-requires

@@ -1,7 +1,7 @@
 -- `image::cursor::read_head` meets its contract. Assumes nothing.
 use mathlib.Core.Path.{sym, ap, _∙_}
 use borrow.Author.Tests.{eq-eqb, ne-eqb}
-use Rattle.record.specs.Records.{recordOf}
+use Rattle.record.specs.Records.{recordTold}
 use Rattle.image.specs.Split.{headOf}
 use borrow.Author.Needs.{needs}
 use Rattle.image.proofs.cursor.read_head.Statement.{statement}
@@ -24,7 +24,7 @@ enum-known-r c = search needs
 
 returns : tie.Need-returns
 unfolding headOf
-returns c = rw (sym (c .before .before .before .read-record .ensures) ∙ ap recordOf (c .before .r .given .1))
+returns c = rw (sym (c .before .before .before .read-record .ensures) ∙ ap recordTold (c .before .r .given .1))
 
 bytes-for-requires : tie.Need-bytes-for-requires
 bytes-for-requires c κs = search needs
@@ -34,7 +34,13 @@ refuse-requires c κs = search needs
 
 returns-2 : tie.Need-returns-2
 unfolding headOf
-returns-2 c = rw (sym (c .before .before .before .before .before .before .read-record .ensures) ∙ ap recordOf (c .before .before .before .before .columns .given .1), c .refuse .ensures, ne-eqb _ _ (λ e. c .before .if1 .taken (e ∙ sym (c .before .before .bytes-for .ensures))))
+returns-2 c =
+    rw (
+      sym (c .before .before .before .before .before .before .read-record .ensures)
+          ∙ ap recordTold (c .before .before .before .before .columns .given .1),
+      c .refuse .ensures,
+      ne-eqb _ _ (λ e. c .before .if1 .taken (e ∙ sym (c .before .before .bytes-for .ensures))),
+    )
 
 count-bits-requires : tie.Need-count-bits-requires
 count-bits-requires c κs = search needs
@@ -44,7 +50,14 @@ bytes-for-requires-2 c κs = search needs
 
 returns-3 : tie.Need-returns-3
 unfolding headOf
-returns-3 c = rw (sym (c .before .before .before .before .before .before .before .read-record .ensures) ∙ ap recordOf (c .before .before .before .before .before .columns .given .1), eq-eqb _ _ (c .before .before .if1 .left ∙ c .before .before .before .bytes-for .ensures), c .bytes-for2 .ensures, c .before .count-bits .ensures)
+returns-3 c =
+    rw (
+      sym (c .before .before .before .before .before .before .before .read-record .ensures)
+          ∙ ap recordTold (c .before .before .before .before .before .columns .given .1),
+      eq-eqb _ _ (c .before .before .if1 .left ∙ c .before .before .before .bytes-for .ensures),
+      c .bytes-for2 .ensures,
+      c .before .count-bits .ensures,
+    )
 
 pub read-head-spec : {M : Type 1} → statement M
 read-head-spec =

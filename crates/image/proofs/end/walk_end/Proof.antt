@@ -4,7 +4,7 @@ use mathlib.Core.Path.{sym, ap, _∙_}
 use native.Mathlib.Omega.{arith}
 use borrow.Author.Needs.{needs}
 use Rattle.image.specs.Split.{headTold}
-use Rattle.image.proofs.Ends.{Going, walk-refused, walk-cut, going-first, going-null, going-value, going-end, going-refused}
+use Rattle.image.proofs.EndLaws.Ends.{Going, walk-refused, walk-cut, going-first, going-null, going-value, going-end, going-refused}
 use Rattle.image.proofs.end.walk_end.Statement.{statement}
 use Rattle.image.proofs.end.walk_end.Tie as tie
 use Rattle.image.proofs.end.walk_end.Reads as reads
@@ -57,7 +57,9 @@ loop-less c =
     let s = c .before .before .before in
     let h = s .before .before .before .before in
     let e = sym (h .before .before .read-head .ensures) ∙ ap headTold (h .head .given .1) in
-    let w = going-null _ _ _ e (s .before .before .if1 .left) (s .before .loop .inv) (s .step-inner .result) (s .step-inner .ensures .0) _ _ (c .before .next .given .1) (s .step-inner .ensures .1) in
+    let w =
+    going-null _ _ _ e (s .before .before .if1 .left) (s .before .loop .inv) (s .step-inner .result) (s .step-inner .ensures .0) _ _
+    (c .before .next .given .1) (s .step-inner .ensures .1) in
     omega (arith, w .0, w .1 .placed .column)
 
 loop-again : tie.Need-loop-again Inv-loop μ-loop
@@ -65,7 +67,8 @@ loop-again c =
     let s = c .before .before .before in
     let h = s .before .before .before .before in
     let e = sym (h .before .before .read-head .ensures) ∙ ap headTold (h .head .given .1) in
-    going-null _ _ _ e (s .before .before .if1 .left) (s .before .loop .inv) (s .step-inner .result) (s .step-inner .ensures .0) _ _ (c .before .next .given .1) (s .step-inner .ensures .1) .1
+    going-null _ _ _ e (s .before .before .if1 .left) (s .before .loop .inv) (s .step-inner .result) (s .step-inner .ensures .0) _ _
+    (c .before .next .given .1) (s .step-inner .ensures .1) .1
 
 enum-known-next-2 : tie.Need-enum-known-next-2 Inv-loop μ-loop
 enum-known-next-2 c = search needs
@@ -75,7 +78,9 @@ loop-less-2 c =
     let s = c .before .before .before in
     let h = s .before .before .before .before in
     let e = sym (h .before .before .read-head .ensures) ∙ ap headTold (h .head .given .1) in
-    let w = going-value _ _ _ e (s .before .before .if1 .left) (s .before .loop .inv) (s .step-inner .result) (s .step-inner .ensures .0) _ _ _ (c .before .next2 .given .1) (s .step-inner .ensures .1) in
+    let w =
+    going-value _ _ _ e (s .before .before .if1 .left) (s .before .loop .inv) (s .step-inner .result) (s .step-inner .ensures .0) _ _ _
+    (c .before .next2 .given .1) (s .step-inner .ensures .1) in
     omega (arith, w .0, w .1 .placed .column)
 
 loop-again-2 : tie.Need-loop-again-2 Inv-loop μ-loop
@@ -83,7 +88,8 @@ loop-again-2 c =
     let s = c .before .before .before in
     let h = s .before .before .before .before in
     let e = sym (h .before .before .read-head .ensures) ∙ ap headTold (h .head .given .1) in
-    going-value _ _ _ e (s .before .before .if1 .left) (s .before .loop .inv) (s .step-inner .result) (s .step-inner .ensures .0) _ _ _ (c .before .next2 .given .1) (s .step-inner .ensures .1) .1
+    going-value _ _ _ e (s .before .before .if1 .left) (s .before .loop .inv) (s .step-inner .result) (s .step-inner .ensures .0) _ _ _
+    (c .before .next2 .given .1) (s .step-inner .ensures .1) .1
 
 enum-known-used : tie.Need-enum-known-used Inv-loop μ-loop
 enum-known-used c = search needs
@@ -93,7 +99,8 @@ returns-3 c =
     let s = c .before .before .before in
     let h = s .before .before .before .before in
     let e = sym (h .before .before .read-head .ensures) ∙ ap headTold (h .head .given .1) in
-    going-end _ _ _ e (s .before .before .if1 .left) (s .before .loop .inv) (s .step-inner .result) (s .step-inner .ensures .0) _ (c .before .used .given .1)
+    going-end _ _ _ e (s .before .before .if1 .left) (s .before .loop .inv) (s .step-inner .result) (s .step-inner .ensures .0) _
+    (c .before .used .given .1)
 
 enum-known-r-2 : tie.Need-enum-known-r-2 Inv-loop μ-loop
 enum-known-r-2 c = search needs
@@ -103,7 +110,8 @@ returns-4 c =
     let s = c .before .before .before in
     let h = s .before .before .before .before in
     let e = sym (h .before .before .read-head .ensures) ∙ ap headTold (h .head .given .1) in
-    going-refused _ _ _ e (s .before .before .if1 .left) (s .before .loop .inv) (s .step-inner .result) (s .step-inner .ensures .0) _ (c .before .r2 .given .1)
+    going-refused _ _ _ e (s .before .before .if1 .left) (s .before .loop .inv) (s .step-inner .result) (s .step-inner .ensures .0) _
+    (c .before .r2 .given .1)
 
 pub walk-end-spec : {M : Type 1} → statement M
 walk-end-spec =

@@ -3,7 +3,7 @@ use Prim.Native.Nat.{_-_, _≤_}
 use mathlib.Core.Path.{_≡_, sym, ap, _∙_}
 use native.Mathlib.Omega.{arith}
 use Rattle.image.specs.Present.{countBits}
-use Rattle.image.proofs.Firsts.{count-none, count-more, count-at-most}
+use Rattle.image.proofs.PresenceLaws.Firsts.{count-none, count-more, count-at-most}
 use Rattle.image.proofs.presence.count_bits.Statement.{statement}
 use Rattle.image.proofs.presence.count_bits.Tie as tie
 use Rattle.image.proofs.presence.count_bits.Reads as reads

@@ -3,7 +3,7 @@ use Prim.Native.Nat.{_-_}
 use mathlib.Core.Path.{_≡_, refl, sym, _∙_}
 use native.Mathlib.Omega.{arith}
 use Rattle.image.specs.Present.{firstFrom}
-use Rattle.image.proofs.Firsts.{first-stop, first-step, first-done}
+use Rattle.image.proofs.PresenceLaws.Firsts.{first-stop, first-step, first-done}
 use Rattle.image.proofs.presence.first_set.Statement.{statement}
 use Rattle.image.proofs.presence.first_set.Tie as tie
 use Rattle.image.proofs.presence.first_set.Reads as reads

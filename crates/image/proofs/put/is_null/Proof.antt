@@ -2,7 +2,7 @@
 use mathlib.Core.Path.{sym}
 use Rattle.value.specs.Reading.{datumOf}
 use Rattle.image.specs.Rows.{isNull}
-use Rattle.image.proofs.Sorts.{others-not-null}
+use Rattle.image.proofs.PutLaws.Sorts.{others-not-null}
 use borrow.Author.Needs.{needs}
 use Rattle.image.proofs.put.is_null.Statement.{statement}
 use Rattle.image.proofs.put.is_null.Tie as tie

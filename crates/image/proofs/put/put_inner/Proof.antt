@@ -5,9 +5,10 @@ use native.Mathlib.Omega.{arith}
 use borrow.Author.Tests.{not-true, not-false}
 use Rattle.wire.specs.Outcome.{refused}
 use Rattle.record.specs.Entries.{columnOf}
-use Rattle.image.proofs.Sorts.{null-anywhere}
-use Rattle.image.proofs.Steps.{column-below}
-use Rattle.image.proofs.Puts.{put-end, put-unmarked, put-marked, put-null-full, put-null-goes, put-done, put-bad, put-refused, put-next}
+use Rattle.image.proofs.PutLaws.Sorts.{null-anywhere}
+use Rattle.image.proofs.StepLaws.Steps.{column-below}
+use Rattle.image.proofs.PutLaws.Puts.{put-end, put-unmarked, put-marked, put-null-full, put-null-goes, put-done, put-bad}
+use Rattle.image.proofs.PutLaws.Puts.{put-refused, put-next}
 use borrow.Author.Needs.{needs}
 use Rattle.image.proofs.put.put_inner.Statement.{statement}
 use Rattle.image.proofs.put.put_inner.Tie as tie
@@ -29,10 +30,19 @@ refuse-requires c κs = search needs
 
 returns : tie.Need-returns
 returns c = let a = c .before .before .before .before .before .before .before .before .args in
-    put-refused (a .buf .now) (put-end (a .nulls .now) (a .lent .now) (a .buf .now) (a .value) (c .before .before .before .before .before .before .before .before .pre) (c .before .before .first-set .ensures) (c .before .if1 .taken) ∙ ap refused (sym (c .refuse .ensures)))
+    put-refused (a .buf .now)
+    (put-end (a .nulls .now) (a .lent .now) (a .buf .now) (a .value)
+    (c .before .before .before .before .before .before .before .before .pre) (c .before .before .first-set .ensures)
+    (c .before .if1 .taken) ∙ ap refused (sym (c .refuse .ensures)))
 
 add-behind : tie.Need-add-behind
-add-behind c = omega (arith, column-below (c .before .before .before .before .before .before .before .pre) (c .before .first-set .ensures) (c .if1 .left), (c .before .before .before .before .before .before .before .pre) .few)
+add-behind c =
+    omega (
+      arith,
+      column-below (c .before .before .before .before .before .before .before .pre) (c .before .first-set .ensures)
+          (c .if1 .left),
+      (c .before .before .before .before .before .before .before .pre) .few,
+    )
 
 bit-lsb0-requires : tie.Need-bit-lsb0-requires
 bit-lsb0-requires c κs = search needs
@@ -45,9 +55,13 @@ refuse-requires-2 c κs = search needs
 
 returns-2 : tie.Need-returns-2
 returns-2 c = let a = c .before .before .before .before .before .before .before .before .before .before .before .before .args in
-    let i = null-anywhere (a .lent .now) [] (a .value) ∙ sym (c .before .before .before .is-null .ensures) ∙ c .before .before .if2 .taken in
+    let i =
+    null-anywhere (a .lent .now) [] (a .value) ∙ sym (c .before .before .before .is-null .ensures) ∙ c .before .before .if2 .taken in
     put-refused (a .buf .now)
-    (put-unmarked (a .nulls .now) (a .lent .now) (a .buf .now) (a .value) (c .before .before .before .before .before .before .before .before .before .before .before .before .pre) (c .before .before .before .before .before .before .first-set .ensures) (c .before .before .before .before .before .if1 .left) i (sym (c .before .before .before .before .bit-lsb0 .ensures) ∙ not-true _ (c .before .if3 .taken))
+    (put-unmarked (a .nulls .now) (a .lent .now) (a .buf .now) (a .value)
+    (c .before .before .before .before .before .before .before .before .before .before .before .before .pre)
+    (c .before .before .before .before .before .before .first-set .ensures) (c .before .before .before .before .before .if1 .left) i
+    (sym (c .before .before .before .before .bit-lsb0 .ensures) ∙ not-true _ (c .before .if3 .taken))
     ∙ ap refused (sym (c .refuse2 .ensures)))
 
 refuse-requires-3 : tie.Need-refuse-requires-3
@@ -55,16 +69,27 @@ refuse-requires-3 c κs = search needs
 
 returns-3 : tie.Need-returns-3
 returns-3 c = let a = c .before .before .before .before .before .before .before .before .before .before .before .before .before .args in
-    let i = null-anywhere (a .lent .now) [] (a .value) ∙ sym (c .before .before .before .before .is-null .ensures) ∙ c .before .before .before .if2 .taken in
+    let i =
+    null-anywhere (a .lent .now) [] (a .value) ∙ sym (c .before .before .before .before .is-null .ensures)
+    ∙ c .before .before .before .if2 .taken in
     put-refused (a .buf .now)
-    (put-null-full (a .nulls .now) (a .lent .now) (a .buf .now) (a .value) (c .before .before .before .before .before .before .before .before .before .before .before .before .before .pre) (c .before .before .before .before .before .before .before .first-set .ensures) (c .before .before .before .before .before .before .if1 .left) i (sym (c .before .before .before .before .before .bit-lsb0 .ensures) ∙ not-false _ (c .before .before .if3 .left)) (c .before .if4 .taken)
+    (put-null-full (a .nulls .now) (a .lent .now) (a .buf .now) (a .value)
+    (c .before .before .before .before .before .before .before .before .before .before .before .before .before .pre)
+    (c .before .before .before .before .before .before .before .first-set .ensures)
+    (c .before .before .before .before .before .before .if1 .left) i
+    (sym (c .before .before .before .before .before .bit-lsb0 .ensures) ∙ not-false _ (c .before .before .if3 .left))
+    (c .before .if4 .taken)
     ∙ ap refused (sym (c .refuse3 .ensures)))
 
 returns-4 : tie.Need-returns-4
 returns-4 c = let a = c .before .before .before .before .before .before .before .before .before .before .before .before .args in
-    let i = null-anywhere (a .lent .now) [] (a .value) ∙ sym (c .before .before .before .is-null .ensures) ∙ c .before .before .if2 .taken in
+    let i =
+    null-anywhere (a .lent .now) [] (a .value) ∙ sym (c .before .before .before .is-null .ensures) ∙ c .before .before .if2 .taken in
     put-next (a .buf .now)
-    (put-null-goes (a .nulls .now) (a .lent .now) (a .buf .now) (a .value) (c .before .before .before .before .before .before .before .before .before .before .before .before .pre) (c .before .before .before .before .before .before .first-set .ensures) (c .before .before .before .before .before .if1 .left) i (sym (c .before .before .before .before .bit-lsb0 .ensures) ∙ not-false _ (c .before .if3 .left)) (c .if4 .left))
+    (put-null-goes (a .nulls .now) (a .lent .now) (a .buf .now) (a .value)
+    (c .before .before .before .before .before .before .before .before .before .before .before .before .pre)
+    (c .before .before .before .before .before .before .first-set .ensures) (c .before .before .before .before .before .if1 .left) i
+    (sym (c .before .before .before .before .bit-lsb0 .ensures) ∙ not-false _ (c .before .if3 .left)) (c .if4 .left))
 
 refuse-requires-4 : tie.Need-refuse-requires-4
 refuse-requires-4 c κs = search needs
@@ -73,7 +98,10 @@ returns-5 : tie.Need-returns-5
 returns-5 c = let a = c .before .before .before .before .before .before .before .before .before .before .before .before .args in
     let i = null-anywhere (a .lent .now) [] (a .value) ∙ sym (c .before .before .before .is-null .ensures) ∙ c .before .before .if2 .left in
     put-refused (a .buf .now)
-    (put-marked (a .nulls .now) (a .lent .now) (a .buf .now) (a .value) (c .before .before .before .before .before .before .before .before .before .before .before .before .pre) (c .before .before .before .before .before .before .first-set .ensures) (c .before .before .before .before .before .if1 .left) i (sym (c .before .before .before .before .bit-lsb0 .ensures) ∙ c .before .if5 .taken)
+    (put-marked (a .nulls .now) (a .lent .now) (a .buf .now) (a .value)
+    (c .before .before .before .before .before .before .before .before .before .before .before .before .pre)
+    (c .before .before .before .before .before .before .first-set .ensures) (c .before .before .before .before .before .if1 .left) i
+    (sym (c .before .before .before .before .bit-lsb0 .ensures) ∙ c .before .if5 .taken)
     ∙ ap refused (sym (c .refuse4 .ensures)))
 
 entry-in-requires : tie.Need-entry-in-requires
@@ -95,22 +123,50 @@ same-length : tie.Need-same-length
 same-length c = search needs
 
 returns-6 : tie.Need-returns-6
-returns-6 c = let a = c .before .before .before .before .before .before .before .before .before .before .before .before .before .before .before .before .before .before .before .before .args in
+returns-6 c =
+    let a =
+    c .before .before .before .before .before .before .before .before .before .before .before .before .before .before .before .before
+    .before .before .before .before .args in
     let w = c .before .before .before .before .before .write-value in
-    let i = null-anywhere (a .lent .now) [] (a .value) ∙ sym (c .before .before .before .before .before .before .before .before .before .before .before .is-null .ensures) ∙ c .before .before .before .before .before .before .before .before .before .before .if2 .left in
-    let g = c .before .before .before .before .before .before .before .column-of .ensures ∙ ap columnOf (c .before .before .before .before .before .before .before .before .entry-in .ensures) in
-    put-done (a .nulls .now) (a .lent .now) (a .buf .now) (a .value) (c .before .before .before .before .before .before .before .before .before .before .before .before .before .before .before .before .before .before .before .before .pre) (c .before .before .before .before .before .before .before .before .before .before .before .before .before .before .first-set .ensures) (c .before .before .before .before .before .before .before .before .before .before .before .before .before .if1 .left) i (sym (c .before .before .before .before .before .before .before .before .before .before .before .before .bit-lsb0 .ensures) ∙ c .before .before .before .before .before .before .before .before .before .if5 .left) g
+    let i =
+    null-anywhere (a .lent .now) [] (a .value)
+    ∙ sym (c .before .before .before .before .before .before .before .before .before .before .before .is-null .ensures)
+    ∙ c .before .before .before .before .before .before .before .before .before .before .if2 .left in
+    let g =
+    c .before .before .before .before .before .before .before .column-of .ensures
+    ∙ ap columnOf (c .before .before .before .before .before .before .before .before .entry-in .ensures) in
+    put-done (a .nulls .now) (a .lent .now) (a .buf .now) (a .value)
+    (c .before .before .before .before .before .before .before .before .before .before .before .before .before .before .before .before
+    .before .before .before .before .pre)
+    (c .before .before .before .before .before .before .before .before .before .before .before .before .before .before .first-set
+    .ensures) (c .before .before .before .before .before .before .before .before .before .before .before .before .before .if1 .left) i
+    (sym (c .before .before .before .before .before .before .before .before .before .before .before .before .bit-lsb0 .ensures)
+    ∙ c .before .before .before .before .before .before .before .before .before .if5 .left) g
     (w .result) _ (w .ensures .0) (w .ensures .1) _ (c .before .next .given .1)
 
 same-length-2 : tie.Need-same-length-2
 same-length-2 c = search needs
 
 returns-7 : tie.Need-returns-7
-returns-7 c = let a = c .before .before .before .before .before .before .before .before .before .before .before .before .before .before .before .before .before .before .before .before .args in
+returns-7 c =
+    let a =
+    c .before .before .before .before .before .before .before .before .before .before .before .before .before .before .before .before
+    .before .before .before .before .args in
     let w = c .before .before .before .before .before .write-value in
-    let i = null-anywhere (a .lent .now) [] (a .value) ∙ sym (c .before .before .before .before .before .before .before .before .before .before .before .is-null .ensures) ∙ c .before .before .before .before .before .before .before .before .before .before .if2 .left in
-    let g = c .before .before .before .before .before .before .before .column-of .ensures ∙ ap columnOf (c .before .before .before .before .before .before .before .before .entry-in .ensures) in
-    put-bad (a .nulls .now) (a .lent .now) (a .buf .now) (a .value) (c .before .before .before .before .before .before .before .before .before .before .before .before .before .before .before .before .before .before .before .before .pre) (c .before .before .before .before .before .before .before .before .before .before .before .before .before .before .first-set .ensures) (c .before .before .before .before .before .before .before .before .before .before .before .before .before .if1 .left) i (sym (c .before .before .before .before .before .before .before .before .before .before .before .before .bit-lsb0 .ensures) ∙ c .before .before .before .before .before .before .before .before .before .if5 .left) g
+    let i =
+    null-anywhere (a .lent .now) [] (a .value)
+    ∙ sym (c .before .before .before .before .before .before .before .before .before .before .before .is-null .ensures)
+    ∙ c .before .before .before .before .before .before .before .before .before .before .if2 .left in
+    let g =
+    c .before .before .before .before .before .before .before .column-of .ensures
+    ∙ ap columnOf (c .before .before .before .before .before .before .before .before .entry-in .ensures) in
+    put-bad (a .nulls .now) (a .lent .now) (a .buf .now) (a .value)
+    (c .before .before .before .before .before .before .before .before .before .before .before .before .before .before .before .before
+    .before .before .before .before .pre)
+    (c .before .before .before .before .before .before .before .before .before .before .before .before .before .before .first-set
+    .ensures) (c .before .before .before .before .before .before .before .before .before .before .before .before .before .if1 .left) i
+    (sym (c .before .before .before .before .before .before .before .before .before .before .before .before .bit-lsb0 .ensures)
+    ∙ c .before .before .before .before .before .before .before .before .before .if5 .left) g
     (w .result) _ (w .ensures .0) (w .ensures .1) _ (c .before .r .given .1)
 
 pub put-inner-spec : {M : Type 1} → statement M

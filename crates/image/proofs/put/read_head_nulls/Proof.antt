@@ -19,7 +19,11 @@ enum-known-head c = search needs
 
 returns : tie.Need-returns
 unfolding headNulls
-returns c = rw (sym (c .before .before .before .before .before .read-head .ensures) ∙ ap headTold (c .before .before .before .head .given .1), eq-eqb _ _ (c .if1 .taken))
+returns c =
+    rw (
+      sym (c .before .before .before .before .before .read-head .ensures) ∙ ap headTold (c .before .before .before .head .given .1),
+      eq-eqb _ _ (c .if1 .taken),
+    )
 
 refuse-requires : tie.Need-refuse-requires
 refuse-requires c κs = search needs
@@ -29,7 +33,13 @@ enum-known-r c = search needs
 
 returns-2 : tie.Need-returns-2
 unfolding headNulls
-returns-2 c = rw (sym (c .before .before .before .before .before .before .read-head .ensures) ∙ ap headTold (c .before .before .before .before .head .given .1), c .refuse .ensures, ne-eqb _ _ (c .before .if1 .left))
+returns-2 c =
+    rw (
+      sym (c .before .before .before .before .before .before .read-head .ensures)
+          ∙ ap headTold (c .before .before .before .before .head .given .1),
+      c .refuse .ensures,
+      ne-eqb _ _ (c .before .if1 .left),
+    )
 
 returns-3 : tie.Need-returns-3
 unfolding headNulls

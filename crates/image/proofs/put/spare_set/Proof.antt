@@ -3,7 +3,7 @@ use native.Mathlib.Nat.{mod-lt}
 use native.Mathlib.Omega.{arith}
 use lib.Pow.{pow-pos}
 use Rattle.wire.proofs.Digits.{weight-is}
-use Rattle.image.proofs.Fills.{unit-is}
+use Rattle.image.proofs.PutLaws.Fills.{unit-is}
 use borrow.Author.Needs.{needs}
 use Rattle.image.proofs.put.spare_set.Statement.{statement}
 use Rattle.image.proofs.put.spare_set.Tie as tie
@@ -27,7 +27,8 @@ sub-result-2 c = search needs
 
 add-result : tie.Need-add-result
 add-result c = let a = c .args in
-    rw (weight-is (a .used) (c .pre)) (omega (arith, unit-is (a .used) (c .pre) .0, unit-is (a .used) (c .pre) .1, mod-lt (a .b) (pow-pos (a .used))))
+    rw (weight-is (a .used) (c .pre))
+    (omega (arith, unit-is (a .used) (c .pre) .0, unit-is (a .used) (c .pre) .1, mod-lt (a .b) (pow-pos (a .used))))
 
 returns : tie.Need-returns
 returns c = let a = c .args in

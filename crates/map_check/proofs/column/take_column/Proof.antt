@@ -40,8 +40,13 @@ returns-2 : tie.Need-returns-2
 unfolding takeColumn
 returns-2 c =
     let a = c .before .before .before .before .before .before .args in
-    let h : length (drop (a .at) (a .metadata .now)) < metaBytes (a .kind) = omega (arith, length-drop (a .at) (a .metadata .now), c .before .before .metadata-bytes .ensures, c .before .if2 .taken) in
-    rw (sym (c .before .before .before .before .is-known .ensures) ∙ not-false _ (c .before .before .before .if1 .left), lt-leb _ _ h, c .refuse2 .ensures) refl
+    let h : length (drop (a .at) (a .metadata .now)) < metaBytes (a .kind) =
+    omega (arith, length-drop (a .at) (a .metadata .now), c .before .before .metadata-bytes .ensures, c .before .if2 .taken) in
+    rw (
+      sym (c .before .before .before .before .is-known .ensures) ∙ not-false _ (c .before .before .before .if1 .left),
+      lt-leb _ _ h,
+      c .refuse2 .ensures,
+    ) refl
 
 declare-requires : tie.Need-declare-requires
 declare-requires c κs = search needs
@@ -53,9 +58,16 @@ returns-3 : tie.Need-returns-3
 unfolding takeColumn
 returns-3 c =
     let a = c .before .before .before .before .before .before .before .before .args in
-    let h : metaBytes (a .kind) ≤ length (drop (a .at) (a .metadata .now)) = omega (arith, length-drop (a .at) (a .metadata .now), c .before .before .before .before .metadata-bytes .ensures, c .before .before .before .if2 .left) in
+    let h : metaBytes (a .kind) ≤ length (drop (a .at) (a .metadata .now)) =
+    omega (
+      arith,
+      length-drop (a .at) (a .metadata .now),
+      c .before .before .before .before .metadata-bytes .ensures,
+      c .before .before .before .if2 .left,
+    ) in
     rw (
-      sym (c .before .before .before .before .before .before .is-known .ensures) ∙ not-false _ (c .before .before .before .before .before .if1 .left),
+      sym (c .before .before .before .before .before .before .is-known .ensures)
+          ∙ not-false _ (c .before .before .before .before .before .if1 .left),
       le-leb _ _ h,
       ap isAccepted (sym (c .before .before .declare .ensures)) ∙ sym (c .before .is-accepted .ensures) ∙ c .if3 .taken,
     ) (ap ok (c .before .before .declare .ensures))
@@ -67,11 +79,19 @@ returns-4 : tie.Need-returns-4
 unfolding takeColumn
 returns-4 c =
     let a = c .before .before .before .before .before .before .before .before .before .args in
-    let h : metaBytes (a .kind) ≤ length (drop (a .at) (a .metadata .now)) = omega (arith, length-drop (a .at) (a .metadata .now), c .before .before .before .before .before .metadata-bytes .ensures, c .before .before .before .before .if2 .left) in
+    let h : metaBytes (a .kind) ≤ length (drop (a .at) (a .metadata .now)) =
+    omega (
+      arith,
+      length-drop (a .at) (a .metadata .now),
+      c .before .before .before .before .before .metadata-bytes .ensures,
+      c .before .before .before .before .if2 .left,
+    ) in
     rw (
-      sym (c .before .before .before .before .before .before .before .is-known .ensures) ∙ not-false _ (c .before .before .before .before .before .before .if1 .left),
+      sym (c .before .before .before .before .before .before .before .is-known .ensures)
+          ∙ not-false _ (c .before .before .before .before .before .before .if1 .left),
       le-leb _ _ h,
-      ap isAccepted (sym (c .before .before .before .declare .ensures)) ∙ sym (c .before .before .is-accepted .ensures) ∙ c .before .if3 .left,
+      ap isAccepted (sym (c .before .before .before .declare .ensures)) ∙ sym (c .before .before .is-accepted .ensures)
+          ∙ c .before .if3 .left,
       c .refuse3 .ensures,
     ) refl
 

@@ -2,7 +2,7 @@
 use mathlib.Core.Path.{sym, ap, _∙_}
 use borrow.Author.Needs.{needs}
 use borrow.Author.Tests.{not-true, not-false}
-use Rattle.table_map.specs.Lists.{charsetOf}
+use Rattle.table_map.specs.Lists.{charsetTold}
 use Rattle.map_check.specs.Contents.{defaultHolds}
 use Rattle.map_check.proofs.contents.default_holds.Statement.{statement}
 use Rattle.map_check.proofs.contents.default_holds.Tie as tie
@@ -24,7 +24,7 @@ is-charset-requires c κs = search needs
 returns : tie.Need-returns
 unfolding defaultHolds
 returns c = rw (
-  sym (c .before .before .before .before .before .default-charset .ensures) ∙ ap charsetOf (c .before .before .before .charset .given .1),
+  sym (c .before .before .before .before .before .default-charset .ensures) ∙ ap charsetTold (c .before .before .before .charset .given .1),
   sym (c .before .is-charset .ensures) ∙ not-true _ (c .if1 .taken),
 )
 
@@ -37,14 +37,15 @@ enum-told c = search needs
 returns-2 : tie.Need-returns-2
 unfolding defaultHolds
 returns-2 c = rw (
-  sym (c .before .before .before .before .before .before .default-charset .ensures) ∙ ap charsetOf (c .before .before .before .before .charset .given .1),
+  sym (c .before .before .before .before .before .before .default-charset .ensures)
+      ∙ ap charsetTold (c .before .before .before .before .charset .given .1),
   sym (c .before .before .is-charset .ensures) ∙ not-false _ (c .before .if1 .left),
   c .pairs-hold .ensures,
 )
 
 returns-3 : tie.Need-returns-3
 unfolding defaultHolds
-returns-3 c = rw (sym (c .before .before .default-charset .ensures) ∙ ap charsetOf (c .enum-told .given .1))
+returns-3 c = rw (sym (c .before .before .default-charset .ensures) ∙ ap charsetTold (c .enum-told .given .1))
 
 pub default-holds-spec : {M : Type 1} → statement M
 default-holds-spec =

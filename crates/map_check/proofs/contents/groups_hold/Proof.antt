@@ -6,9 +6,9 @@ use borrow.Author.Needs.{needs}
 use lib.ListN.{length}
 use Rattle.table_map.proofs.Items.{group-moves}
 use Rattle.table_map.proofs.Walks.{item-moves}
-use Rattle.table_map.specs.Lists.{groupItem, groupOf}
+use Rattle.table_map.specs.Lists.{groupItem, groupTold}
 use Rattle.map_check.specs.Contents.{whatever}
-use Rattle.map_check.proofs.Tallies.{Met, none-met, more-met, no-more, none-read}
+use Rattle.map_check.proofs.ContentsLaws.Tallies.{Met, none-met, more-met, no-more, none-read}
 use Rattle.map_check.proofs.contents.groups_hold.Statement.{statement}
 use Rattle.map_check.proofs.contents.groups_hold.Tie as tie
 use Rattle.map_check.proofs.contents.groups_hold.Reads as reads
@@ -32,28 +32,38 @@ enum-known-next c = search needs
 
 add-count : tie.Need-add-count Inv-loop μ-loop
 add-count c =
-    let w = item-moves groupItem group-moves _ _ _ _ (sym (c .before .before .before .next .ensures) ∙ ap groupOf (c .before .next2 .given .1)) in
+    let w =
+    item-moves groupItem group-moves _ _ _ _
+    (sym (c .before .before .before .next .ensures) ∙ ap groupTold (c .before .next2 .given .1)) in
     omega (arith, c .before .before .before .before .loop .inv .few, w .0, w .1)
 
 loop-less : tie.Need-loop-less Inv-loop μ-loop
 loop-less c =
-    let w = item-moves groupItem group-moves _ _ _ _ (sym (c .before .before .before .next .ensures) ∙ ap groupOf (c .before .next2 .given .1)) in
+    let w =
+    item-moves groupItem group-moves _ _ _ _
+    (sym (c .before .before .before .next .ensures) ∙ ap groupTold (c .before .next2 .given .1)) in
     omega (arith, w .0, w .1)
 
 loop-again : tie.Need-loop-again Inv-loop μ-loop
-loop-again c = more-met group-moves (c .before .before .before .before .loop .inv) (sym (c .before .before .before .next .ensures) ∙ ap groupOf (c .before .next2 .given .1)) refl
+loop-again c =
+    more-met group-moves (c .before .before .before .before .loop .inv)
+    (sym (c .before .before .before .next .ensures) ∙ ap groupTold (c .before .next2 .given .1)) refl
 
 enum-told : tie.Need-enum-told Inv-loop μ-loop
 enum-told c = search needs
 
 returns : tie.Need-returns Inv-loop μ-loop
-returns c = no-more group-moves (c .before .before .before .before .loop .inv) (sym (c .before .before .before .next .ensures) ∙ ap groupOf (c .before .enum-told .given .1))
+returns c =
+    no-more group-moves (c .before .before .before .before .loop .inv)
+    (sym (c .before .before .before .next .ensures) ∙ ap groupTold (c .before .enum-told .given .1))
 
 enum-told-2 : tie.Need-enum-told-2 Inv-loop μ-loop
 enum-told-2 c = search needs
 
 returns-2 : tie.Need-returns-2 Inv-loop μ-loop
-returns-2 c = none-read group-moves (c .before .before .before .loop .inv) (sym (c .before .before .next .ensures) ∙ ap groupOf (c .enum-told2 .given .1))
+returns-2 c =
+    none-read group-moves (c .before .before .before .loop .inv)
+    (sym (c .before .before .next .ensures) ∙ ap groupTold (c .enum-told2 .given .1))
 
 pub groups-hold-spec : {M : Type 1} → statement M
 groups-hold-spec =

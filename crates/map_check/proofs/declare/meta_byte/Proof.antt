@@ -5,7 +5,7 @@ use native.Mathlib.Omega.{arith}
 use borrow.Author.Tests.{le-leb}
 use borrow.Author.Needs.{needs}
 use Rattle.map_check.specs.Columns.{metaBytes, metaByte}
-use Rattle.map_check.proofs.Declares.{meta-past, meta-at}
+use Rattle.map_check.proofs.ColumnLaws.Declares.{meta-past, meta-at}
 use Rattle.map_check.proofs.declare.meta_byte.Statement.{statement}
 use Rattle.map_check.proofs.declare.meta_byte.Tie as tie
 use Rattle.map_check.proofs.declare.meta_byte.Reads as reads
@@ -23,13 +23,15 @@ returns c =
     rw (le-leb _ _ h) refl
 
 returns-2 : tie.Need-returns-2
-returns-2 c = let a = c .before .before .before .before .args in sym (meta-past (a .i) (a .kind) (a .at) (a .metadata .now) (omega (arith, c .if2 .taken)))
+returns-2 c = let a = c .before .before .before .before .args in
+    sym (meta-past (a .i) (a .kind) (a .at) (a .metadata .now) (omega (arith, c .if2 .taken)))
 
 sub-if3 : tie.Need-sub-if3
 sub-if3 c = search needs
 
 returns-3 : tie.Need-returns-3
-returns-3 c = let a = c .before .before .before .before .before .args in sym (meta-past (a .i) (a .kind) (a .at) (a .metadata .now) (c .if3 .taken))
+returns-3 c = let a = c .before .before .before .before .before .args in
+    sym (meta-past (a .i) (a .kind) (a .at) (a .metadata .now) (c .if3 .taken))
 
 add-result : tie.Need-add-result
 add-result c = search needs
@@ -40,7 +42,8 @@ shared-slice-read-result c = search needs
 returns-4 : tie.Need-returns-4
 returns-4 c =
     let a = c .before .before .before .before .before .before .args in
-    sym (meta-at (a .i) (a .kind) (a .at) (a .metadata .now) (omega (arith, c .before .before .before .before .metadata-bytes .ensures, c .before .before .before .if1 .left)))
+    sym (meta-at (a .i) (a .kind) (a .at) (a .metadata .now)
+    (omega (arith, c .before .before .before .before .metadata-bytes .ensures, c .before .before .before .if1 .left)))
 
 pub meta-byte-spec : {M : Type 1} → statement M
 meta-byte-spec =

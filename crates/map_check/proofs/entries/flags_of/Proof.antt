@@ -57,7 +57,8 @@ add-result-3 c = search needs
 returns : tie.Need-returns
 unfolding flagsOf
 returns c = rw (
-  c .before .before .before .before .before .before .one-if .ensures .0 ∙ ap oneIf (c .before .before .before .before .before .before .before .is-unsigned .ensures),
+  c .before .before .before .before .before .before .one-if .ensures .0
+      ∙ ap oneIf (c .before .before .before .before .before .before .before .is-unsigned .ensures),
   c .before .before .before .before .one-if2 .ensures .0 ∙ ap oneIf (c .before .before .before .before .before .is-nullable .ensures),
   c .before .before .one-if3 .ensures .0 ∙ ap oneIf (c .before .before .before .is-sign-known .ensures),
   c .one-if4 .ensures .0 ∙ ap oneIf (c .before .is-visible .ensures),

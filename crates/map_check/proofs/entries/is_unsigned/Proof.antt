@@ -23,7 +23,9 @@ flag-requires : tie.Need-flag-requires
 flag-requires c κs = search needs
 
 returns-2 : tie.Need-returns-2
-returns-2 c = rw (sym (c .before .before .before .is-sign-known .ensures) ∙ not-false _ (c .before .before .if1 .left)) (c .flag .ensures ∙ rw (c .before .value-in .ensures))
+returns-2 c =
+    rw (sym (c .before .before .before .is-sign-known .ensures) ∙ not-false _ (c .before .before .if1 .left))
+    (c .flag .ensures ∙ rw (c .before .value-in .ensures))
 
 pub is-unsigned-spec : {M : Type 1} → statement M
 is-unsigned-spec =

@@ -3,8 +3,8 @@ use mathlib.Core.Path.{refl, _∙_}
 use native.Mathlib.Omega.{arith}
 use lib.ListN.{getD}
 use Rattle.value.specs.Types.{familyOf}
-use Rattle.map_check.proofs.Counts.{at-most-wider}
-use Rattle.map_check.proofs.Making.{few-metadata, came}
+use Rattle.map_check.proofs.ColumnLaws.Counts.{at-most-wider}
+use Rattle.map_check.proofs.EntryLaws.Making.{few-metadata, came}
 use borrow.Author.Needs.{needs}
 use Rattle.map_check.proofs.entries.next_entry.Statement.{statement}
 use Rattle.map_check.proofs.entries.next_entry.Tie as tie
@@ -44,29 +44,68 @@ entry-with-requires : tie.Need-entry-with-requires
 entry-with-requires c κs = search needs
 
 add-t26 : tie.Need-add-t26
-add-t26 c = omega (arith, c .before .before .before .before .before .before .before .before .before .before .before .before .before .before .before .before .before .pre .0, c .before .before .before .before .before .before .before .before .before .before .before .before .before .before .before .before .before .pre .1)
+add-t26 c =
+    omega (
+      arith,
+      c .before .before .before .before .before .before .before .before .before .before .before .before .before .before .before
+          .before .before .pre .0,
+      c .before .before .before .before .before .before .before .before .before .before .before .before .before .before .before .before
+          .before .pre .1,
+    )
 
 metadata-bytes-requires : tie.Need-metadata-bytes-requires
 metadata-bytes-requires c κs = search needs
 
 add-t29 : tie.Need-add-t29
 add-t29 c =
-    let a = c .before .before .before .before .before .before .before .before .before .before .before .before .before .before .before .before .before .before .before in
-    omega (arith, a .pre .0, a .pre .1, a .pre .2 .metadata, c .before .metadata-bytes .ensures, few-metadata (familyOf (getD (a .args .types .now) (a .args .standing .place .0) 0)))
+    let a =
+    c .before .before .before .before .before .before .before .before .before .before .before .before .before .before .before .before
+    .before .before .before in
+    omega (
+      arith,
+      a .pre .0,
+      a .pre .1,
+      a .pre .2 .metadata,
+      c .before .metadata-bytes .ensures,
+      few-metadata (familyOf (getD (a .args .types .now) (a .args .progress .place .0) 0)),
+    )
 
 ranks-after-requires : tie.Need-ranks-after-requires
-ranks-after-requires c κs = at-most-wider (omega (arith, c .before .before .before .before .before .before .before .before .before .before .before .before .before .before .before .before .before .before .before .pre .0, c .before .before .before .before .before .before .before .before .before .before .before .before .before .before .before .before .before .before .before .pre .1)) (c .before .before .before .before .before .before .before .before .before .before .before .before .before .before .before .before .before .before .before .pre .2 .ranks)
+ranks-after-requires c κs =
+    at-most-wider (omega (
+      arith,
+      c .before .before .before .before .before .before .before .before .before .before .before .before .before .before .before .before
+          .before .before .before .pre .0,
+      c .before .before .before .before .before .before .before .before .before .before .before .before .before .before .before .before
+          .before .before .before .pre .1,
+    ))
+    (c .before .before .before .before .before .before .before .before .before .before .before .before .before .before .before .before
+    .before .before .before .pre .2 .ranks)
 
 returns : tie.Need-returns
 returns c =
-    let a = c .before .before .before .before .before .before .before .before .before .before .before .before .before .before .before .before .before .before .before .before .args in
-    came (a .dialect) (a .event .now) (a .facts) (a .types .now) (a .metadata .now) (a .standing) (c .before .before .before .before .before .before .before .before .before .before .before .before .before .declare .result) (c .before .before .before .before .before .before .before .before .before .before .charset-if .result) (c .before .before .before .before .before .before .before .charset-if2 .result) _
-    (c .before .before .before .before .before .before .before .before .before .before .before .before .before .before .before .before .before .before .before .before .pre .0) (c .before .before .before .before .before .before .before .before .before .before .before .before .before .before .before .before .before .before .before .before .pre .2)
+    let a =
+    c .before .before .before .before .before .before .before .before .before .before .before .before .before .before .before .before
+    .before .before .before .before .args in
+    came (a .dialect) (a .event .now) (a .facts) (a .types .now) (a .metadata .now) (a .progress)
+    (c .before .before .before .before .before .before .before .before .before .before .before .before .before .declare .result)
+    (c .before .before .before .before .before .before .before .before .before .before .charset-if .result)
+    (c .before .before .before .before .before .before .before .charset-if2 .result) _
+    (c .before .before .before .before .before .before .before .before .before .before .before .before .before .before .before .before
+    .before .before .before .before .pre .0)
+    (c .before .before .before .before .before .before .before .before .before .before .before .before .before .before .before .before
+    .before .before .before .before .pre .2)
     (record {
       column = c .before .before .before .before .before .before .before .before .before .before .before .before .before .declare .ensures;
-      character = rw (← (c .before .before .before .before .before .before .before .before .before .before .before .before .has-charset .ensures)) (c .before .before .before .before .before .before .before .before .before .before .charset-if .ensures);
-      choice = rw (← (c .before .before .before .before .before .before .before .before .before .is-enum-or-set .ensures)) (c .before .before .before .before .before .before .before .charset-if2 .ensures);
-      entry = c .before .before .before .before .before .entry-with .ensures ∙ rw (c .before .before .before .before .before .before .pick-charset .ensures);
+      character =
+          rw (← (c .before .before .before .before .before .before .before .before .before .before .before .before .has-charset .ensures))
+          (c .before .before .before .before .before .before .before .before .before .before .charset-if .ensures);
+      choice =
+          rw (← (c .before .before .before .before .before .before .before .before .before .is-enum-or-set .ensures))
+          (c .before .before .before .before .before .before .before .charset-if2 .ensures);
+      entry =
+          c .before .before .before .before .before .entry-with .ensures
+          ∙ rw (c .before .before .before .before .before .before .pick-charset .ensures);
       place = refl;
       metadata = rw (c .before .before .metadata-bytes .ensures);
       ranks = c .ranks-after .ensures;

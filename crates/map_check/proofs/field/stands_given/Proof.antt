@@ -24,7 +24,8 @@ contents-full-requires c κs = search needs
 
 returns-3 : tie.Need-returns-3
 unfolding standsGiven
-returns-3 c = rw (c .before .before .before .if1 .left, c .before .before .if2 .left, ← (c .before .part-of .ensures)) (c .contents-full .ensures)
+returns-3 c =
+    rw (c .before .before .before .if1 .left, c .before .before .if2 .left, ← (c .before .part-of .ensures)) (c .contents-full .ensures)
 
 pub stands-given-spec : {M : Type 1} → statement M
 stands-given-spec =

@@ -1,7 +1,7 @@
 -- `map_check::keys::key_at` meets its contract. Assumes nothing.
 use mathlib.Core.Path.{sym, ap, _∙_}
 use borrow.Author.Tests.{not-true, not-false}
-use Rattle.wire.specs.Packed.{packedOf}
+use Rattle.wire.specs.Packed.{packedTold}
 use Rattle.map_check.specs.Contents.{keyItem}
 use borrow.Author.Needs.{needs}
 use Rattle.map_check.proofs.keys.key_at.Statement.{statement}
@@ -19,7 +19,7 @@ enum-known-key c = search needs
 returns : tie.Need-returns
 unfolding keyItem
 returns c = rw (
-  sym (c .before .before .before .before .read-packed .ensures) ∙ ap packedOf (c .before .before .key .given .1),
+  sym (c .before .before .before .before .read-packed .ensures) ∙ ap packedTold (c .before .before .key .given .1),
   not-true (c .before .before .before .before .before .before .args .paired) (c .if1 .taken),
 )
 
@@ -38,22 +38,26 @@ enum-known-r-2 c = search needs
 returns-2 : tie.Need-returns-2
 unfolding keyItem
 returns-2 c = rw (
-  sym (c .before .before .before .before .before .before .before .before .read-packed .ensures) ∙ ap packedOf (c .before .before .before .before .before .before .key .given .1),
-  not-false (c .before .before .before .before .before .before .before .before .before .before .args .paired) (c .before .before .before .before .if1 .left),
-  sym (c .before .before .before .read-packed2 .ensures) ∙ ap packedOf (c .before .behind .given .1),
+  sym (c .before .before .before .before .before .before .before .before .read-packed .ensures)
+      ∙ ap packedTold (c .before .before .before .before .before .before .key .given .1),
+  not-false (c .before .before .before .before .before .before .before .before .before .before .args .paired)
+      (c .before .before .before .before .if1 .left),
+  sym (c .before .before .before .read-packed2 .ensures) ∙ ap packedTold (c .before .behind .given .1),
 )
 
 returns-3 : tie.Need-returns-3
 unfolding keyItem
 returns-3 c = rw (
-  sym (c .before .before .before .before .before .before .before .before .read-packed .ensures) ∙ ap packedOf (c .before .before .before .before .before .before .key .given .1),
-  not-false (c .before .before .before .before .before .before .before .before .before .before .args .paired) (c .before .before .before .before .if1 .left),
-  sym (c .before .before .before .read-packed2 .ensures) ∙ ap packedOf (c .before .r .given .1),
+  sym (c .before .before .before .before .before .before .before .before .read-packed .ensures)
+      ∙ ap packedTold (c .before .before .before .before .before .before .key .given .1),
+  not-false (c .before .before .before .before .before .before .before .before .before .before .args .paired)
+      (c .before .before .before .before .if1 .left),
+  sym (c .before .before .before .read-packed2 .ensures) ∙ ap packedTold (c .before .r .given .1),
 )
 
 returns-4 : tie.Need-returns-4
 unfolding keyItem
-returns-4 c = rw (sym (c .before .before .before .read-packed .ensures) ∙ ap packedOf (c .before .r2 .given .1))
+returns-4 c = rw (sym (c .before .before .before .read-packed .ensures) ∙ ap packedTold (c .before .r2 .given .1))
 
 pub key-at-spec : {M : Type 1} → statement M
 key-at-spec =

@@ -1,6 +1,6 @@
 -- `map_check::keys::keys_checked` meets its contract. Assumes nothing.
 use mathlib.Core.Path.{sym, ap, _∙_}
-use Rattle.table_map.specs.Fields.{judgedOf}
+use Rattle.table_map.specs.Fields.{judgedTold}
 use borrow.Author.Needs.{needs}
 use Rattle.map_check.proofs.keys.keys_checked.Statement.{statement}
 use Rattle.map_check.proofs.keys.keys_checked.Tie as tie
@@ -21,10 +21,10 @@ enum-known-r : tie.Need-enum-known-r
 enum-known-r c = search needs
 
 returns : tie.Need-returns
-returns c = rw (sym (c .before .before .before .once-in .ensures) ∙ ap judgedOf (c .before .enum-told .given .1)) (c .once-in2 .ensures)
+returns c = rw (sym (c .before .before .before .once-in .ensures) ∙ ap judgedTold (c .before .enum-told .given .1)) (c .once-in2 .ensures)
 
 returns-2 : tie.Need-returns-2
-returns-2 c = rw (sym (c .before .before .before .once-in .ensures) ∙ ap judgedOf (c .before .r .given .1))
+returns-2 c = rw (sym (c .before .before .before .once-in .ensures) ∙ ap judgedTold (c .before .r .given .1))
 
 pub keys-checked-spec : {M : Type 1} → statement M
 keys-checked-spec =

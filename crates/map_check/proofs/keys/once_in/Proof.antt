@@ -20,7 +20,8 @@ part-of-requires c κs = search needs
 
 keys-once-requires : tie.Need-keys-once-requires
 keys-once-requires c κs = let e = ap length (c .part-of .ensures) in
-    ⊎-elim (λ z. omega (arith, e, z)) (λ l. omega (arith, e, l)) (lent-ends (c .before .before .before .before .before .args .event .now) (c .before .before .field .given .0 .0))
+    ⊎-elim (λ z. omega (arith, e, z)) (λ l. omega (arith, e, l))
+    (lent-ends (c .before .before .before .before .before .args .event .now) (c .before .before .field .given .0 .0))
 
 enum-told : tie.Need-enum-told
 enum-told c = search needs

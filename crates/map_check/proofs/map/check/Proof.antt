@@ -1,7 +1,7 @@
 -- `map_check::map::check` meets its contract. Assumes nothing.
 use mathlib.Core.Path.{_≡_, refl, sym, ap, _∙_}
 use Rattle.wire.specs.Outcome.{ok, refused}
-use Rattle.table_map.specs.Events.{readEvent, eventOf}
+use Rattle.table_map.specs.Events.{readEvent, eventTold}
 use Rattle.map_check.specs.Check.{checkMap, check}
 use borrow.Author.Needs.{needs}
 use Rattle.map_check.proofs.map.check.Statement.{statement}
@@ -30,14 +30,17 @@ returns : tie.Need-returns
 unfolding check checkMap
 returns c =
     let a = c .before .before .before .before .before .before .before .before .before .before .args in
-    let e : readEvent (a .event .now) (a .post-header) ≡ ok (c .before .before .before .before .before .e .given .0 .0) = sym (c .before .before .before .before .before .before .before .read-event .ensures) ∙ ap eventOf (c .before .before .before .before .before .e .given .1) in
+    let e : readEvent (a .event .now) (a .post-header) ≡ ok (c .before .before .before .before .before .e .given .0 .0) =
+    sym (c .before .before .before .before .before .before .before .read-event .ensures)
+    ∙ ap eventTold (c .before .before .before .before .before .e .given .1) in
     rw e (c .before .before .check-event .ensures)
 
 returns-2 : tie.Need-returns-2
 unfolding check checkMap
 returns-2 c =
     let a = c .before .before .before .before .before .before .args in
-    let e : readEvent (a .event .now) (a .post-header) ≡ refused (c .before .r .given .0 .0) = sym (c .before .before .before .read-event .ensures) ∙ ap eventOf (c .before .r .given .1) in
+    let e : readEvent (a .event .now) (a .post-header) ≡ refused (c .before .r .given .0 .0) =
+    sym (c .before .before .before .read-event .ensures) ∙ ap eventTold (c .before .r .given .1) in
     rw e (refl, refl)
 
 pub check-spec : {M : Type 1} → statement M

@@ -1,11 +1,11 @@
 -- `map_check::map::check_event` meets its contract. Assumes nothing.
 use mathlib.Core.Path.{refl, sym, ap, _∙_}
 use Rattle.wire.specs.declared.store.Written.the-variants.{Refused}
-use Rattle.wire.specs.Stored.{writtenOf}
-use Rattle.table_map.specs.Fields.{judgedOf}
-use Rattle.map_check.specs.Columns.{sizesTold}
-use Rattle.map_check.specs.Standing.{keptOf}
-use Rattle.map_check.proofs.Links.{columned, fielded, too-many, columns-refuse, fields-refuse, keys-refuse, keys-pass, takes}
+use Rattle.wire.specs.Stored.{writtenTold}
+use Rattle.table_map.specs.Fields.{judgedTold}
+use Rattle.map_check.specs.Inner.Columns.{sizesTold}
+use Rattle.map_check.specs.Inner.Making.{keptTold}
+use Rattle.map_check.proofs.MapLaws.Links.{columned, fielded, too-many, columns-refuse, fields-refuse, keys-refuse, keys-pass, takes}
 use borrow.Author.Needs.{needs}
 use Rattle.map_check.proofs.map.check_event.Statement.{statement}
 use Rattle.map_check.proofs.map.check_event.Tie as tie
@@ -31,7 +31,8 @@ refuse-requires c κs = search needs
 returns : tie.Need-returns
 returns c =
     let a = c .before .before .before .before .before .before .args in
-    rw (too-many (a .dialect) (a .event .now) (a .e) _ (c .before .before .before .part-of .ensures) (c .before .if1 .taken)) (ap (λ r. writtenOf (Refused r)) (c .refuse .ensures), refl)
+    rw (too-many (a .dialect) (a .event .now) (a .e) _ (c .before .before .before .part-of .ensures) (c .before .if1 .taken))
+    (ap (λ r. writtenTold (Refused r)) (c .refuse .ensures), refl)
 
 take-columns-requires : tie.Need-take-columns-requires
 take-columns-requires c κs = search needs
@@ -45,7 +46,9 @@ enum-known-r c = search needs
 returns-2 : tie.Need-returns-2
 returns-2 c =
     let a = c .before .before .before .before .before .before .before .before .before .args in
-    rw (columns-refuse (a .dialect) (a .event .now) (a .e) _ _ (c .before .r .given .0 .0) (c .before .before .before .before .before .before .part-of .ensures) (c .before .before .before .before .before .part-of2 .ensures) (c .before .before .before .before .if1 .left)
+    rw (columns-refuse (a .dialect) (a .event .now) (a .e) _ _ (c .before .r .given .0 .0)
+    (c .before .before .before .before .before .before .part-of .ensures) (c .before .before .before .before .before .part-of2 .ensures)
+    (c .before .before .before .before .if1 .left)
     (sym (c .before .before .before .take-columns .ensures) ∙ ap sizesTold (c .before .r .given .1))) (refl, refl)
 
 new-requires : tie.Need-new-requires
@@ -63,9 +66,15 @@ enum-known-r-2 c = search needs
 returns-3 : tie.Need-returns-3
 returns-3 c =
     let a = c .before .before .before .before .before .before .before .before .before .before .before .before .before .before .args in
-    let columns = columned (a .dialect) (a .event .now) (a .e) _ _ _ (c .before .before .before .before .before .before .before .before .before .before .before .part-of .ensures) (c .before .before .before .before .before .before .before .before .before .before .part-of2 .ensures) (c .before .before .before .before .before .before .before .before .before .if1 .left)
-    (sym (c .before .before .before .before .before .before .before .before .take-columns .ensures) ∙ ap sizesTold (c .before .before .before .before .before .before .sizes .given .1)) in
-    rw (fields-refuse _ (c .before .r2 .given .0 .0) columns (c .before .before .before .before .new .ensures) (sym (c .before .before .before .keep-fields .ensures) ∙ ap keptOf (c .before .r2 .given .1))) (refl, refl)
+    let columns =
+    columned (a .dialect) (a .event .now) (a .e) _ _ _
+    (c .before .before .before .before .before .before .before .before .before .before .before .part-of .ensures)
+    (c .before .before .before .before .before .before .before .before .before .before .part-of2 .ensures)
+    (c .before .before .before .before .before .before .before .before .before .if1 .left)
+    (sym (c .before .before .before .before .before .before .before .before .take-columns .ensures)
+    ∙ ap sizesTold (c .before .before .before .before .before .before .sizes .given .1)) in
+    rw (fields-refuse _ (c .before .r2 .given .0 .0) columns (c .before .before .before .before .new .ensures)
+    (sym (c .before .before .before .keep-fields .ensures) ∙ ap keptTold (c .before .r2 .given .1))) (refl, refl)
 
 keys-checked-requires : tie.Need-keys-checked-requires
 keys-checked-requires c κs = search needs
@@ -78,18 +87,41 @@ enum-known-r-3 c = search needs
 
 returns-4 : tie.Need-returns-4
 returns-4 c =
-    let a = c .before .before .before .before .before .before .before .before .before .before .before .before .before .before .before .before .before .before .args in
-    let columns = columned (a .dialect) (a .event .now) (a .e) _ _ _ (c .before .before .before .before .before .before .before .before .before .before .before .before .before .before .before .part-of .ensures) (c .before .before .before .before .before .before .before .before .before .before .before .before .before .before .part-of2 .ensures) (c .before .before .before .before .before .before .before .before .before .before .before .before .before .if1 .left)
-    (sym (c .before .before .before .before .before .before .before .before .before .before .before .before .take-columns .ensures) ∙ ap sizesTold (c .before .before .before .before .before .before .before .before .before .before .sizes .given .1)) in
-    let fields = fielded columns (c .before .before .before .before .before .before .before .before .new .ensures) (sym (c .before .before .before .before .before .before .before .keep-fields .ensures) ∙ ap keptOf (c .before .before .before .before .before .kept .given .1)) in
-    rw (keys-refuse (c .before .r3 .given .0 .0) fields (sym (c .before .before .before .keys-checked .ensures) ∙ ap judgedOf (c .before .r3 .given .1))) (refl, refl)
+    let a =
+    c .before .before .before .before .before .before .before .before .before .before .before .before .before .before .before .before
+    .before .before .args in
+    let columns =
+    columned (a .dialect) (a .event .now) (a .e) _ _ _
+    (c .before .before .before .before .before .before .before .before .before .before .before .before .before .before .before .part-of
+    .ensures) (c .before .before .before .before .before .before .before .before .before .before .before .before .before .before
+    .part-of2 .ensures) (c .before .before .before .before .before .before .before .before .before .before .before .before .before .if1
+    .left)
+    (sym (c .before .before .before .before .before .before .before .before .before .before .before .before .take-columns .ensures)
+    ∙ ap sizesTold (c .before .before .before .before .before .before .before .before .before .before .sizes .given .1)) in
+    let fields =
+    fielded columns (c .before .before .before .before .before .before .before .before .new .ensures)
+    (sym (c .before .before .before .before .before .before .before .keep-fields .ensures)
+    ∙ ap keptTold (c .before .before .before .before .before .kept .given .1)) in
+    rw (keys-refuse (c .before .r3 .given .0 .0) fields
+    (sym (c .before .before .before .keys-checked .ensures) ∙ ap judgedTold (c .before .r3 .given .1))) (refl, refl)
 
 write-record-requires : tie.Need-write-record-requires
 write-record-requires c κs =
-    let a = c .before .before .before .before .before .before .before .before .before .before .before .before .before .before .before .before .before .before .args in
-    let columns = columned (a .dialect) (a .event .now) (a .e) _ _ _ (c .before .before .before .before .before .before .before .before .before .before .before .before .before .before .before .part-of .ensures) (c .before .before .before .before .before .before .before .before .before .before .before .before .before .before .part-of2 .ensures) (c .before .before .before .before .before .before .before .before .before .before .before .before .before .if1 .left)
-    (sym (c .before .before .before .before .before .before .before .before .before .before .before .before .take-columns .ensures) ∙ ap sizesTold (c .before .before .before .before .before .before .before .before .before .before .sizes .given .1)) in
-    let fields = fielded columns (c .before .before .before .before .before .before .before .before .new .ensures) (sym (c .before .before .before .before .before .before .before .keep-fields .ensures) ∙ ap keptOf (c .before .before .before .before .before .kept .given .1)) in
+    let a =
+    c .before .before .before .before .before .before .before .before .before .before .before .before .before .before .before .before
+    .before .before .args in
+    let columns =
+    columned (a .dialect) (a .event .now) (a .e) _ _ _
+    (c .before .before .before .before .before .before .before .before .before .before .before .before .before .before .before .part-of
+    .ensures) (c .before .before .before .before .before .before .before .before .before .before .before .before .before .before
+    .part-of2 .ensures) (c .before .before .before .before .before .before .before .before .before .before .before .before .before .if1
+    .left)
+    (sym (c .before .before .before .before .before .before .before .before .before .before .before .before .take-columns .ensures)
+    ∙ ap sizesTold (c .before .before .before .before .before .before .before .before .before .before .sizes .given .1)) in
+    let fields =
+    fielded columns (c .before .before .before .before .before .before .before .before .new .ensures)
+    (sym (c .before .before .before .before .before .before .before .keep-fields .ensures)
+    ∙ ap keptTold (c .before .before .before .before .before .kept .given .1)) in
     takes fields
 
 same-length : tie.Need-same-length
@@ -97,11 +129,26 @@ same-length c = search needs
 
 returns-5 : tie.Need-returns-5
 returns-5 c =
-    let a = c .before .before .before .before .before .before .before .before .before .before .before .before .before .before .before .before .before .before .before .before .before .args in
-    let columns = columned (a .dialect) (a .event .now) (a .e) _ _ _ (c .before .before .before .before .before .before .before .before .before .before .before .before .before .before .before .before .before .before .part-of .ensures) (c .before .before .before .before .before .before .before .before .before .before .before .before .before .before .before .before .before .part-of2 .ensures) (c .before .before .before .before .before .before .before .before .before .before .before .before .before .before .before .before .if1 .left)
-    (sym (c .before .before .before .before .before .before .before .before .before .before .before .before .before .before .before .take-columns .ensures) ∙ ap sizesTold (c .before .before .before .before .before .before .before .before .before .before .before .before .before .sizes .given .1)) in
-    let fields = fielded columns (c .before .before .before .before .before .before .before .before .before .before .before .new .ensures) (sym (c .before .before .before .before .before .before .before .before .before .before .keep-fields .ensures) ∙ ap keptOf (c .before .before .before .before .before .before .before .before .kept .given .1)) in
-    rw (keys-pass fields (sym (c .before .before .before .before .before .before .keys-checked .ensures) ∙ ap judgedOf (c .before .before .before .before .enum-told .given .1))) (c .before .before .write-record .ensures)
+    let a =
+    c .before .before .before .before .before .before .before .before .before .before .before .before .before .before .before .before
+    .before .before .before .before .before .args in
+    let columns =
+    columned (a .dialect) (a .event .now) (a .e) _ _ _
+    (c .before .before .before .before .before .before .before .before .before .before .before .before .before .before .before .before
+    .before .before .part-of .ensures)
+    (c .before .before .before .before .before .before .before .before .before .before .before .before .before .before .before .before
+    .before .part-of2 .ensures)
+    (c .before .before .before .before .before .before .before .before .before .before .before .before .before .before .before .before
+    .if1 .left)
+    (sym (c .before .before .before .before .before .before .before .before .before .before .before .before .before .before .before
+    .take-columns .ensures) ∙ ap sizesTold
+    (c .before .before .before .before .before .before .before .before .before .before .before .before .before .sizes .given .1)) in
+    let fields =
+    fielded columns (c .before .before .before .before .before .before .before .before .before .before .before .new .ensures)
+    (sym (c .before .before .before .before .before .before .before .before .before .before .keep-fields .ensures)
+    ∙ ap keptTold (c .before .before .before .before .before .before .before .before .kept .given .1)) in
+    rw (keys-pass fields (sym (c .before .before .before .before .before .before .keys-checked .ensures)
+    ∙ ap judgedTold (c .before .before .before .before .enum-told .given .1))) (c .before .before .write-record .ensures)
 
 pub check-event-spec : {M : Type 1} → statement M
 check-event-spec =

@@ -1,6 +1,6 @@
 -- `map_check::names::name_part` meets its contract. Assumes nothing.
 use mathlib.Core.Path.{sym, ap, _∙_}
-use Rattle.map_check.specs.Names.{nameOf}
+use Rattle.map_check.specs.Names.{nameTold}
 use borrow.Author.Needs.{needs}
 use Rattle.map_check.proofs.names.name_part.Statement.{statement}
 use Rattle.map_check.proofs.names.name_part.Tie as tie
@@ -35,10 +35,14 @@ part-result-end : tie.Need-part-result-end
 part-result-end c = search needs
 
 returns : tie.Need-returns
-returns c = rw (sym (c .before .before .before .before .before .column-name .ensures) ∙ ap nameOf (c .before .before .before .part .given .1), ← (c .before .list-of .ensures)) (c .part-of .ensures)
+returns c =
+    rw (
+      sym (c .before .before .before .before .before .column-name .ensures) ∙ ap nameTold (c .before .before .before .part .given .1),
+      ← (c .before .list-of .ensures),
+    ) (c .part-of .ensures)
 
 returns-2 : tie.Need-returns-2
-returns-2 c = rw (sym (c .before .before .before .column-name .ensures) ∙ ap nameOf (c .before .enum-told .given .1))
+returns-2 c = rw (sym (c .before .before .before .column-name .ensures) ∙ ap nameTold (c .before .enum-told .given .1))
 
 pub name-part-spec : {M : Type 1} → statement M
 name-part-spec =

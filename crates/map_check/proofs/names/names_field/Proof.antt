@@ -1,7 +1,7 @@
 -- `map_check::names::names_field` meets its contract. Assumes nothing.
 use mathlib.Core.Path.{sym, ap, _∙_}
-use Rattle.table_map.specs.Events.{eventOf}
-use Rattle.map_check.proofs.NameLooks.{names-of-map}
+use Rattle.table_map.specs.Events.{eventTold}
+use Rattle.map_check.proofs.NameLaws.NameLooks.{names-of-map}
 use borrow.Author.Needs.{needs}
 use Rattle.map_check.proofs.names.names_field.Statement.{statement}
 use Rattle.map_check.proofs.names.names_field.Tie as tie
@@ -22,7 +22,7 @@ enum-known-r : tie.Need-enum-known-r
 enum-known-r c = search needs
 
 returns : tie.Need-returns
-returns c = rw (sym (c .before .before .before .read-event .ensures) ∙ ap eventOf (c .before .r .given .1))
+returns c = rw (sym (c .before .before .before .read-event .ensures) ∙ ap eventTold (c .before .r .given .1))
 
 part-of-requires : tie.Need-part-of-requires
 part-of-requires c κs = search needs
@@ -34,7 +34,11 @@ find-names-requires : tie.Need-find-names-requires
 find-names-requires c κs = search needs
 
 returns-2 : tie.Need-returns-2
-returns-2 c = names-of-map _ _ _ _ _ _ _ (sym (c .before .before .before .before .before .before .before .before .read-event .ensures) ∙ ap eventOf (c .before .before .before .before .before .before .e .given .1)) (c .before .before .part-of .ensures) (c .before .new .ensures) (c .find-names .ensures)
+returns-2 c =
+    names-of-map _ _ _ _ _ _ _
+    (sym (c .before .before .before .before .before .before .before .before .read-event .ensures)
+    ∙ ap eventTold (c .before .before .before .before .before .before .e .given .1)) (c .before .before .part-of .ensures)
+    (c .before .new .ensures) (c .find-names .ensures)
 
 pub names-field-spec : {M : Type 1} → statement M
 names-field-spec =

@@ -21,11 +21,19 @@ is-enum-or-set-requires c κs = search needs
 
 returns-2 : tie.Need-returns-2
 unfolding charsetHolds
-returns-2 c = rw (sym (c .before .before .before .is-character .ensures) ∙ c .before .before .if1 .left, sym (c .before .is-enum-or-set .ensures) ∙ c .if2 .taken)
+returns-2 c =
+    rw (
+      sym (c .before .before .before .is-character .ensures) ∙ c .before .before .if1 .left,
+      sym (c .before .is-enum-or-set .ensures) ∙ c .if2 .taken,
+    )
 
 returns-3 : tie.Need-returns-3
 unfolding charsetHolds
-returns-3 c = rw (sym (c .before .before .before .before .is-character .ensures) ∙ c .before .before .before .if1 .left, sym (c .before .before .is-enum-or-set .ensures) ∙ c .before .if2 .left)
+returns-3 c =
+    rw (
+      sym (c .before .before .before .before .is-character .ensures) ∙ c .before .before .before .if1 .left,
+      sym (c .before .before .is-enum-or-set .ensures) ∙ c .before .if2 .left,
+    )
 
 pub charset-holds-spec : {M : Type 1} → statement M
 charset-holds-spec =

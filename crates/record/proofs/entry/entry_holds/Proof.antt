@@ -22,7 +22,9 @@ is-accepted-requires c κs = search needs
 
 returns : tie.Need-returns
 unfolding entryHolds
-returns c = rw (ap (λ (k : Column). isTaken (shapeOf k)) (sym (c .before .before .column-of .ensures)) ∙ sym (c .before .is-accepted .ensures) ∙ not-true _ (c .if1 .taken))
+returns c =
+    rw (ap (λ (k : Column). isTaken (shapeOf k)) (sym (c .before .before .column-of .ensures)) ∙ sym (c .before .is-accepted .ensures)
+    ∙ not-true _ (c .if1 .taken))
 
 flags-hold-requires : tie.Need-flags-hold-requires
 flags-hold-requires c κs = search needs
@@ -32,7 +34,8 @@ unfolding entryHolds
 returns-2 c =
     let x = c .before .before in
     rw (
-      ap (λ (k : Column). isTaken (shapeOf k)) (sym (x .before .before .column-of .ensures)) ∙ sym (x .before .is-accepted .ensures) ∙ not-false _ (x .if1 .left),
+      ap (λ (k : Column). isTaken (shapeOf k)) (sym (x .before .before .column-of .ensures)) ∙ sym (x .before .is-accepted .ensures)
+          ∙ not-false _ (x .if1 .left),
       sym (c .before .flags-hold .ensures) ∙ not-true _ (c .if2 .taken),
     )
 
@@ -45,7 +48,8 @@ returns-3 c =
     let y = c .before in
     let x = y .before .before in
     rw (
-      ap (λ (k : Column). isTaken (shapeOf k)) (sym (x .before .before .column-of .ensures)) ∙ sym (x .before .is-accepted .ensures) ∙ not-false _ (x .if1 .left),
+      ap (λ (k : Column). isTaken (shapeOf k)) (sym (x .before .before .column-of .ensures)) ∙ sym (x .before .is-accepted .ensures)
+          ∙ not-false _ (x .if1 .left),
       sym (y .before .flags-hold .ensures) ∙ not-false _ (y .if2 .left),
       c .charset-holds .ensures,
     )

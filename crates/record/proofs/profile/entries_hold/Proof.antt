@@ -1,4 +1,5 @@
--- `record::profile::entries_hold` meets its contract. The loop's invariant: whether the entries left hold says whether all do. Assumes nothing.
+-- `record::profile::entries_hold` meets its contract. The loop's invariant: whether the entries left hold says whether all do. Assumes
+-- nothing.
 use Prim.Native.Nat.{ℕ, _-_, _≤_}
 use mathlib.Core.Path.{_≡_, sym, ap, _∙_}
 use native.Mathlib.Nat.{sub-zero}
@@ -34,7 +35,8 @@ returns : tie.Need-returns Inv-loop μ-loop
 returns c =
     let t = c .before .before .before in
     let l = t .before .loop in
-    let h = ap entryHolds (sym (c .before .before .entry-in .ensures)) ∙ sym (c .before .entry-holds .ensures) ∙ not-true _ (c .if1 .taken) in
+    let h =
+    ap entryHolds (sym (c .before .before .entry-in .ensures)) ∙ sym (c .before .entry-holds .ensures) ∙ not-true _ (c .if1 .taken) in
     sym (sym (l .inv .1) ∙ stops _ _ (l .j) (t .loop-test .taken) h)
 
 add-j : tie.Need-add-j Inv-loop μ-loop
@@ -47,7 +49,8 @@ loop-again : tie.Need-loop-again Inv-loop μ-loop
 loop-again c =
     let t = c .before .before .before in
     let l = t .before .loop in
-    let h = ap entryHolds (sym (c .before .before .entry-in .ensures)) ∙ sym (c .before .entry-holds .ensures) ∙ not-false _ (c .if1 .left) in
+    let h =
+    ap entryHolds (sym (c .before .before .entry-in .ensures)) ∙ sym (c .before .entry-holds .ensures) ∙ not-false _ (c .if1 .left) in
     (omega arith, sym (goes-on _ _ (l .j) (t .loop-test .taken) h) ∙ l .inv .1)
 
 returns-2 : tie.Need-returns-2 Inv-loop μ-loop

@@ -1,7 +1,8 @@
 -- `rows_event::event::read_rows` meets its contract. `n` and `f` are where the number of columns and the form are known. Assumes nothing.
 use mathlib.Core.Path.{sym, ap, _∙_}
-use Rattle.record.specs.Records.{recordOf}
-use Rattle.rows_event.specs.Events.{readRows, formTold, partsTold}
+use Rattle.record.specs.Records.{recordTold}
+use Rattle.rows_event.specs.Events.{readRows}
+use Rattle.rows_event.specs.Inner.Events.{formTold, rowsPartsTold}
 use borrow.Author.Needs.{needs}
 use Rattle.rows_event.proofs.event.read_rows.Statement.{statement}
 use Rattle.rows_event.proofs.event.read_rows.Tie as tie
@@ -23,7 +24,7 @@ enum-known-r c = search needs
 
 returns : tie.Need-returns
 unfolding readRows
-returns c = rw (sym (c .before .before .before .read-record .ensures) ∙ ap recordOf (c .before .r .given .1))
+returns c = rw (sym (c .before .before .before .read-record .ensures) ∙ ap recordTold (c .before .r .given .1))
 
 form-of-requires : tie.Need-form-of-requires
 form-of-requires c κs = search needs
@@ -38,7 +39,10 @@ returns-2 : tie.Need-returns-2
 unfolding readRows
 returns-2 c =
     let n = c .before .before .before .before .before in
-    rw (sym (n .before .before .read-record .ensures) ∙ ap recordOf (n .columns .given .1), sym (c .before .before .before .form-of .ensures) ∙ ap formTold (c .before .r2 .given .1))
+    rw (
+      sym (n .before .before .read-record .ensures) ∙ ap recordTold (n .columns .given .1),
+      sym (c .before .before .before .form-of .ensures) ∙ ap formTold (c .before .r2 .given .1),
+    )
 
 read-parts-requires : tie.Need-read-parts-requires
 read-parts-requires c κs = search needs
@@ -58,9 +62,9 @@ returns-3 c =
     let f = c .before .before .before .before .before .before in
     let n = f .before .before .before .before in
     rw (
-      sym (n .before .before .read-record .ensures) ∙ ap recordOf (n .columns .given .1),
+      sym (n .before .before .read-record .ensures) ∙ ap recordTold (n .columns .given .1),
       sym (f .before .before .form-of .ensures) ∙ ap formTold (f .form .given .1),
-      sym (c .before .before .before .before .read-parts .ensures) ∙ ap partsTold (c .before .before .parts .given .1),
+      sym (c .before .before .before .before .read-parts .ensures) ∙ ap rowsPartsTold (c .before .before .parts .given .1),
       c .fit .ensures,
     )
 
@@ -70,9 +74,9 @@ returns-4 c =
     let f = c .before .before .before .before .before in
     let n = f .before .before .before .before in
     rw (
-      sym (n .before .before .read-record .ensures) ∙ ap recordOf (n .columns .given .1),
+      sym (n .before .before .read-record .ensures) ∙ ap recordTold (n .columns .given .1),
       sym (f .before .before .form-of .ensures) ∙ ap formTold (f .form .given .1),
-      sym (c .before .before .before .read-parts .ensures) ∙ ap partsTold (c .before .r3 .given .1),
+      sym (c .before .before .before .read-parts .ensures) ∙ ap rowsPartsTold (c .before .r3 .given .1),
     )
 
 pub read-rows-spec : {M : Type 1} → statement M

@@ -1,7 +1,7 @@
 -- `rows_event::images::is_empty` meets its contract. `n` is where the number of columns is known. Assumes nothing.
 use mathlib.Core.Path.{sym, ap, _∙_}
 use Rattle.wire.proofs.Outcomes.{ok-not-refused}
-use Rattle.record.specs.Records.{readRecord, recordOf}
+use Rattle.record.specs.Records.{readRecord, recordTold}
 use Rattle.record.proofs.Valid.{read-valid}
 use Rattle.rows_event.proofs.Steps.{not-empty, second-empty}
 use borrow.Author.Needs.{needs}
@@ -29,8 +29,11 @@ returns : tie.Need-returns
 returns c =
     let n = c .before .before .before .before in
     let a = n .before .before .before .before .before .args in
-    let v = read-valid (a .profile .now) (n .columns .given .0 .0) (sym (n .before .before .read-record .ensures) ∙ ap recordOf (n .columns .given .1)) in
-    not-empty (a .profile .now) (a .rows) (a .event .now) (n .columns .given .0 .0) (c .before .count-bits .result) (v .1) (rw (← c .before .before .set-of .ensures) (c .before .count-bits .ensures)) (c .if1 .taken)
+    let v =
+    read-valid (a .profile .now) (n .columns .given .0 .0)
+    (sym (n .before .before .read-record .ensures) ∙ ap recordTold (n .columns .given .1)) in
+    not-empty (a .profile .now) (a .rows) (a .event .now) (n .columns .given .0 .0) (c .before .count-bits .result) (v .1)
+    (rw (← c .before .before .set-of .ensures) (c .before .count-bits .ensures)) (c .if1 .taken)
 
 set-of-requires-2 : tie.Need-set-of-requires-2
 set-of-requires-2 c κs = search needs
@@ -45,14 +48,19 @@ returns-2 : tie.Need-returns-2
 returns-2 c =
     let n = c .before .before .before .before .before .before in
     let a = n .before .before .before .before .before .args in
-    let v = read-valid (a .profile .now) (n .columns .given .0 .0) (sym (n .before .before .read-record .ensures) ∙ ap recordOf (n .columns .given .1)) in
-    second-empty (a .profile .now) (a .rows) (a .event .now) (n .columns .given .0 .0) (c .before .before .before .count-bits .result) (c .count-bits2 .result) (v .1) (rw (← c .before .before .before .before .set-of .ensures) (c .before .before .before .count-bits .ensures)) (c .before .before .if1 .left)
+    let v =
+    read-valid (a .profile .now) (n .columns .given .0 .0)
+    (sym (n .before .before .read-record .ensures) ∙ ap recordTold (n .columns .given .1)) in
+    second-empty (a .profile .now) (a .rows) (a .event .now) (n .columns .given .0 .0) (c .before .before .before .count-bits .result)
+    (c .count-bits2 .result) (v .1)
+    (rw (← c .before .before .before .before .set-of .ensures) (c .before .before .before .count-bits .ensures))
+    (c .before .before .if1 .left)
     (rw (← c .before .set-of2 .ensures) (c .count-bits2 .ensures))
 
 returns-3 : tie.Need-returns-3
 unfolding readRecord
 returns-3 c =
-    let e = sym (c .before .before .read-record .ensures) ∙ ap recordOf (c .enum-told .given .1) in
+    let e = sym (c .before .before .read-record .ensures) ∙ ap recordTold (c .enum-told .given .1) in
     absurd (ok-not-refused (rw (c .before .before .before .before .before .pre) at e))
 
 pub is-empty-spec : {M : Type 1} → statement M

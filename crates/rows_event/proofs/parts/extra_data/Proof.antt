@@ -3,8 +3,8 @@ use Prim.Native.Nat.{_≤_, _<_}
 use mathlib.Core.Path.{sym, ap, _∙_}
 use native.Mathlib.Omega.{arith}
 use borrow.Author.Tests.{lt-ltb, le-ltb}
-use Rattle.wire.specs.Parts.{reachOf}
-use Rattle.wire.specs.Packed.{packedOf}
+use Rattle.wire.specs.Parts.{reachTold}
+use Rattle.wire.specs.Packed.{packedTold}
 use Rattle.wire.proofs.Parts.{within-ok}
 use Rattle.rows_event.specs.Events.{extraData}
 use borrow.Author.Needs.{needs}
@@ -27,7 +27,7 @@ enum-known-r c = search needs
 
 returns : tie.Need-returns
 unfolding extraData
-returns c = rw (sym (c .before .before .before .read-fixed .ensures) ∙ ap packedOf (c .before .r .given .1))
+returns c = rw (sym (c .before .before .before .read-fixed .ensures) ∙ ap packedTold (c .before .r .given .1))
 
 refuse-requires : tie.Need-refuse-requires
 refuse-requires c κs = search needs
@@ -37,7 +37,7 @@ unfolding extraData
 returns-2 c =
     let n = c .before .before .before in
     let h : n .value .given .0 .0 < 2 = omega (arith, c .before .if1 .taken) in
-    rw (sym (n .before .before .read-fixed .ensures) ∙ ap packedOf (n .value .given .1), lt-ltb _ _ h, c .refuse .ensures)
+    rw (sym (n .before .before .read-fixed .ensures) ∙ ap packedTold (n .value .given .1), lt-ltb _ _ h, c .refuse .ensures)
 
 within-requires : tie.Need-within-requires
 within-requires c κs = search needs
@@ -54,15 +54,15 @@ returns-3 c =
     let n = c .before .before .before .before .before .before in
     let h : 2 ≤ n .value .given .0 .0 = omega (arith, c .before .before .before .before .if1 .left) in
     rw (
-      sym (n .before .before .read-fixed .ensures) ∙ ap packedOf (n .value .given .1),
+      sym (n .before .before .read-fixed .ensures) ∙ ap packedTold (n .value .given .1),
       le-ltb _ _ h,
-      sym (c .before .before .before .within .ensures) ∙ ap reachOf (c .before .r2 .given .1),
+      sym (c .before .before .before .within .ensures) ∙ ap reachTold (c .before .r2 .given .1),
     )
 
 add-start : tie.Need-add-start
 add-start c =
     let n = c .before .before .before .before .before .before in
-    let w = within-ok _ _ _ _ _ (sym (c .before .before .before .within .ensures) ∙ ap reachOf (c .before .next .given .1)) in
+    let w = within-ok _ _ _ _ _ (sym (c .before .before .before .within .ensures) ∙ ap reachTold (c .before .next .given .1)) in
     omega (arith, w .0, w .1, c .before .before .before .before .if1 .left)
 
 returns-4 : tie.Need-returns-4
@@ -71,9 +71,9 @@ returns-4 c =
     let n = c .before .before .before .before .before .before in
     let h : 2 ≤ n .value .given .0 .0 = omega (arith, c .before .before .before .before .if1 .left) in
     rw (
-      sym (n .before .before .read-fixed .ensures) ∙ ap packedOf (n .value .given .1),
+      sym (n .before .before .read-fixed .ensures) ∙ ap packedTold (n .value .given .1),
       le-ltb _ _ h,
-      sym (c .before .before .before .within .ensures) ∙ ap reachOf (c .before .next .given .1),
+      sym (c .before .before .before .within .ensures) ∙ ap reachTold (c .before .next .given .1),
     )
 
 pub extra-data-spec : {M : Type 1} → statement M

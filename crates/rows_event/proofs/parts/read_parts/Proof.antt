@@ -1,8 +1,10 @@
--- `rows_event::parts::read_parts` meets its contract. `i`, `a` and `x` are where the id, the flags and the extra data are known. Assumes nothing.
+-- `rows_event::parts::read_parts` meets its contract. `i`, `a` and `x` are where the id, the flags and the extra data are known. Assumes
+-- nothing.
 use mathlib.Core.Path.{sym, ap, _∙_}
-use Rattle.wire.specs.Parts.{reachOf}
-use Rattle.wire.specs.Packed.{readFixed, packedOf}
-use Rattle.rows_event.specs.Events.{readParts, extraTold, setsTold}
+use Rattle.wire.specs.Parts.{reachTold}
+use Rattle.wire.specs.Packed.{readFixed, packedTold}
+use Rattle.rows_event.specs.Events.{readParts}
+use Rattle.rows_event.specs.Inner.Events.{extraTold, setsTold}
 use borrow.Author.Needs.{needs}
 use Rattle.rows_event.proofs.parts.read_parts.Statement.{statement}
 use Rattle.rows_event.proofs.parts.read_parts.Tie as tie
@@ -25,7 +27,7 @@ enum-known-r c = search needs
 
 returns : tie.Need-returns
 unfolding readParts
-returns c = rw (sym (c .before .before .before .read-fixed .ensures) ∙ ap packedOf (c .before .r .given .1))
+returns c = rw (sym (c .before .before .before .read-fixed .ensures) ∙ ap packedTold (c .before .r .given .1))
 
 within-requires : tie.Need-within-requires
 within-requires c κs = search needs
@@ -40,7 +42,10 @@ returns-2 : tie.Need-returns-2
 unfolding readParts readFixed
 returns-2 c =
     let i = c .before .before .before .before .before in
-    rw (sym (i .before .before .read-fixed .ensures) ∙ ap packedOf (i .value .given .1), sym (c .before .before .before .within .ensures) ∙ ap reachOf (c .before .r2 .given .1))
+    rw (
+      sym (i .before .before .read-fixed .ensures) ∙ ap packedTold (i .value .given .1),
+      sym (c .before .before .before .within .ensures) ∙ ap reachTold (c .before .r2 .given .1),
+    )
 
 read-le-requires : tie.Need-read-le-requires
 read-le-requires c κs = search needs
@@ -63,8 +68,8 @@ returns-3 c =
     let a = c .before .before .before .before .before in
     let i = a .before .before .before .before in
     rw (
-      sym (i .before .before .read-fixed .ensures) ∙ ap packedOf (i .value .given .1),
-      sym (a .before .before .within .ensures) ∙ ap reachOf (a .enum-told .given .1),
+      sym (i .before .before .read-fixed .ensures) ∙ ap packedTold (i .value .given .1),
+      sym (a .before .before .within .ensures) ∙ ap reachTold (a .enum-told .given .1),
       sym (c .before .before .before .extra-at .ensures) ∙ ap extraTold (c .before .r3 .given .1),
     )
 
@@ -84,8 +89,8 @@ returns-4 c =
     let a = x .before .before .before .before in
     let i = a .before .before .before .before in
     rw (
-      sym (i .before .before .read-fixed .ensures) ∙ ap packedOf (i .value .given .1),
-      sym (a .before .before .within .ensures) ∙ ap reachOf (a .enum-told .given .1),
+      sym (i .before .before .read-fixed .ensures) ∙ ap packedTold (i .value .given .1),
+      sym (a .before .before .within .ensures) ∙ ap reachTold (a .enum-told .given .1),
       sym (x .before .before .extra-at .ensures) ∙ ap extraTold (x .cut .given .1),
       sym (c .before .before .before .read-sets .ensures) ∙ ap setsTold (c .before .r4 .given .1),
     )
@@ -97,8 +102,8 @@ returns-5 c =
     let a = x .before .before .before .before in
     let i = a .before .before .before .before in
     rw (
-      sym (i .before .before .read-fixed .ensures) ∙ ap packedOf (i .value .given .1),
-      sym (a .before .before .within .ensures) ∙ ap reachOf (a .enum-told .given .1),
+      sym (i .before .before .read-fixed .ensures) ∙ ap packedTold (i .value .given .1),
+      sym (a .before .before .within .ensures) ∙ ap reachTold (a .enum-told .given .1),
       sym (x .before .before .extra-at .ensures) ∙ ap extraTold (x .cut .given .1),
       sym (c .before .before .before .read-sets .ensures) ∙ ap setsTold (c .before .sets .given .1),
       ← x .before .before .before .read-le .ensures .0,

@@ -1,6 +1,6 @@
 -- `rows_event::parts::read_sets` meets its contract. Assumes nothing.
 use mathlib.Core.Path.{sym, ap, _∙_}
-use Rattle.wire.specs.Packed.{packedOf}
+use Rattle.wire.specs.Packed.{packedTold}
 use Rattle.rows_event.specs.Events.{readSets}
 use borrow.Author.Needs.{needs}
 use Rattle.rows_event.proofs.parts.read_sets.Statement.{statement}
@@ -24,11 +24,15 @@ enum-known-r c = search needs
 
 returns : tie.Need-returns
 unfolding readSets
-returns c = rw (sym (c .before .before .before .before .read-packed .ensures) ∙ ap packedOf (c .before .before .value .given .1), c .sets-at .ensures)
+returns c =
+    rw (
+      sym (c .before .before .before .before .read-packed .ensures) ∙ ap packedTold (c .before .before .value .given .1),
+      c .sets-at .ensures,
+    )
 
 returns-2 : tie.Need-returns-2
 unfolding readSets
-returns-2 c = rw (sym (c .before .before .before .read-packed .ensures) ∙ ap packedOf (c .before .r .given .1))
+returns-2 c = rw (sym (c .before .before .before .read-packed .ensures) ∙ ap packedTold (c .before .r .given .1))
 
 pub read-sets-spec : {M : Type 1} → statement M
 read-sets-spec =

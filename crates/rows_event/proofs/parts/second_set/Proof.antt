@@ -1,6 +1,6 @@
 -- `rows_event::parts::second_set` meets its contract. Assumes nothing.
 use mathlib.Core.Path.{sym, ap, _∙_}
-use Rattle.wire.specs.Parts.{reachOf}
+use Rattle.wire.specs.Parts.{reachTold}
 use Rattle.rows_event.specs.Events.{secondSet}
 use borrow.Author.Needs.{needs}
 use Rattle.rows_event.proofs.parts.second_set.Statement.{statement}
@@ -20,11 +20,11 @@ enum-known-r c = search needs
 
 returns : tie.Need-returns
 unfolding secondSet
-returns c = rw (sym (c .before .before .before .within .ensures) ∙ ap reachOf (c .before .next .given .1))
+returns c = rw (sym (c .before .before .before .within .ensures) ∙ ap reachTold (c .before .next .given .1))
 
 returns-2 : tie.Need-returns-2
 unfolding secondSet
-returns-2 c = rw (sym (c .before .before .before .within .ensures) ∙ ap reachOf (c .before .r .given .1))
+returns-2 c = rw (sym (c .before .before .before .within .ensures) ∙ ap reachTold (c .before .r .given .1))
 
 pub second-set-spec : {M : Type 1} → statement M
 second-set-spec =

@@ -1,7 +1,8 @@
 -- `rows_event::parts::sets_at` meets its contract. `a` is where what the definition calls so is known. Assumes nothing.
 use mathlib.Core.Path.{sym, ap, _∙_}
-use Rattle.wire.specs.Parts.{reachOf}
-use Rattle.rows_event.specs.Events.{setsAt, secondTold}
+use Rattle.wire.specs.Parts.{reachTold}
+use Rattle.rows_event.specs.Events.{setsAt}
+use Rattle.rows_event.specs.Inner.Events.{secondTold}
 use borrow.Author.Needs.{needs}
 use Rattle.rows_event.proofs.parts.sets_at.Statement.{statement}
 use Rattle.rows_event.proofs.parts.sets_at.Tie as tie
@@ -25,7 +26,11 @@ enum-known-r c = search needs
 
 returns : tie.Need-returns
 unfolding setsAt
-returns c = rw (← c .before .before .before .before .bytes-for .ensures, sym (c .before .before .before .within .ensures) ∙ ap reachOf (c .before .r .given .1))
+returns c =
+    rw (
+      ← c .before .before .before .before .bytes-for .ensures,
+      sym (c .before .before .before .within .ensures) ∙ ap reachTold (c .before .r .given .1),
+    )
 
 second-at-requires : tie.Need-second-at-requires
 second-at-requires c κs = search needs
@@ -42,7 +47,7 @@ returns-2 c =
     let a = c .before .before .before .before .before in
     rw (
       ← a .before .before .before .bytes-for .ensures,
-      sym (a .before .before .within .ensures) ∙ ap reachOf (a .next .given .1),
+      sym (a .before .before .within .ensures) ∙ ap reachTold (a .next .given .1),
       sym (c .before .before .before .second-at .ensures) ∙ ap secondTold (c .before .r2 .given .1),
     )
 
@@ -52,7 +57,7 @@ returns-3 c =
     let a = c .before .before .before .before .before in
     rw (
       ← a .before .before .before .bytes-for .ensures,
-      sym (a .before .before .within .ensures) ∙ ap reachOf (a .next .given .1),
+      sym (a .before .before .within .ensures) ∙ ap reachTold (a .next .given .1),
       sym (c .before .before .before .second-at .ensures) ∙ ap secondTold (c .before .cut .given .1),
     )
 

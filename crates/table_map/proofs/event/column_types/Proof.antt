@@ -18,7 +18,8 @@ part-of-requires c κs = search needs
 
 returns : tie.Need-returns
 returns c = let a = c .before .before .before .args in
-    c .part-of .ensures ∙ rw (c .before .event-or-none .ensures) (lent-is-part (λ (e : Event). e .types) refl (a .event .now) (a .post-header) (λ e w. w .types))
+    c .part-of .ensures ∙ rw (c .before .event-or-none .ensures)
+    (lent-is-part (λ (e : Event). e .types) refl (a .event .now) (a .post-header) (λ e w. w .types))
 
 pub column-types-spec : {M : Type 1} → statement M
 column-types-spec = tie.close (tie.spec event-or-none-requires part-of-requires returns)

@@ -18,7 +18,8 @@ part-of-requires c κs = search needs
 
 returns : tie.Need-returns
 returns c = let a = c .before .before .before .args in
-    c .part-of .ensures ∙ rw (c .before .event-or-none .ensures) (lent-is-part (λ (e : Event). e .database) refl (a .event .now) (a .post-header) (λ e w. w .database))
+    c .part-of .ensures ∙ rw (c .before .event-or-none .ensures)
+    (lent-is-part (λ (e : Event). e .database) refl (a .event .now) (a .post-header) (λ e w. w .database))
 
 pub database-name-spec : {M : Type 1} → statement M
 database-name-spec = tie.close (tie.spec event-or-none-requires part-of-requires returns)

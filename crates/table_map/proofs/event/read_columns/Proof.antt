@@ -1,7 +1,8 @@
--- `table_map::event::read_columns` meets its contract. `n`, `a`, `m` and `b` are where what the definition calls so is known. Assumes nothing.
+-- `table_map::event::read_columns` meets its contract. `n`, `a`, `m` and `b` are where what the definition calls so is known. Assumes
+-- nothing.
 use mathlib.Core.Path.{sym, ap, _∙_}
-use Rattle.wire.specs.Parts.{reachOf}
-use Rattle.table_map.specs.Reads.{announcedOf, cutOf}
+use Rattle.wire.specs.Parts.{reachTold}
+use Rattle.table_map.specs.Inner.Reads.{announcedTold, partTold}
 use Rattle.table_map.specs.Events.{readColumns}
 use borrow.Author.Needs.{needs}
 use Rattle.table_map.proofs.event.read_columns.Statement.{statement}
@@ -24,7 +25,7 @@ enum-known-r c = search needs
 
 returns : tie.Need-returns
 unfolding readColumns
-returns c = rw (sym (c .before .before .before .read-length .ensures) ∙ ap announcedOf (c .before .r .given .1))
+returns c = rw (sym (c .before .before .before .read-length .ensures) ∙ ap announcedTold (c .before .r .given .1))
 
 within-requires : tie.Need-within-requires
 within-requires c κs = search needs
@@ -40,8 +41,8 @@ unfolding readColumns
 returns-2 c =
     let n = c .before .before .before .before .before in
     rw (
-      sym (n .before .before .read-length .ensures) ∙ ap announcedOf (n .part .given .1),
-      sym (c .before .before .before .within .ensures) ∙ ap reachOf (c .before .r2 .given .1),
+      sym (n .before .before .read-length .ensures) ∙ ap announcedTold (n .part .given .1),
+      sym (c .before .before .before .within .ensures) ∙ ap reachTold (c .before .r2 .given .1),
     )
 
 long-part-requires : tie.Need-long-part-requires
@@ -59,9 +60,9 @@ returns-3 c =
     let a = c .before .before .before .before .before in
     let n = a .before .before .before .before in
     rw (
-      sym (n .before .before .read-length .ensures) ∙ ap announcedOf (n .part .given .1),
-      sym (a .before .before .within .ensures) ∙ ap reachOf (a .next .given .1),
-      sym (c .before .before .before .long-part .ensures) ∙ ap cutOf (c .before .r3 .given .1),
+      sym (n .before .before .read-length .ensures) ∙ ap announcedTold (n .part .given .1),
+      sym (a .before .before .within .ensures) ∙ ap reachTold (a .next .given .1),
+      sym (c .before .before .before .long-part .ensures) ∙ ap partTold (c .before .r3 .given .1),
     )
 
 bytes-for-requires : tie.Need-bytes-for-requires
@@ -83,11 +84,11 @@ returns-4 c =
     let a = m .before .before .before .before in
     let n = a .before .before .before .before in
     rw (
-      sym (n .before .before .read-length .ensures) ∙ ap announcedOf (n .part .given .1),
-      sym (a .before .before .within .ensures) ∙ ap reachOf (a .next .given .1),
-      sym (m .before .before .long-part .ensures) ∙ ap cutOf (m .cut .given .1),
+      sym (n .before .before .read-length .ensures) ∙ ap announcedTold (n .part .given .1),
+      sym (a .before .before .within .ensures) ∙ ap reachTold (a .next .given .1),
+      sym (m .before .before .long-part .ensures) ∙ ap partTold (m .cut .given .1),
       ← c .before .before .before .before .bytes-for .ensures,
-      sym (c .before .before .before .within2 .ensures) ∙ ap reachOf (c .before .r4 .given .1),
+      sym (c .before .before .before .within2 .ensures) ∙ ap reachTold (c .before .r4 .given .1),
     )
 
 returns-5 : tie.Need-returns-5
@@ -98,11 +99,11 @@ returns-5 c =
     let a = m .before .before .before .before in
     let n = a .before .before .before .before in
     rw (
-      sym (n .before .before .read-length .ensures) ∙ ap announcedOf (n .part .given .1),
-      sym (a .before .before .within .ensures) ∙ ap reachOf (a .next .given .1),
-      sym (m .before .before .long-part .ensures) ∙ ap cutOf (m .cut .given .1),
+      sym (n .before .before .read-length .ensures) ∙ ap announcedTold (n .part .given .1),
+      sym (a .before .before .within .ensures) ∙ ap reachTold (a .next .given .1),
+      sym (m .before .before .long-part .ensures) ∙ ap partTold (m .cut .given .1),
       ← c .before .before .before .before .before .bytes-for .ensures,
-      sym (b .before .before .within2 .ensures) ∙ ap reachOf (b .next2 .given .1),
+      sym (b .before .before .within2 .ensures) ∙ ap reachTold (b .next2 .given .1),
     )
 
 pub read-columns-spec : {M : Type 1} → statement M

@@ -1,13 +1,13 @@
--- `table_map::event::read_event` meets its contract. `a`, `b`, `x` and `y` are where what the definition calls so is known. Assumes nothing.
-use mathlib.Core.Path.{sym, ap, _∙_}
-use Rattle.wire.specs.Parts.{reachOf}
+-- `table_map::event::read_event` meets its contract. `a`, `b`, `x` and `y` are where what the definition calls so is known. Assumes
+-- nothing.
+use mathlib.Core.Path.{sym, ap, _∙_, _≡_}
+use Rattle.wire.specs.Parts.{reachTold}
 use Rattle.wire.proofs.Parts.{within-ok}
-use Rattle.table_map.specs.Reads.{columnsOf, namesOf}
+use Rattle.table_map.specs.Inner.Reads.{eventColumnsTold, eventNamesTold}
 use Rattle.table_map.specs.Events.{readEvent}
 use Rattle.table_map.proofs.Chains.{columns-end, id-narrow}
 use native.Mathlib.Omega.{arith}
 use Prim.Native.Nat.{min, _≤_}
-use mathlib.Core.Path.{_≡_}
 use borrow.Author.Needs.{needs}
 use Rattle.table_map.proofs.event.read_event.Statement.{statement}
 use Rattle.table_map.proofs.event.read_event.Tie as tie
@@ -35,7 +35,7 @@ returns : tie.Need-returns
 unfolding readEvent
 returns c = rw (
   ← c .before .before .before .before .id-bytes .ensures,
-  sym (c .before .before .before .within .ensures) ∙ ap reachOf (c .before .r .given .1),
+  sym (c .before .before .before .within .ensures) ∙ ap reachTold (c .before .r .given .1),
 )
 
 within-requires-2 : tie.Need-within-requires-2
@@ -53,8 +53,8 @@ returns-2 c =
     let a = c .before .before .before .before .before in
     rw (
       ← a .before .before .before .id-bytes .ensures,
-      sym (a .before .before .within .ensures) ∙ ap reachOf (a .next .given .1),
-      sym (c .before .before .before .within2 .ensures) ∙ ap reachOf (c .before .r2 .given .1),
+      sym (a .before .before .within .ensures) ∙ ap reachTold (a .next .given .1),
+      sym (c .before .before .before .within2 .ensures) ∙ ap reachTold (c .before .r2 .given .1),
     )
 
 read-names-requires : tie.Need-read-names-requires
@@ -73,9 +73,9 @@ returns-3 c =
     let a = b .before .before .before .before in
     rw (
       ← a .before .before .before .id-bytes .ensures,
-      sym (a .before .before .within .ensures) ∙ ap reachOf (a .next .given .1),
-      sym (b .before .before .within2 .ensures) ∙ ap reachOf (b .next2 .given .1),
-      sym (c .before .before .before .read-names .ensures) ∙ ap namesOf (c .before .r3 .given .1),
+      sym (a .before .before .within .ensures) ∙ ap reachTold (a .next .given .1),
+      sym (b .before .before .within2 .ensures) ∙ ap reachTold (b .next2 .given .1),
+      sym (c .before .before .before .read-names .ensures) ∙ ap eventNamesTold (c .before .r3 .given .1),
     )
 
 read-columns-requires : tie.Need-read-columns-requires
@@ -95,14 +95,19 @@ returns-4 c =
     let a = b .before .before .before .before in
     rw (
       ← a .before .before .before .id-bytes .ensures,
-      sym (a .before .before .within .ensures) ∙ ap reachOf (a .next .given .1),
-      sym (b .before .before .within2 .ensures) ∙ ap reachOf (b .next2 .given .1),
-      sym (x .before .before .read-names .ensures) ∙ ap namesOf (x .names .given .1),
-      sym (c .before .before .before .read-columns .ensures) ∙ ap columnsOf (c .before .r4 .given .1),
+      sym (a .before .before .within .ensures) ∙ ap reachTold (a .next .given .1),
+      sym (b .before .before .within2 .ensures) ∙ ap reachTold (b .next2 .given .1),
+      sym (x .before .before .read-names .ensures) ∙ ap eventNamesTold (x .names .given .1),
+      sym (c .before .before .before .read-columns .ensures) ∙ ap eventColumnsTold (c .before .r4 .given .1),
     )
 
 sub-len : tie.Need-sub-len
-sub-len c = omega (arith, columns-end _ _ _ (sym (c .before .before .before .read-columns .ensures) ∙ ap columnsOf (c .before .columns .given .1)))
+sub-len c =
+    omega (
+      arith,
+      columns-end _ _ _
+          (sym (c .before .before .before .read-columns .ensures) ∙ ap eventColumnsTold (c .before .columns .given .1)),
+    )
 
 read-le-requires : tie.Need-read-le-requires
 read-le-requires c κs = search needs
@@ -124,16 +129,16 @@ returns-5 c =
     let i = a .before .before .before in
     let v = i .before .before .args in
     let w = i .id-bytes .result in
-    let e = sym (a .before .before .within .ensures) ∙ ap reachOf (a .next .given .1) in
+    let e = sym (a .before .before .within .ensures) ∙ ap reachTold (a .next .given .1) in
     let k : w ≤ 6 = rw (i .id-bytes .ensures) (id-narrow (v .post-header)) in
     let m : min w 8 ≡ w = omega arith in
     let n : a .next .given .0 .0 ≡ w = omega (arith, within-ok (v .event .now) 0 w 0 (a .next .given .0 .0) e) in
     rw (
       ← i .id-bytes .ensures,
       e,
-      sym (b .before .before .within2 .ensures) ∙ ap reachOf (b .next2 .given .1),
-      sym (x .before .before .read-names .ensures) ∙ ap namesOf (x .names .given .1),
-      sym (y .before .before .read-columns .ensures) ∙ ap columnsOf (y .columns .given .1),
+      sym (b .before .before .within2 .ensures) ∙ ap reachTold (b .next2 .given .1),
+      sym (x .before .before .read-names .ensures) ∙ ap eventNamesTold (x .names .given .1),
+      sym (y .before .before .read-columns .ensures) ∙ ap eventColumnsTold (y .columns .given .1),
       l .before .read-le .ensures .0,
       l .read-le2 .ensures .0,
       m,

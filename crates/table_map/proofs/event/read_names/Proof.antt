@@ -1,7 +1,8 @@
--- `table_map::event::read_names` meets its contract. `d`, `a`, `t` and `b` are where what the definition calls so is known. Assumes nothing.
+-- `table_map::event::read_names` meets its contract. `d`, `a`, `t` and `b` are where what the definition calls so is known. Assumes
+-- nothing.
 use mathlib.Core.Path.{sym, ap, _∙_}
-use Rattle.wire.specs.Parts.{reachOf}
-use Rattle.table_map.specs.Reads.{cutOf}
+use Rattle.wire.specs.Parts.{reachTold}
+use Rattle.table_map.specs.Inner.Reads.{partTold}
 use Rattle.table_map.specs.Events.{readNames}
 use borrow.Author.Needs.{needs}
 use Rattle.table_map.proofs.event.read_names.Statement.{statement}
@@ -22,7 +23,7 @@ enum-known-r c = search needs
 
 returns : tie.Need-returns
 unfolding readNames
-returns c = rw (sym (c .before .before .before .short-part .ensures) ∙ ap cutOf (c .before .r .given .1))
+returns c = rw (sym (c .before .before .before .short-part .ensures) ∙ ap partTold (c .before .r .given .1))
 
 within-requires : tie.Need-within-requires
 within-requires c κs = search needs
@@ -38,8 +39,8 @@ unfolding readNames
 returns-2 c =
     let d = c .before .before .before .before .before in
     rw (
-      sym (d .before .before .short-part .ensures) ∙ ap cutOf (d .cut .given .1),
-      sym (c .before .before .before .within .ensures) ∙ ap reachOf (c .before .r2 .given .1),
+      sym (d .before .before .short-part .ensures) ∙ ap partTold (d .cut .given .1),
+      sym (c .before .before .before .within .ensures) ∙ ap reachTold (c .before .r2 .given .1),
     )
 
 short-part-requires-2 : tie.Need-short-part-requires-2
@@ -57,9 +58,9 @@ returns-3 c =
     let a = c .before .before .before .before .before in
     let d = a .before .before .before .before in
     rw (
-      sym (d .before .before .short-part .ensures) ∙ ap cutOf (d .cut .given .1),
-      sym (a .before .before .within .ensures) ∙ ap reachOf (a .next .given .1),
-      sym (c .before .before .before .short-part2 .ensures) ∙ ap cutOf (c .before .r3 .given .1),
+      sym (d .before .before .short-part .ensures) ∙ ap partTold (d .cut .given .1),
+      sym (a .before .before .within .ensures) ∙ ap reachTold (a .next .given .1),
+      sym (c .before .before .before .short-part2 .ensures) ∙ ap partTold (c .before .r3 .given .1),
     )
 
 within-requires-2 : tie.Need-within-requires-2
@@ -78,10 +79,10 @@ returns-4 c =
     let a = t .before .before .before .before in
     let d = a .before .before .before .before in
     rw (
-      sym (d .before .before .short-part .ensures) ∙ ap cutOf (d .cut .given .1),
-      sym (a .before .before .within .ensures) ∙ ap reachOf (a .next .given .1),
-      sym (t .before .before .short-part2 .ensures) ∙ ap cutOf (t .cut2 .given .1),
-      sym (c .before .before .before .within2 .ensures) ∙ ap reachOf (c .before .r4 .given .1),
+      sym (d .before .before .short-part .ensures) ∙ ap partTold (d .cut .given .1),
+      sym (a .before .before .within .ensures) ∙ ap reachTold (a .next .given .1),
+      sym (t .before .before .short-part2 .ensures) ∙ ap partTold (t .cut2 .given .1),
+      sym (c .before .before .before .within2 .ensures) ∙ ap reachTold (c .before .r4 .given .1),
     )
 
 returns-5 : tie.Need-returns-5
@@ -92,10 +93,10 @@ returns-5 c =
     let a = t .before .before .before .before in
     let d = a .before .before .before .before in
     rw (
-      sym (d .before .before .short-part .ensures) ∙ ap cutOf (d .cut .given .1),
-      sym (a .before .before .within .ensures) ∙ ap reachOf (a .next .given .1),
-      sym (t .before .before .short-part2 .ensures) ∙ ap cutOf (t .cut2 .given .1),
-      sym (b .before .before .within2 .ensures) ∙ ap reachOf (b .next2 .given .1),
+      sym (d .before .before .short-part .ensures) ∙ ap partTold (d .cut .given .1),
+      sym (a .before .before .within .ensures) ∙ ap reachTold (a .next .given .1),
+      sym (t .before .before .short-part2 .ensures) ∙ ap partTold (t .cut2 .given .1),
+      sym (b .before .before .within2 .ensures) ∙ ap reachTold (b .next2 .given .1),
     )
 
 pub read-names-spec : {M : Type 1} → statement M

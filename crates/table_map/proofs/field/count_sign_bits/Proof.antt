@@ -1,4 +1,5 @@
--- `table_map::field::count_sign_bits` meets its contract. The loop's invariant: what is counted and what is left to count make the whole. Assumes nothing.
+-- `table_map::field::count_sign_bits` meets its contract. The loop's invariant: what is counted and what is left to count make the whole.
+-- Assumes nothing.
 use mathlib.Core.List.{[]}
 use Prim.Native.Nat.{_+_, _-_, _≤_}
 use mathlib.Core.Path.{_≡_}

@@ -1,9 +1,9 @@
 -- `table_map::field::cut_field` meets its contract. Assumes nothing.
 use mathlib.Core.Path.{sym, ap, _∙_}
 use native.Mathlib.Omega.{arith}
-use Rattle.wire.specs.Parts.{reachOf}
+use Rattle.wire.specs.Parts.{reachTold}
 use Rattle.wire.proofs.Parts.{within-ok}
-use Rattle.table_map.specs.Reads.{cutOf}
+use Rattle.table_map.specs.Inner.Reads.{partTold}
 use Rattle.table_map.specs.Fields.{cutField}
 use borrow.Author.Needs.{needs}
 use Rattle.table_map.proofs.field.cut_field.Statement.{statement}
@@ -24,7 +24,7 @@ enum-known-r c = search needs
 
 returns : tie.Need-returns
 unfolding cutField
-returns c = rw (sym (c .before .before .before .within .ensures) ∙ ap reachOf (c .before .r .given .1))
+returns c = rw (sym (c .before .before .before .within .ensures) ∙ ap reachTold (c .before .r .given .1))
 
 long-part-requires : tie.Need-long-part-requires
 long-part-requires c κs = search needs
@@ -40,22 +40,22 @@ unfolding cutField
 returns-2 c =
     let a = c .before .before .before .before .before in
     rw (
-      sym (a .before .before .within .ensures) ∙ ap reachOf (a .next .given .1),
-      sym (c .before .before .before .long-part .ensures) ∙ ap cutOf (c .before .r2 .given .1),
+      sym (a .before .before .within .ensures) ∙ ap reachTold (a .next .given .1),
+      sym (c .before .before .before .long-part .ensures) ∙ ap partTold (c .before .r2 .given .1),
     )
 
 shared-slice-read-kind : tie.Need-shared-slice-read-kind
 shared-slice-read-kind c =
     let a = c .before .before .before .before .before .before in
-    omega (arith, within-ok _ _ _ _ _ (sym (a .before .before .within .ensures) ∙ ap reachOf (a .next .given .1)))
+    omega (arith, within-ok _ _ _ _ _ (sym (a .before .before .within .ensures) ∙ ap reachTold (a .next .given .1)))
 
 returns-3 : tie.Need-returns-3
 unfolding cutField
 returns-3 c =
     let a = c .before .before .before .before .before .before .before in
     rw (
-      sym (a .before .before .within .ensures) ∙ ap reachOf (a .next .given .1),
-      sym (c .before .before .before .before .before .long-part .ensures) ∙ ap cutOf (c .before .before .before .cut .given .1),
+      sym (a .before .before .within .ensures) ∙ ap reachTold (a .next .given .1),
+      sym (c .before .before .before .before .before .long-part .ensures) ∙ ap partTold (c .before .before .before .cut .given .1),
     )
 
 pub cut-field-spec : {M : Type 1} → statement M

@@ -1,6 +1,6 @@
 -- `table_map::field::starts_packed` meets its contract. Assumes nothing.
 use mathlib.Core.Path.{sym, ap, _∙_}
-use Rattle.wire.specs.Packed.{packedOf}
+use Rattle.wire.specs.Packed.{packedTold}
 use borrow.Author.Needs.{needs}
 use Rattle.table_map.proofs.field.starts_packed.Statement.{statement}
 use Rattle.table_map.proofs.field.starts_packed.Tie as tie
@@ -18,10 +18,10 @@ enum-told-2 : tie.Need-enum-told-2
 enum-told-2 c = search needs
 
 returns : tie.Need-returns
-returns c = rw (sym (c .before .before .read-packed .ensures) ∙ ap packedOf (c .enum-told .given .1))
+returns c = rw (sym (c .before .before .read-packed .ensures) ∙ ap packedTold (c .enum-told .given .1))
 
 returns-2 : tie.Need-returns-2
-returns-2 c = rw (sym (c .before .before .read-packed .ensures) ∙ ap packedOf (c .enum-told2 .given .1))
+returns-2 c = rw (sym (c .before .before .read-packed .ensures) ∙ ap packedTold (c .enum-told2 .given .1))
 
 pub starts-packed-spec : {M : Type 1} → statement M
 starts-packed-spec =

@@ -5,7 +5,7 @@ use mathlib.Core.Path.{_≡_, sym, ap, _∙_}
 use native.Mathlib.Nat.{sub-zero}
 use native.Mathlib.Omega.{arith}
 use Rattle.table_map.specs.Lists.{strings}
-use Rattle.table_map.specs.Reads.{cutOf}
+use Rattle.table_map.specs.Inner.Reads.{partTold}
 use Rattle.table_map.proofs.Items.{strings-turn, strings-none}
 use borrow.Author.Needs.{needs}
 use Rattle.table_map.proofs.list.skip_strings.Statement.{statement}
@@ -36,7 +36,7 @@ returns : tie.Need-returns Inv-loop μ-loop
 returns c = rw (
   ← (c .before .before .before .before .before .loop .inv .1),
   strings-turn _ _ _ _ (c .before .before .before .before .loop-test .taken),
-  sym (c .before .before .before .long-part .ensures) ∙ ap cutOf (c .before .r .given .1),
+  sym (c .before .before .before .long-part .ensures) ∙ ap partTold (c .before .r .given .1),
 )
 
 add-i : tie.Need-add-i Inv-loop μ-loop
@@ -51,7 +51,7 @@ loop-again c = (
   rw (
     ← (c .before .before .before .before .before .loop .inv .1),
     strings-turn _ _ _ _ (c .before .before .before .before .loop-test .taken),
-    sym (c .before .before .before .long-part .ensures) ∙ ap cutOf (c .before .cut .given .1),
+    sym (c .before .before .before .long-part .ensures) ∙ ap partTold (c .before .cut .given .1),
   ),
 )
 

@@ -1,7 +1,7 @@
 -- `table_map::part::long_part` meets its contract. `n` is where what the definition calls so is known. Assumes nothing.
 use mathlib.Core.Path.{sym, ap, _∙_}
-use Rattle.wire.specs.Parts.{reachOf}
-use Rattle.table_map.specs.Reads.{announcedOf}
+use Rattle.wire.specs.Parts.{reachTold}
+use Rattle.table_map.specs.Inner.Reads.{announcedTold}
 use Rattle.table_map.specs.Parts.{longPart}
 use borrow.Author.Needs.{needs}
 use Rattle.table_map.proofs.part.long_part.Statement.{statement}
@@ -22,7 +22,7 @@ enum-known-r c = search needs
 
 returns : tie.Need-returns
 unfolding longPart
-returns c = rw (sym (c .before .before .before .read-length .ensures) ∙ ap announcedOf (c .before .r .given .1))
+returns c = rw (sym (c .before .before .before .read-length .ensures) ∙ ap announcedTold (c .before .r .given .1))
 
 within-requires : tie.Need-within-requires
 within-requires c κs = search needs
@@ -38,8 +38,8 @@ unfolding longPart
 returns-2 c =
     let n = c .before .before .before .before .before in
     rw (
-      sym (n .before .before .read-length .ensures) ∙ ap announcedOf (n .part .given .1),
-      sym (c .before .before .before .within .ensures) ∙ ap reachOf (c .before .r2 .given .1),
+      sym (n .before .before .read-length .ensures) ∙ ap announcedTold (n .part .given .1),
+      sym (c .before .before .before .within .ensures) ∙ ap reachTold (c .before .r2 .given .1),
     )
 
 returns-3 : tie.Need-returns-3
@@ -47,8 +47,8 @@ unfolding longPart
 returns-3 c =
     let n = c .before .before .before .before .before in
     rw (
-      sym (n .before .before .read-length .ensures) ∙ ap announcedOf (n .part .given .1),
-      sym (c .before .before .before .within .ensures) ∙ ap reachOf (c .before .next .given .1),
+      sym (n .before .before .read-length .ensures) ∙ ap announcedTold (n .part .given .1),
+      sym (c .before .before .before .within .ensures) ∙ ap reachTold (c .before .next .given .1),
     )
 
 pub long-part-spec : {M : Type 1} → statement M

@@ -1,6 +1,6 @@
 -- `table_map::part::short_part` meets its contract. `a` is where what the definition calls so is known. Assumes nothing.
 use mathlib.Core.Path.{sym, ap, _∙_}
-use Rattle.wire.specs.Parts.{reachOf}
+use Rattle.wire.specs.Parts.{reachTold}
 use Rattle.wire.proofs.Parts.{within-ok}
 use Rattle.table_map.specs.Parts.{shortPart}
 use native.Mathlib.Omega.{arith}
@@ -22,10 +22,15 @@ enum-known-r c = search needs
 
 returns : tie.Need-returns
 unfolding shortPart
-returns c = rw (sym (c .before .before .before .within .ensures) ∙ ap reachOf (c .before .r .given .1))
+returns c = rw (sym (c .before .before .before .within .ensures) ∙ ap reachTold (c .before .r .given .1))
 
 shared-slice-read-len : tie.Need-shared-slice-read-len
-shared-slice-read-len c = omega (arith, within-ok _ _ _ _ _ (sym (c .before .before .before .before .within .ensures) ∙ ap reachOf (c .before .before .next .given .1)))
+shared-slice-read-len c =
+    omega (
+      arith,
+      within-ok _ _ _ _ _
+          (sym (c .before .before .before .before .within .ensures) ∙ ap reachTold (c .before .before .next .given .1)),
+    )
 
 cast-len : tie.Need-cast-len
 cast-len c = omega (arith, c .shared-slice-known2 .given (c .before .before .before .before .before .before .args .at))
@@ -44,8 +49,8 @@ unfolding shortPart
 returns-2 c =
     let a = c .before .before .before .before .before .before in
     rw (
-      sym (a .before .before .within .ensures) ∙ ap reachOf (a .next .given .1),
-      sym (c .before .before .before .within2 .ensures) ∙ ap reachOf (c .before .r2 .given .1),
+      sym (a .before .before .within .ensures) ∙ ap reachTold (a .next .given .1),
+      sym (c .before .before .before .within2 .ensures) ∙ ap reachTold (c .before .r2 .given .1),
     )
 
 returns-3 : tie.Need-returns-3
@@ -53,8 +58,8 @@ unfolding shortPart
 returns-3 c =
     let a = c .before .before .before .before .before .before in
     rw (
-      sym (a .before .before .within .ensures) ∙ ap reachOf (a .next .given .1),
-      sym (c .before .before .before .within2 .ensures) ∙ ap reachOf (c .before .next2 .given .1),
+      sym (a .before .before .within .ensures) ∙ ap reachTold (a .next .given .1),
+      sym (c .before .before .before .within2 .ensures) ∙ ap reachTold (c .before .next2 .given .1),
     )
 
 pub short-part-spec : {M : Type 1} → statement M

@@ -6,7 +6,7 @@ use mathlib.Core.Path.{_≡_, sym, _∙_}
 use borrow.Author.Tests.{not-true, not-false}
 use lib.ListN.{length}
 use Rattle.wire.proofs.Stores.{room, no-room}
-use Rattle.table_map.specs.Writes.{Parts, parts, isEvent, eventBytes}
+use Rattle.table_map.specs.Writes.{EventParts, eventParts, isEvent, eventBytes}
 use Rattle.table_map.proofs.Puts.{Taken, taken, any-rest, packed-narrow, size-not-taken, size-over, size-is, event-length}
 use borrow.Author.Needs.{needs}
 use Rattle.table_map.proofs.write.event_size.Statement.{statement}
@@ -19,8 +19,9 @@ use Rattle.wire.proofs.refuse.Reads as refuse-reads
 use Rattle.wire.proofs.has_room.Reads as has-room-reads
 
 -- where both packed lengths have been measured: the lent parts, which the writer takes, and what stands before the metadata
-abbrev given : tie.After-packed-size2 → Parts
-given z = let a = z .before .before .before .before .before .before .before .before .before .before .args in parts (a .id) (a .flags) (a .database .now) (a .table .now) (a .types .now) (a .metadata .now) (a .bits .now) (a .optional .now)
+abbrev given : tie.After-packed-size2 → EventParts
+given z = let a = z .before .before .before .before .before .before .before .before .before .before .args in
+    eventParts (a .id) (a .flags) (a .database .now) (a .table .now) (a .types .now) (a .metadata .now) (a .bits .now) (a .optional .now)
 
 is-taken : (z : tie.After-packed-size2) → isEvent (given z) ≡ true
 is-taken z = any-rest _ _ _ _ _ _ _ _ _ (sym (z .before .before .before .is-event .ensures) ∙ not-false _ (z .before .before .if1 .left))
@@ -28,7 +29,8 @@ is-taken z = any-rest _ _ _ _ _ _ _ _ _ (sym (z .before .before .before .is-even
 abbrev front : tie.After-packed-size2 → ℕ
 front z =
     let p = given z in
-    12 + length (p .database) + length (p .table) + (z .before .packed-size .result + z .packed-size2 .result) + length (p .types) + length (p .bits)
+    12 + length (p .database) + length (p .table) + (z .before .packed-size .result + z .packed-size2 .result) + length (p .types)
+    + length (p .bits)
 
 -- what bounds it: names are short, there is a bit for each type, and a packed integer has at most 9 bytes
 bounds : (z : tie.After-packed-size2) → Taken (given z) × (z .before .packed-size .result ≤ 9) × (z .packed-size2 .result ≤ 9)
@@ -45,8 +47,13 @@ refuse-requires c κs = search needs
 returns : tie.Need-returns
 returns c =
     let a = c .before .before .before .before .before .before .before .before .before .args in
-    let p = parts (a .id) (a .flags) (a .database .now) (a .table .now) (a .types .now) (a .metadata .now) (a .bits .now) (a .optional .now) in
-    rw (size-not-taken p (any-rest _ _ _ _ _ _ _ _ _ (sym (c .before .before .is-event .ensures) ∙ not-true _ (c .before .if1 .taken))), c .refuse .ensures)
+    let p =
+    eventParts (a .id) (a .flags) (a .database .now) (a .table .now) (a .types .now) (a .metadata .now) (a .bits .now)
+    (a .optional .now) in
+    rw (
+      size-not-taken p (any-rest _ _ _ _ _ _ _ _ _ (sym (c .before .before .is-event .ensures) ∙ not-true _ (c .before .if1 .taken))),
+      c .refuse .ensures,
+    )
 
 packed-size-requires : tie.Need-packed-size-requires
 packed-size-requires c κs = search needs
@@ -82,7 +89,8 @@ returns-2 : tie.Need-returns-2
 returns-2 c =
     let z = c .before .before .before in
     let p = given z in
-    let r : 18446744073709551615 < front z + length (p .metadata) = no-room _ _ _ _ (c .before .before .has-room .ensures) (not-true _ (c .before .if2 .taken)) in
+    let r : 18446744073709551615 < front z + length (p .metadata) =
+    no-room _ _ _ _ (c .before .before .has-room .ensures) (not-true _ (c .before .if2 .taken)) in
     let h : 2 ^ 64 ≤ length (eventBytes p) = omega (arith, event-length p) in
     rw (size-over p (is-taken z) h, c .refuse2 .ensures)
 
@@ -90,7 +98,8 @@ add-body : tie.Need-add-body
 add-body c =
     let z = c .before .before in
     let p = given z in
-    let r : front z + length (p .metadata) ≤ 18446744073709551615 = room _ _ _ _ (c .before .has-room .ensures) (not-false _ (c .if2 .left)) in
+    let r : front z + length (p .metadata) ≤ 18446744073709551615 =
+    room _ _ _ _ (c .before .has-room .ensures) (not-false _ (c .if2 .left)) in
     omega arith
 
 has-room-requires-2 : tie.Need-has-room-requires-2
@@ -103,7 +112,8 @@ returns-3 : tie.Need-returns-3
 returns-3 c =
     let z = c .before .before .before .before .before in
     let p = given z in
-    let r : 18446744073709551615 < front z + length (p .metadata) + length (p .optional) = no-room _ _ _ _ (c .before .before .has-room2 .ensures) (not-true _ (c .before .if3 .taken)) in
+    let r : 18446744073709551615 < front z + length (p .metadata) + length (p .optional) =
+    no-room _ _ _ _ (c .before .before .has-room2 .ensures) (not-true _ (c .before .if3 .taken)) in
     let h : 2 ^ 64 ≤ length (eventBytes p) = omega (arith, event-length p) in
     rw (size-over p (is-taken z) h, c .refuse3 .ensures)
 
@@ -111,14 +121,16 @@ add-t17 : tie.Need-add-t17
 add-t17 c =
     let z = c .before .before .before .before in
     let p = given z in
-    let r : front z + length (p .metadata) + length (p .optional) ≤ 18446744073709551615 = room _ _ _ _ (c .before .has-room2 .ensures) (not-false _ (c .if3 .left)) in
+    let r : front z + length (p .metadata) + length (p .optional) ≤ 18446744073709551615 =
+    room _ _ _ _ (c .before .has-room2 .ensures) (not-false _ (c .if3 .left)) in
     omega arith
 
 returns-4 : tie.Need-returns-4
 returns-4 c =
     let z = c .before .before .before .before in
     let p = given z in
-    let r : front z + length (p .metadata) + length (p .optional) ≤ 18446744073709551615 = room _ _ _ _ (c .before .has-room2 .ensures) (not-false _ (c .if3 .left)) in
+    let r : front z + length (p .metadata) + length (p .optional) ≤ 18446744073709551615 =
+    room _ _ _ _ (c .before .has-room2 .ensures) (not-false _ (c .if3 .left)) in
     let l : length (eventBytes p) ≡ front z + length (p .metadata) + length (p .optional) = omega (arith, event-length p) in
     rw (size-is p _ (is-taken z) l (omega arith))
 

@@ -35,7 +35,9 @@ put-packed-requires-2 c κs =
 
 put-bytes-requires-2 : tie.Need-put-bytes-requires-2
 put-bytes-requires-2 c κs =
-    let a = c .before .before .before .before .before .before .before .before .before .before .before .before .before .before .before .before .before .before .args in
+    let a =
+    c .before .before .before .before .before .before .before .before .before .before .before .before .before .before .before .before
+    .before .before .args in
     omega (
       arith,
       column-length (a .types .now) (a .metadata .now) (a .bits .now) (a .optional .now),
@@ -46,11 +48,14 @@ put-bytes-requires-2 c κs =
 
 put-bytes-requires-3 : tie.Need-put-bytes-requires-3
 put-bytes-requires-3 c κs =
-    let a = c .before .before .before .before .before .before .before .before .before .before .before .before .before .before .before .before .before .before .before .before .before .before .args in
+    let a =
+    c .before .before .before .before .before .before .before .before .before .before .before .before .before .before .before .before
+    .before .before .before .before .before .before .args in
     omega (
       arith,
       column-length (a .types .now) (a .metadata .now) (a .bits .now) (a .optional .now),
-      after-put (c .before .before .before .before .before .before .before .before .before .before .before .before .before .before .before .put-packed .ensures),
+      after-put (c .before .before .before .before .before .before .before .before .before .before .before .before .before .before .before
+          .put-packed .ensures),
       after-put (c .before .before .before .before .before .before .before .before .before .before .before .put-bytes .ensures),
       after-put (c .before .before .before .before .before .before .before .put-packed2 .ensures),
       after-put (c .before .before .before .put-bytes2 .ensures),
@@ -58,12 +63,16 @@ put-bytes-requires-3 c κs =
 
 put-bytes-requires-4 : tie.Need-put-bytes-requires-4
 put-bytes-requires-4 c κs =
-    let a = c .before .before .before .before .before .before .before .before .before .before .before .before .before .before .before .before .before .before .before .before .before .before .before .before .before .before .args in
+    let a =
+    c .before .before .before .before .before .before .before .before .before .before .before .before .before .before .before .before
+    .before .before .before .before .before .before .before .before .before .before .args in
     omega (
       arith,
       column-length (a .types .now) (a .metadata .now) (a .bits .now) (a .optional .now),
-      after-put (c .before .before .before .before .before .before .before .before .before .before .before .before .before .before .before .before .before .before .before .put-packed .ensures),
-      after-put (c .before .before .before .before .before .before .before .before .before .before .before .before .before .before .before .put-bytes .ensures),
+      after-put (c .before .before .before .before .before .before .before .before .before .before .before .before .before .before .before
+          .before .before .before .before .put-packed .ensures),
+      after-put (c .before .before .before .before .before .before .before .before .before .before .before .before .before .before .before
+          .put-bytes .ensures),
       after-put (c .before .before .before .before .before .before .before .before .before .before .before .put-packed2 .ensures),
       after-put (c .before .before .before .before .before .before .before .put-bytes2 .ensures),
       after-put (c .before .before .before .put-bytes3 .ensures),
@@ -80,7 +89,9 @@ returns c =
     let r = t .before .before .before .before in
     let q = r .before .before .before .before in
     let p = q .before .before .before .before in
-    then (p .put-packed .ensures) (then (q .put-bytes .ensures) (then (r .put-packed2 .ensures) (then (t .put-bytes2 .ensures) (then (u .put-bytes3 .ensures) (v .put-bytes4 .ensures)))))
+    then (p .put-packed .ensures)
+    (then (q .put-bytes .ensures)
+    (then (r .put-packed2 .ensures) (then (t .put-bytes2 .ensures) (then (u .put-bytes3 .ensures) (v .put-bytes4 .ensures)))))
 
 pub put-columns-spec : {M : Type 1} → statement M
 put-columns-spec =

@@ -31,7 +31,12 @@ put-name-requires-2 c κs =
     let p = q .before .before .before .before in
     let a = p .before .before .before .before .before .args in (
       omega arith,
-      omega (arith, after-number 6 (a .id) (p .put-le .ensures), after-number 2 (a .flags) (q .put-le2 .ensures), after-name (a .database .now) (r .put-name .ensures)),
+      omega (
+        arith,
+        after-number 6 (a .id) (p .put-le .ensures),
+        after-number 2 (a .flags) (q .put-le2 .ensures),
+        after-name (a .database .now) (r .put-name .ensures),
+      ),
     )
 
 same-length : tie.Need-same-length

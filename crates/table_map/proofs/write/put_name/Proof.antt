@@ -34,7 +34,8 @@ returns c =
     let r = c .before .before in
     let q = r .before .before .before .before in
     let p = q .before .before .before .before in
-    put-name (p .before .before .before .before .args .name .now) (omega arith) (then (p .put-le .ensures) (then (q .put-bytes .ensures) (r .put-le2 .ensures)))
+    put-name (p .before .before .before .before .args .name .now) (omega arith)
+    (then (p .put-le .ensures) (then (q .put-bytes .ensures) (r .put-le2 .ensures)))
 
 pub put-name-spec : {M : Type 1} → statement M
 put-name-spec =

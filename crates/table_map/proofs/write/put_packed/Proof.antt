@@ -26,7 +26,8 @@ same-length c = search needs
 returns : tie.Need-returns
 returns c =
     let a = c .before .before .before .before .before .before .args in
-    put-stored (a .buf .now) (packedBytes (a .v)) _ (a .at) (c .packed-size .result) _ (sym (c .packed-size .ensures)) (omega arith) (c .before .before .before .write-packed .ensures .1) refl
+    put-stored (a .buf .now) (packedBytes (a .v)) _ (a .at) (c .packed-size .result) _ (sym (c .packed-size .ensures)) (omega arith)
+    (c .before .before .before .write-packed .ensures .1) refl
 
 pub put-packed-spec : {M : Type 1} → statement M
 put-packed-spec =

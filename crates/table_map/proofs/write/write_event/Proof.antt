@@ -2,9 +2,10 @@
 use native.Mathlib.Omega.{arith}
 use mathlib.Core.Path.{_≡_, refl, sym, ap, _∙_}
 use Rattle.wire.specs.Outcome.{ok}
-use Rattle.wire.specs.Stored.{sizeSaid}
-use Rattle.table_map.specs.Writes.{Parts, parts, eventSize}
-use Rattle.table_map.proofs.Puts.{taken, sized, not-sized, no-room-for, event-put, event-length, column-length, head-length, after-put, then}
+use Rattle.wire.specs.Stored.{sizeTold}
+use Rattle.table_map.specs.Writes.{EventParts, eventParts, eventSize}
+use Rattle.table_map.proofs.Puts.{taken, sized, not-sized, no-room-for, event-put, event-length, column-length, head-length}
+use Rattle.table_map.proofs.Puts.{after-put, then}
 use borrow.Author.Needs.{needs}
 use Rattle.table_map.proofs.write.write_event.Statement.{statement}
 use Rattle.table_map.proofs.write.write_event.Tie as tie
@@ -16,11 +17,12 @@ use Rattle.table_map.proofs.write.put_head.Reads as put-head-reads
 use Rattle.wire.proofs.refuse.Reads as refuse-reads
 
 -- where the size is known: the lent parts, which have it
-abbrev given : tie.After-n → Parts
-given z = let a = z .before .before .before .before .before .before .before .before .before .before .args in parts (a .id) (a .flags) (a .database .now) (a .table .now) (a .types .now) (a .metadata .now) (a .bits .now) (a .optional .now)
+abbrev given : tie.After-n → EventParts
+given z = let a = z .before .before .before .before .before .before .before .before .before .before .args in
+    eventParts (a .id) (a .flags) (a .database .now) (a .table .now) (a .types .now) (a .metadata .now) (a .bits .now) (a .optional .now)
 
 has-size : (z : tie.After-n) → eventSize (given z) ≡ ok (z .n .given .0 .0)
-has-size z = sym (z .before .before .event-size .ensures) ∙ ap sizeSaid (z .n .given .1)
+has-size z = sym (z .before .before .event-size .ensures) ∙ ap sizeTold (z .n .given .1)
 
 event-size-requires : tie.Need-event-size-requires
 event-size-requires c κs = search needs
@@ -34,8 +36,11 @@ enum-known-r c = search needs
 returns : tie.Need-returns
 returns c =
     let a = c .before .before .before .before .before .before .before .before .before .before .before .args in
-    let p = parts (a .id) (a .flags) (a .database .now) (a .table .now) (a .types .now) (a .metadata .now) (a .bits .now) (a .optional .now) in
-    rw (not-sized p (a .buf .now) _ (omega arith) (sym (c .before .before .before .event-size .ensures) ∙ ap sizeSaid (c .before .r .given .1))) (refl, refl)
+    let p =
+    eventParts (a .id) (a .flags) (a .database .now) (a .table .now) (a .types .now) (a .metadata .now) (a .bits .now)
+    (a .optional .now) in
+    rw (not-sized p (a .buf .now) _ (omega arith)
+    (sym (c .before .before .before .event-size .ensures) ∙ ap sizeTold (c .before .r .given .1))) (refl, refl)
 
 refuse-requires : tie.Need-refuse-requires
 refuse-requires c κs = search needs
@@ -73,7 +78,9 @@ returns-3 : tie.Need-returns-3
 returns-3 c =
     let z = c .before .before .before .before .before .before .before .before .before .before in
     let d = z .before .before .before .before .before .before .before .before .before .before .args .buf .now in
-    rw (event-put (given z) d _ _ _ (has-size z) (then (c .before .before .before .before .before .before .put-head .ensures) (c .before .before .put-columns .ensures))) (refl, refl)
+    rw (event-put (given z) d _ _ _ (has-size z)
+    (then (c .before .before .before .before .before .before .put-head .ensures) (c .before .before .put-columns .ensures)))
+    (refl, refl)
 
 pub write-event-spec : {M : Type 1} → statement M
 write-event-spec =

@@ -1,7 +1,7 @@
 -- `temporal::domain::holds_date` meets its contract. Assumes nothing.
-use Rattle.temporal.specs.Kinds.{tag, dateIn}
+use Rattle.temporal.specs.Storage.{temporalTag, dateIn}
 use Rattle.temporal.specs.Domains.{dateDomain}
-use Rattle.temporal.proofs.Sorts.{not-on}
+use Rattle.temporal.proofs.Sorts.{not-date}
 use borrow.Author.Needs.{needs}
 use Rattle.temporal.proofs.domain.holds_date.Statement.{statement}
 use Rattle.temporal.proofs.domain.holds_date.Tie as tie
@@ -13,13 +13,13 @@ enum-known-temporal : tie.Need-enum-known-temporal
 enum-known-temporal c = search needs
 
 returns : tie.Need-returns
-returns c = rw (not-on (c .before .args .temporal) (c .match .keys2) .0)
+returns c = rw (not-date (c .before .args .temporal) (c .match .keys2) .0)
 
 in-day-requires : tie.Need-in-day-requires
 in-day-requires c κs = search needs
 
 returns-2 : tie.Need-returns-2
-unfolding dateDomain tag dateIn
+unfolding dateDomain temporalTag dateIn
 returns-2 c = rw (c .before .before .temporal .given .1) (c .in-day .ensures)
 
 pub holds-date-spec : {M : Type 1} → statement M

@@ -12,7 +12,9 @@ clock-fault-requires : tie.Need-clock-fault-requires
 clock-fault-requires c κs = search needs
 
 returns : tie.Need-returns
-returns c = rw (c .clock-fault .ensures) (sym (clock-same (c .before .args .top) (c .before .args .h) (c .before .args .m) (c .before .args .s) (c .before .args .u)))
+returns c =
+    rw (c .clock-fault .ensures)
+    (sym (clock-same (c .before .args .top) (c .before .args .h) (c .before .args .m) (c .before .args .s) (c .before .args .u)))
 
 pub in-clock-spec : {M : Type 1} → statement M
 in-clock-spec = tie.close (tie.spec clock-fault-requires returns)

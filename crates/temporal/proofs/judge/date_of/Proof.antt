@@ -1,8 +1,8 @@
 -- `temporal::judge::date_of` meets its contract. Assumes nothing.
 use native.Mathlib.Omega.{arith}
 use mathlib.Core.Path.{sym, _∙_}
-use Rattle.temporal.specs.Moments.{dateOf}
-use Rattle.temporal.specs.Judgement.{judgedDate}
+use Rattle.temporal.specs.Datetimes.{dateOf}
+use Rattle.temporal.specs.Inner.Ranged.{rangedDate}
 use Rattle.temporal.proofs.Ranges.{day-clear}
 use borrow.Author.Tests.{eq-eqb, ne-eqb}
 use borrow.Author.Needs.{needs}
@@ -16,7 +16,7 @@ day-fault-requires : tie.Need-day-fault-requires
 day-fault-requires c κs = search needs
 
 returns : tie.Need-returns
-unfolding judgedDate dateOf
+unfolding rangedDate dateOf
 returns c = rw (← c .before .day-fault .ensures, ne-eqb _ _ (c .if1 .taken))
 
 cast-year : tie.Need-cast-year
@@ -29,7 +29,7 @@ cast-day : tie.Need-cast-day
 cast-day c = search needs
 
 returns-2 : tie.Need-returns-2
-unfolding judgedDate dateOf
+unfolding rangedDate dateOf
 returns-2 c = rw (← c .before .day-fault .ensures, eq-eqb _ _ (c .if1 .left))
 
 pub date-of-spec : {M : Type 1} → statement M

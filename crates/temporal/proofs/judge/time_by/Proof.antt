@@ -2,7 +2,7 @@
 use native.Mathlib.Omega.{arith}
 use mathlib.Core.Path.{sym, _∙_}
 use Rattle.temporal.specs.Times.{timeBy}
-use Rattle.temporal.specs.Judgement.{judgedTime}
+use Rattle.temporal.specs.Inner.Ranged.{rangedTime}
 use Rattle.temporal.proofs.Ranges.{clock-clear}
 use borrow.Author.Tests.{eq-eqb, ne-eqb}
 use borrow.Author.Needs.{needs}
@@ -31,7 +31,7 @@ clock-fault-requires : tie.Need-clock-fault-requires
 clock-fault-requires c κs = search needs
 
 returns : tie.Need-returns
-unfolding judgedTime timeBy
+unfolding rangedTime timeBy
 returns c = rw (← c .before .clock-fault .ensures, ne-eqb _ _ (c .if1 .taken))
 
 cast-hours : tie.Need-cast-hours
@@ -47,7 +47,7 @@ cast-micros : tie.Need-cast-micros
 cast-micros c = let k = clock-clear _ _ _ _ _ (sym (c .before .clock-fault .ensures) ∙ c .if1 .left) in omega arith
 
 returns-2 : tie.Need-returns-2
-unfolding judgedTime timeBy
+unfolding rangedTime timeBy
 returns-2 c = rw (← c .before .clock-fault .ensures, eq-eqb _ _ (c .if1 .left))
 
 pub time-by-spec : {M : Type 1} → statement M

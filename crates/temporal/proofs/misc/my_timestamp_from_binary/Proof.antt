@@ -2,8 +2,8 @@
 use Prim.Native.Nat.{_*_, _^_, _<_}
 use native.Mathlib.Omega.{arith}
 use mathlib.Core.Path.{sym, _∙_}
-use Rattle.temporal.specs.Judgement.{judgedStamp}
-use Rattle.temporal.specs.Moments.{stampOf}
+use Rattle.temporal.specs.Inner.Ranged.{rangedSeconds}
+use Rattle.temporal.specs.Datetimes.{secondsOf}
 use Rattle.temporal.proofs.Units.{unit-room}
 use Rattle.temporal.proofs.Ranges.{clock-clear}
 use borrow.Author.Tests.{eq-eqb, ne-eqb}
@@ -19,13 +19,15 @@ unit-requires : tie.Need-unit-requires
 unit-requires c κs = search needs
 
 mul-usec : tie.Need-mul-usec
-mul-usec c = let m : c .before .args .frac * c .unit .result < 2 ^ 64 = rw (c .unit .ensures) (unit-room (c .before .args .frac) (c .before .args .w) (omega arith) (omega arith)) in omega arith
+mul-usec c =
+    let m : c .before .args .frac * c .unit .result < 2 ^ 64 =
+    rw (c .unit .ensures) (unit-room (c .before .args .frac) (c .before .args .w) (omega arith) (omega arith)) in omega arith
 
 clock-fault-requires : tie.Need-clock-fault-requires
 clock-fault-requires c κs = search needs
 
 returns : tie.Need-returns
-unfolding judgedStamp stampOf
+unfolding rangedSeconds secondsOf
 returns c = rw (← c .before .before .unit .ensures, ← c .before .clock-fault .ensures, ne-eqb _ _ (c .if1 .taken))
 
 cast-seconds : tie.Need-cast-seconds
@@ -35,7 +37,7 @@ cast-micros : tie.Need-cast-micros
 cast-micros c = let k = clock-clear _ _ _ _ _ (sym (c .before .clock-fault .ensures) ∙ c .if1 .left) in omega arith
 
 returns-2 : tie.Need-returns-2
-unfolding judgedStamp stampOf
+unfolding rangedSeconds secondsOf
 returns-2 c = rw (← c .before .before .unit .ensures, ← c .before .clock-fault .ensures, eq-eqb _ _ (c .if1 .left))
 
 pub my-timestamp-from-binary-spec : {M : Type 1} → statement M

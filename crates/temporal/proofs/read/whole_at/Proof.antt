@@ -6,8 +6,8 @@ use Rattle.temporal.proofs.read.whole_at.Statement.{statement}
 use Rattle.temporal.proofs.read.whole_at.Tie as tie
 use Rattle.temporal.proofs.read.whole_at.Reads as reads
 use Rattle.temporal.proofs.read.whole_at.Lts as lts
-use Rattle.temporal.proofs.kind.is_big.Reads as is-big-reads
-use Rattle.temporal.proofs.kind.whole_bytes.Reads as whole-bytes-reads
+use Rattle.temporal.proofs.storage.is_big.Reads as is-big-reads
+use Rattle.temporal.proofs.storage.whole_bytes.Reads as whole-bytes-reads
 use Rattle.wire.proofs.read_be.Reads as read-be-reads
 use Rattle.wire.proofs.read_le.Reads as read-le-reads
 
@@ -23,7 +23,8 @@ read-be-requires c κs = search needs
 returns : tie.Need-returns
 returns c = let a = c .before .before .before .before .before .args in
     let k = c .before .before .before .whole-bytes .ensures in
-    whole-big (a .kind) (a .s .now) (a .at) _ _ (k .0) (k .1) (sym (c .before .before .is-big .ensures) ∙ c .before .if1 .taken) (c .read-be .ensures .0) (c .read-be .ensures .1)
+    whole-big (a .storage) (a .s .now) (a .at) _ _ (k .0) (k .1) (sym (c .before .before .is-big .ensures) ∙ c .before .if1 .taken)
+    (c .read-be .ensures .0) (c .read-be .ensures .1)
 
 read-le-requires : tie.Need-read-le-requires
 read-le-requires c κs = search needs
@@ -31,7 +32,8 @@ read-le-requires c κs = search needs
 returns-2 : tie.Need-returns-2
 returns-2 c = let a = c .before .before .before .before .before .args in
     let k = c .before .before .before .whole-bytes .ensures in
-    whole-little (a .kind) (a .s .now) (a .at) _ _ (k .0) (k .1) (sym (c .before .before .is-big .ensures) ∙ c .before .if1 .left) (c .read-le .ensures .0) (c .read-le .ensures .1)
+    whole-little (a .storage) (a .s .now) (a .at) _ _ (k .0) (k .1) (sym (c .before .before .is-big .ensures) ∙ c .before .if1 .left)
+    (c .read-le .ensures .0) (c .read-le .ensures .1)
 
 pub whole-at-spec : {M : Type 1} → statement M
 whole-at-spec =

@@ -1,7 +1,7 @@
 -- `temporal::sort::date_in` meets its contract. Assumes nothing.
 use mathlib.Core.Path.{sym}
-use Rattle.temporal.specs.Kinds.{dateIn}
-use Rattle.temporal.proofs.Sorts.{not-on}
+use Rattle.temporal.specs.Storage.{dateIn}
+use Rattle.temporal.proofs.Sorts.{not-date}
 use borrow.Author.Needs.{needs}
 use Rattle.temporal.proofs.sort.date_in.Statement.{statement}
 use Rattle.temporal.proofs.sort.date_in.Tie as tie
@@ -16,7 +16,7 @@ unfolding dateIn
 returns c = rw (c .before .temporal .given .1)
 
 returns-2 : tie.Need-returns-2
-returns-2 c = sym (not-on (c .before .args .temporal) (c .match .keys2) .1)
+returns-2 c = sym (not-date (c .before .args .temporal) (c .match .keys2) .1)
 
 pub date-in-spec : {M : Type 1} → statement M
 date-in-spec = tie.close (tie.spec enum-known-temporal returns returns-2)

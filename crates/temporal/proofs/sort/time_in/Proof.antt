@@ -1,7 +1,7 @@
 -- `temporal::sort::time_in` meets its contract. Assumes nothing.
 use mathlib.Core.Path.{sym}
-use Rattle.temporal.specs.Kinds.{timeIn}
-use Rattle.temporal.proofs.Sorts.{not-lasts}
+use Rattle.temporal.specs.Storage.{timeIn}
+use Rattle.temporal.proofs.Sorts.{not-time}
 use borrow.Author.Needs.{needs}
 use Rattle.temporal.proofs.sort.time_in.Statement.{statement}
 use Rattle.temporal.proofs.sort.time_in.Tie as tie
@@ -16,7 +16,7 @@ unfolding timeIn
 returns c = rw (c .before .temporal .given .1)
 
 returns-2 : tie.Need-returns-2
-returns-2 c = sym (not-lasts (c .before .args .temporal) (c .match .keys2) .1)
+returns-2 c = sym (not-time (c .before .args .temporal) (c .match .keys2) .1)
 
 pub time-in-spec : {M : Type 1} → statement M
 time-in-spec = tie.close (tie.spec enum-known-temporal returns returns-2)

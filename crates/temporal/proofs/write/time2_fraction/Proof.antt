@@ -22,11 +22,15 @@ span-requires : tie.Need-span-requires
 span-requires c κs = search needs
 
 sub-result : tie.Need-sub-result
-sub-result c = let f = unit-fits (c .before .before .before .before .args .t .micros) (c .before .before .before .before .args .w) (omega arith) (omega arith) in omega arith
+sub-result c =
+    let f =
+    unit-fits (c .before .before .before .before .args .t .micros) (c .before .before .before .before .args .w) (omega arith)
+    (omega arith) in omega arith
 
 returns-2 : tie.Need-returns-2
 unfolding time2Fraction
-returns-2 c = rw (c .before .before .if1 .taken, ← c .before .before .before .to-units .ensures, ne-eqb _ _ (c .before .if2 .left), c .span .ensures)
+returns-2 c =
+    rw (c .before .before .if1 .taken, ← c .before .before .before .to-units .ensures, ne-eqb _ _ (c .before .if2 .left), c .span .ensures)
 
 returns-3 : tie.Need-returns-3
 unfolding time2Fraction

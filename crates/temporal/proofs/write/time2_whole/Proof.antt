@@ -20,7 +20,13 @@ sub-result c = search needs
 
 returns : tie.Need-returns
 unfolding time2Whole
-returns c = rw (c .before .before .if1 .taken, ← c .before .to-units .ensures, eq-eqb _ _ (c .if2 .taken), c .before .before .before .time-number .ensures .0)
+returns c =
+    rw (
+      c .before .before .if1 .taken,
+      ← c .before .to-units .ensures,
+      eq-eqb _ _ (c .if2 .taken),
+      c .before .before .before .time-number .ensures .0,
+    )
 
 sub-result-2 : tie.Need-sub-result-2
 sub-result-2 c = search needs
@@ -30,7 +36,13 @@ sub-result-3 c = search needs
 
 returns-2 : tie.Need-returns-2
 unfolding time2Whole
-returns-2 c = rw (c .before .before .if1 .taken, ← c .before .to-units .ensures, ne-eqb _ _ (c .if2 .left), c .before .before .before .time-number .ensures .0)
+returns-2 c =
+    rw (
+      c .before .before .if1 .taken,
+      ← c .before .to-units .ensures,
+      ne-eqb _ _ (c .if2 .left),
+      c .before .before .before .time-number .ensures .0,
+    )
 
 add-result : tie.Need-add-result
 add-result c = search needs

@@ -1,4 +1,5 @@
--- `temporal::write::write_temporal` meets its contract. The domain is tested first; then all of the bytes are written, or none. Assumes nothing.
+-- `temporal::write::write_temporal` meets its contract. The domain is tested first; then all of the bytes are written, or none. Assumes
+-- nothing.
 use mathlib.Core.Path.{refl, sym, ap, _∙_}
 use borrow.Author.Tests.{not-true, not-false}
 use Rattle.wire.specs.Outcome.{refused}
@@ -9,9 +10,9 @@ use Rattle.temporal.proofs.write.write_temporal.Tie as tie
 use Rattle.temporal.proofs.write.write_temporal.Reads as reads
 use Rattle.temporal.proofs.write.write_temporal.Lts as lts
 use Rattle.temporal.proofs.domain.in_domain.Reads as in-domain-reads
-use Rattle.temporal.proofs.kind.fraction_size.Reads as fraction-size-reads
-use Rattle.temporal.proofs.kind.is_big.Reads as is-big-reads
-use Rattle.temporal.proofs.kind.whole_bytes.Reads as whole-bytes-reads
+use Rattle.temporal.proofs.storage.fraction_size.Reads as fraction-size-reads
+use Rattle.temporal.proofs.storage.is_big.Reads as is-big-reads
+use Rattle.temporal.proofs.storage.whole_bytes.Reads as whole-bytes-reads
 use Rattle.temporal.proofs.write.units_of.Reads as units-of-reads
 use Rattle.temporal.proofs.write.whole_of.Reads as whole-of-reads
 use Rattle.temporal.proofs.write.write_two.Reads as write-two-reads
@@ -27,14 +28,15 @@ refuse-requires c κs = search needs
 returns : tie.Need-returns
 returns c = let a = c .before .before .before .before .args in
     let d = sym (c .before .before .in-domain .ensures) ∙ not-true (c .before .before .in-domain .result) (c .before .if1 .taken) in
-    let z = write-none (a .kind) (a .place) (a .buf .now) (a .at) (a .temporal) d in
+    let z = write-none (a .storage) (a .place) (a .buf .now) (a .at) (a .temporal) d in
     rw z (ap refused (c .refuse .ensures), refl)
 
 whole-bytes-requires : tie.Need-whole-bytes-requires
 whole-bytes-requires c κs = search needs
 
 whole-of-requires : tie.Need-whole-of-requires
-whole-of-requires c κs = sym (c .before .before .in-domain .ensures) ∙ not-false (c .before .before .in-domain .result) (c .before .if1 .left)
+whole-of-requires c κs =
+    sym (c .before .before .in-domain .ensures) ∙ not-false (c .before .before .in-domain .result) (c .before .if1 .left)
 
 is-big-requires : tie.Need-is-big-requires
 is-big-requires c κs = search needs
@@ -43,7 +45,10 @@ fraction-size-requires : tie.Need-fraction-size-requires
 fraction-size-requires c κs = search needs
 
 units-of-requires : tie.Need-units-of-requires
-units-of-requires c κs = sym (c .before .before .before .before .before .before .in-domain .ensures) ∙ not-false (c .before .before .before .before .before .before .in-domain .result) (c .before .before .before .before .before .if1 .left)
+units-of-requires c κs =
+    sym (c .before .before .before .before .before .before .in-domain .ensures)
+    ∙ not-false (c .before .before .before .before .before .before .in-domain .result)
+    (c .before .before .before .before .before .if1 .left)
 
 write-two-requires : tie.Need-write-two-requires
 write-two-requires c κs = search needs
@@ -53,10 +58,19 @@ same-length c = search needs
 
 returns-2 : tie.Need-returns-2
 returns-2 c = let a = c .before .before .before .before .before .before .before .before .before .before .before .before .before .args in
-    let d = sym (c .before .before .before .before .before .before .before .before .before .before .before .in-domain .ensures) ∙ not-false (c .before .before .before .before .before .before .before .before .before .before .before .in-domain .result) (c .before .before .before .before .before .before .before .before .before .before .if1 .left) in
-    let b = sym (c .before .before .before .before .before .before .before .is-big .ensures) ∙ c .before .before .before .before .before .before .if2 .taken in
+    let d =
+    sym (c .before .before .before .before .before .before .before .before .before .before .before .in-domain .ensures)
+    ∙ not-false (c .before .before .before .before .before .before .before .before .before .before .before .in-domain .result)
+    (c .before .before .before .before .before .before .before .before .before .before .if1 .left) in
+    let b =
+    sym (c .before .before .before .before .before .before .before .is-big .ensures)
+    ∙ c .before .before .before .before .before .before .if2 .taken in
     let o = c .before .before .write-two in
-    write-big (a .kind) (a .place) (a .buf .now) (a .at) (a .temporal) (o .result) _ _ _ _ _ d b (c .before .before .before .before .before .before .before .before .before .whole-bytes .ensures .0) (c .before .before .before .before .before .fraction-size .ensures .0) (c .before .before .before .before .before .before .before .before .whole-of .ensures) (c .before .before .before .before .units-of .ensures)
+    write-big (a .storage) (a .place) (a .buf .now) (a .at) (a .temporal) (o .result) _ _ _ _ _ d b
+    (c .before .before .before .before .before .before .before .before .before .whole-bytes .ensures .0)
+    (c .before .before .before .before .before .fraction-size .ensures .0)
+    (c .before .before .before .before .before .before .before .before .whole-of .ensures)
+    (c .before .before .before .before .units-of .ensures)
     (o .ensures .0, o .ensures .1)
 
 write-le-requires : tie.Need-write-le-requires
@@ -67,11 +81,15 @@ same-length-2 c = search needs
 
 returns-3 : tie.Need-returns-3
 returns-3 c = let a = c .before .before .before .before .before .before .before .before .before .before .before .args in
-    let d = sym (c .before .before .before .before .before .before .before .before .before .in-domain .ensures) ∙ not-false (c .before .before .before .before .before .before .before .before .before .in-domain .result) (c .before .before .before .before .before .before .before .before .if1 .left) in
+    let d =
+    sym (c .before .before .before .before .before .before .before .before .before .in-domain .ensures)
+    ∙ not-false (c .before .before .before .before .before .before .before .before .before .in-domain .result)
+    (c .before .before .before .before .before .before .before .before .if1 .left) in
     let b = sym (c .before .before .before .before .before .is-big .ensures) ∙ c .before .before .before .before .if2 .left in
     let k = c .before .before .before .before .before .before .before .whole-bytes .ensures in
     let o = c .before .before .write-le in
-    write-little (a .kind) (a .place) (a .buf .now) (a .at) (a .temporal) (o .result) _ _ _ d b (k .0) (k .1) (c .before .before .before .before .before .before .whole-of .ensures) (o .ensures .0, o .ensures .1)
+    write-little (a .storage) (a .place) (a .buf .now) (a .at) (a .temporal) (o .result) _ _ _ d b (k .0) (k .1)
+    (c .before .before .before .before .before .before .whole-of .ensures) (o .ensures .0, o .ensures .1)
 
 pub write-temporal-spec : {M : Type 1} → statement M
 write-temporal-spec =

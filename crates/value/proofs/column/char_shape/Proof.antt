@@ -22,7 +22,13 @@ length-bytes-requires c κs = search needs
 
 returns : tie.Need-returns
 unfolding shapeIn
-returns c = rw (sym (c .before .before .before .or-30 .ensures), c .before .before .if1 .taken, c .length-bytes .ensures, c .before .declared-in .ensures) refl
+returns c =
+    rw (
+      sym (c .before .before .before .or-30 .ensures),
+      c .before .before .if1 .taken,
+      c .length-bytes .ensures,
+      c .before .declared-in .ensures,
+    ) refl
 
 returns-2 : tie.Need-returns-2
 unfolding shapeIn

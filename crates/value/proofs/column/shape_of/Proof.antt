@@ -22,7 +22,9 @@ shape-in-requires : tie.Need-shape-in-requires
 shape-in-requires c κs = search needs
 
 returns-2 : tie.Need-returns-2
-returns-2 c = c .shape-in .ensures ∙ by-family (c .before .before .before .before .args .column) (c .before .family-of .result) (c .before .before .if1 .left) (c .before .family-of .ensures)
+returns-2 c =
+    c .shape-in .ensures ∙ by-family (c .before .before .before .before .args .column) (c .before .family-of .result)
+    (c .before .before .if1 .left) (c .before .family-of .ensures)
 
 pub shape-of-spec : {M : Type 1} → statement M
 shape-of-spec = tie.close (tie.spec returns family-of-requires shape-in-requires returns-2)

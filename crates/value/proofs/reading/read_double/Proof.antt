@@ -5,7 +5,7 @@ use Rattle.value.specs.declared.shape.Shape.the-variants.{DoubleBits}
 use Rattle.value.specs.declared.datum.Value.the-variants.{Double}
 use Rattle.value.specs.Columns.{isTaken}
 use Rattle.value.specs.Shapes.{need, decode, fault}
-use Rattle.value.specs.Reading.{readOf, placed}
+use Rattle.value.specs.Reading.{readTold, placed}
 use Rattle.value.proofs.Readers.{got, ends-early}
 use borrow.Author.Needs.{needs}
 use Rattle.value.proofs.reading.read_double.Statement.{statement}
@@ -25,7 +25,8 @@ short-requires c κs = search needs
 returns : tie.Need-returns
 unfolding isTaken need
 returns c = let a = c .before .before .before .before .args in
-    ap readOf (c .short .ensures) ∙ ends-early DoubleBits (a .place) (a .s .now) (a .at) refl (omega (arith, c .before .before .rest .ensures))
+    ap readTold (c .short .ensures)
+    ∙ ends-early DoubleBits (a .place) (a .s .now) (a .at) refl (omega (arith, c .before .before .rest .ensures))
 
 add-next : tie.Need-add-next
 add-next c = search needs
@@ -36,7 +37,8 @@ read-le-requires c κs = search needs
 returns-2 : tie.Need-returns-2
 unfolding isTaken need decode fault placed
 returns-2 c = let a = c .before .before .before .before .args in
-    got DoubleBits (a .place) (a .s .now) (a .at) 8 _ _ refl refl (omega (arith, c .before .before .rest .ensures)) refl (ap Double (c .read-le .ensures .0)) refl
+    got DoubleBits (a .place) (a .s .now) (a .at) 8 _ _ refl refl (omega (arith, c .before .before .rest .ensures)) refl
+    (ap Double (c .read-le .ensures .0)) refl
 
 pub read-double-spec : {M : Type 1} → statement M
 read-double-spec =

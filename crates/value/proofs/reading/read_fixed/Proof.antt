@@ -6,7 +6,7 @@ use lib.ListN.{length}
 use Rattle.value.specs.declared.shape.Shape.the-variants.{Fixed}
 use Rattle.value.specs.Columns.{isTaken}
 use Rattle.value.specs.Shapes.{need, decode, fault}
-use Rattle.value.specs.Reading.{readOf, placed}
+use Rattle.value.specs.Reading.{readTold, placed}
 use Rattle.value.proofs.Readers.{got, ends-early, part-length}
 use borrow.Author.Needs.{needs}
 use Rattle.value.proofs.reading.read_fixed.Statement.{statement}
@@ -25,7 +25,8 @@ short-requires c κs = search needs
 returns : tie.Need-returns
 unfolding isTaken need
 returns c = let a = c .before .before .before .before .args in
-    ap readOf (c .short .ensures) ∙ ends-early (Fixed (a .n)) (a .place) (a .s .now) (a .at) refl (omega (arith, c .before .before .rest .ensures))
+    ap readTold (c .short .ensures)
+    ∙ ends-early (Fixed (a .n)) (a .place) (a .s .now) (a .at) refl (omega (arith, c .before .before .rest .ensures))
 
 add-next : tie.Need-add-next
 add-next c = search needs

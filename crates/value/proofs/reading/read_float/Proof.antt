@@ -5,7 +5,7 @@ use Rattle.value.specs.declared.shape.Shape.the-variants.{FloatBits}
 use Rattle.value.specs.declared.datum.Value.the-variants.{Float}
 use Rattle.value.specs.Columns.{isTaken}
 use Rattle.value.specs.Shapes.{need, decode, fault}
-use Rattle.value.specs.Reading.{readOf, placed}
+use Rattle.value.specs.Reading.{readTold, placed}
 use Rattle.value.proofs.Readers.{got, ends-early}
 use borrow.Author.Needs.{needs}
 use Rattle.value.proofs.reading.read_float.Statement.{statement}
@@ -25,7 +25,8 @@ short-requires c κs = search needs
 returns : tie.Need-returns
 unfolding isTaken need
 returns c = let a = c .before .before .before .before .args in
-    ap readOf (c .short .ensures) ∙ ends-early FloatBits (a .place) (a .s .now) (a .at) refl (omega (arith, c .before .before .rest .ensures))
+    ap readTold (c .short .ensures)
+    ∙ ends-early FloatBits (a .place) (a .s .now) (a .at) refl (omega (arith, c .before .before .rest .ensures))
 
 add-next : tie.Need-add-next
 add-next c = search needs
@@ -39,7 +40,8 @@ cast-bits c = search needs
 returns-2 : tie.Need-returns-2
 unfolding isTaken need decode fault placed
 returns-2 c = let a = c .before .before .before .before .args in
-    got FloatBits (a .place) (a .s .now) (a .at) 4 _ _ refl refl (omega (arith, c .before .before .rest .ensures)) refl (ap Float (c .read-le .ensures .0)) refl
+    got FloatBits (a .place) (a .s .now) (a .at) 4 _ _ refl refl (omega (arith, c .before .before .rest .ensures)) refl
+    (ap Float (c .read-le .ensures .0)) refl
 
 pub read-float-spec : {M : Type 1} → statement M
 read-float-spec =

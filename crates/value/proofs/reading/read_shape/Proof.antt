@@ -1,7 +1,7 @@
 -- `value::reading::read_shape` meets its contract. Assumes nothing.
 use mathlib.Core.Path.{sym, ap, subst, _∙_}
 use Rattle.value.specs.declared.shape.Shape.{Shape}
-use Rattle.value.specs.Shapes.{Sized}
+use Rattle.value.specs.Inner.Shapes.{Sized}
 use Rattle.value.specs.Reading.{readValue}
 use Rattle.wire.specs.Outcome.{refused}
 use Rattle.value.proofs.Readers.{no-column}
@@ -75,31 +75,41 @@ refuse-requires : tie.Need-refuse-requires
 refuse-requires c κs = search needs
 
 returns : tie.Need-returns
-returns c = let a = c .before .before .before .before .before .args in c .read-unsigned .ensures ∙ ap (λ (sh : Shape). readValue sh (a .place) (a .s .now) (a .at)) (sym (c .before .before .shape .given .1))
+returns c = let a = c .before .before .before .before .before .args in
+    c .read-unsigned .ensures ∙ ap (λ (sh : Shape). readValue sh (a .place) (a .s .now) (a .at)) (sym (c .before .before .shape .given .1))
 
 returns-2 : tie.Need-returns-2
-returns-2 c = let a = c .before .before .before .before .before .args in c .read-signed .ensures ∙ ap (λ (sh : Shape). readValue sh (a .place) (a .s .now) (a .at)) (sym (c .before .before .shape2 .given .1))
+returns-2 c = let a = c .before .before .before .before .before .args in
+    c .read-signed .ensures ∙ ap (λ (sh : Shape). readValue sh (a .place) (a .s .now) (a .at)) (sym (c .before .before .shape2 .given .1))
 
 returns-3 : tie.Need-returns-3
-returns-3 c = let a = c .before .before .before .before .args in c .read-float .ensures ∙ ap (λ (sh : Shape). readValue sh (a .place) (a .s .now) (a .at)) (sym (c .before .enum-told .given .1))
+returns-3 c = let a = c .before .before .before .before .args in
+    c .read-float .ensures ∙ ap (λ (sh : Shape). readValue sh (a .place) (a .s .now) (a .at)) (sym (c .before .enum-told .given .1))
 
 returns-4 : tie.Need-returns-4
-returns-4 c = let a = c .before .before .before .before .args in c .read-double .ensures ∙ ap (λ (sh : Shape). readValue sh (a .place) (a .s .now) (a .at)) (sym (c .before .enum-told2 .given .1))
+returns-4 c = let a = c .before .before .before .before .args in
+    c .read-double .ensures ∙ ap (λ (sh : Shape). readValue sh (a .place) (a .s .now) (a .at)) (sym (c .before .enum-told2 .given .1))
 
 returns-5 : tie.Need-returns-5
-returns-5 c = let a = c .before .before .before .before .args in c .read-year .ensures ∙ ap (λ (sh : Shape). readValue sh (a .place) (a .s .now) (a .at)) (sym (c .before .enum-told3 .given .1))
+returns-5 c = let a = c .before .before .before .before .args in
+    c .read-year .ensures ∙ ap (λ (sh : Shape). readValue sh (a .place) (a .s .now) (a .at)) (sym (c .before .enum-told3 .given .1))
 
 returns-6 : tie.Need-returns-6
-returns-6 c = let a = c .before .before .before .before .before .args in c .read-timed .ensures ∙ ap (λ (sh : Shape). readValue sh (a .place) (a .s .now) (a .at)) (sym (c .before .before .shape3 .given .1))
+returns-6 c = let a = c .before .before .before .before .before .args in
+    c .read-timed .ensures ∙ ap (λ (sh : Shape). readValue sh (a .place) (a .s .now) (a .at)) (sym (c .before .before .shape3 .given .1))
 
 returns-7 : tie.Need-returns-7
-returns-7 c = let a = c .before .before .before .before .before .args in c .read-fixed .ensures ∙ ap (λ (sh : Shape). readValue sh (a .place) (a .s .now) (a .at)) (sym (c .before .before .shape4 .given .1))
+returns-7 c = let a = c .before .before .before .before .before .args in
+    c .read-fixed .ensures ∙ ap (λ (sh : Shape). readValue sh (a .place) (a .s .now) (a .at)) (sym (c .before .before .shape4 .given .1))
 
 returns-8 : tie.Need-returns-8
-returns-8 c = let a = c .before .before .before .before .before .args in c .read-counted .ensures ∙ ap (λ (sh : Shape). readValue sh (a .place) (a .s .now) (a .at)) (sym (c .before .before .shape5 .given .1))
+returns-8 c = let a = c .before .before .before .before .before .args in
+    c .read-counted .ensures ∙ ap (λ (sh : Shape). readValue sh (a .place) (a .s .now) (a .at)) (sym (c .before .before .shape5 .given .1))
 
 returns-9 : tie.Need-returns-9
-returns-9 c = let a = c .before .before .before .before .before .args in ap refused (c .refuse .ensures) ∙ no-column _ (a .place) (a .s .now) (a .at) ∙ ap (λ (sh : Shape). readValue sh (a .place) (a .s .now) (a .at)) (sym (c .before .before .shape6 .given .1))
+returns-9 c = let a = c .before .before .before .before .before .args in
+    ap refused (c .refuse .ensures) ∙ no-column _ (a .place) (a .s .now) (a .at)
+    ∙ ap (λ (sh : Shape). readValue sh (a .place) (a .s .now) (a .at)) (sym (c .before .before .shape6 .given .1))
 
 pub read-shape-spec : {M : Type 1} → statement M
 read-shape-spec =

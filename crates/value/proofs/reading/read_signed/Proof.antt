@@ -5,7 +5,7 @@ use native.Mathlib.Omega.{arith}
 use lib.ListN.{take, drop}
 use Rattle.value.specs.declared.shape.Shape.the-variants.{Signed}
 use Rattle.value.specs.Shapes.{need, decode, fault}
-use Rattle.value.specs.Reading.{readOf, placed}
+use Rattle.value.specs.Reading.{readTold, placed}
 use mir.Syntax.{w64}
 use mir.ValLaws.{toZ-ofZ}
 use Rattle.wire.specs.Number.{leValue}
@@ -32,7 +32,8 @@ short-requires c κs = search needs
 returns : tie.Need-returns
 unfolding isTaken need
 returns c = let a = c .before .before .before .before .args in
-    ap readOf (c .short .ensures) ∙ ends-early (Signed (a .k)) (a .place) (a .s .now) (a .at) refl (omega (arith, c .before .before .rest .ensures))
+    ap readTold (c .short .ensures)
+    ∙ ends-early (Signed (a .k)) (a .place) (a .s .now) (a .at) refl (omega (arith, c .before .before .rest .ensures))
 
 add-next : tie.Need-add-next
 add-next c = search needs
@@ -48,8 +49,11 @@ unfolding isTaken need decode fault placed
 returns-2 c = let a = c .before .before .before .before .before .args in
     let n = narrow (a .k) (omega arith) in
     let e = c .before .read-le .ensures .0 ∙ ap (λ (j : ℕ). leValue (take j (drop (a .at) (a .s .now)))) n in
-    let z = toZ-ofZ w64 (c .signed-of .result) (record { sfits = c .signed-of .ok }) ∙ c .signed-of .ensures ∙ ap (λ (j : ℕ). signedOf (256 ^ j) (c .before .read-le .result)) n ∙ ap (signedOf (256 ^ a .k)) e in
-    got (Signed (a .k)) (a .place) (a .s .now) (a .at) (a .k) _ _ refl refl (omega (arith, c .before .before .before .rest .ensures)) refl (ap Int z) refl
+    let z =
+    toZ-ofZ w64 (c .signed-of .result) (record { sfits = c .signed-of .ok }) ∙ c .signed-of .ensures
+    ∙ ap (λ (j : ℕ). signedOf (256 ^ j) (c .before .read-le .result)) n ∙ ap (signedOf (256 ^ a .k)) e in
+    got (Signed (a .k)) (a .place) (a .s .now) (a .at) (a .k) _ _ refl refl (omega (arith, c .before .before .before .rest .ensures)) refl
+    (ap Int z) refl
 
 pub read-signed-spec : {M : Type 1} → statement M
 read-signed-spec =

@@ -1,6 +1,6 @@
 -- `value::reading::read_timed` meets its contract. Assumes nothing.
 use mathlib.Core.Path.{sym, ap, _∙_}
-use Rattle.temporal.specs.Reading.{temporalOf}
+use Rattle.temporal.specs.Reading.{temporalTold}
 use Rattle.value.proofs.Readers.{timed}
 use borrow.Author.Needs.{needs}
 use Rattle.value.proofs.reading.read_timed.Statement.{statement}
@@ -20,11 +20,13 @@ enum-known-why c = search needs
 
 returns : tie.Need-returns
 returns c = let a = c .before .before .before .before .before .args in
-    sym (timed (a .kind) (a .place) (a .s .now) (a .at) ∙ rw (sym (c .before .before .before .read-temporal .ensures) ∙ ap temporalOf (c .before .temporal .given .1)))
+    sym (timed (a .storage) (a .place) (a .s .now) (a .at)
+    ∙ rw (sym (c .before .before .before .read-temporal .ensures) ∙ ap temporalTold (c .before .temporal .given .1)))
 
 returns-2 : tie.Need-returns-2
 returns-2 c = let a = c .before .before .before .before .before .args in
-    sym (timed (a .kind) (a .place) (a .s .now) (a .at) ∙ rw (sym (c .before .before .before .read-temporal .ensures) ∙ ap temporalOf (c .before .why .given .1)))
+    sym (timed (a .storage) (a .place) (a .s .now) (a .at)
+    ∙ rw (sym (c .before .before .before .read-temporal .ensures) ∙ ap temporalTold (c .before .why .given .1)))
 
 pub read-timed-spec : {M : Type 1} → statement M
 read-timed-spec =

@@ -8,7 +8,7 @@ use Rattle.value.specs.declared.shape.Shape.the-variants.{Unsigned}
 use Rattle.value.specs.declared.datum.Value.the-variants.{Uint}
 use Rattle.value.specs.Columns.{isTaken}
 use Rattle.value.specs.Shapes.{need, decode, fault}
-use Rattle.value.specs.Reading.{readOf, placed}
+use Rattle.value.specs.Reading.{readTold, placed}
 use Rattle.value.proofs.Readers.{got, ends-early, narrow}
 use borrow.Author.Needs.{needs}
 use Rattle.value.proofs.reading.read_unsigned.Statement.{statement}
@@ -28,7 +28,8 @@ short-requires c κs = search needs
 returns : tie.Need-returns
 unfolding isTaken need
 returns c = let a = c .before .before .before .before .args in
-    ap readOf (c .short .ensures) ∙ ends-early (Unsigned (a .k)) (a .place) (a .s .now) (a .at) refl (omega (arith, c .before .before .rest .ensures))
+    ap readTold (c .short .ensures)
+    ∙ ends-early (Unsigned (a .k)) (a .place) (a .s .now) (a .at) refl (omega (arith, c .before .before .rest .ensures))
 
 add-next : tie.Need-add-next
 add-next c = search needs
@@ -40,7 +41,8 @@ returns-2 : tie.Need-returns-2
 unfolding isTaken need decode fault placed
 returns-2 c = let a = c .before .before .before .before .args in
     let e = c .read-le .ensures .0 ∙ ap (λ (j : ℕ). leValue (take j (drop (a .at) (a .s .now)))) (narrow (a .k) (omega arith)) in
-    got (Unsigned (a .k)) (a .place) (a .s .now) (a .at) (a .k) _ _ refl refl (omega (arith, c .before .before .rest .ensures)) refl (ap Uint e) refl
+    got (Unsigned (a .k)) (a .place) (a .s .now) (a .at) (a .k) _ _ refl refl (omega (arith, c .before .before .rest .ensures)) refl
+    (ap Uint e) refl
 
 pub read-unsigned-spec : {M : Type 1} → statement M
 read-unsigned-spec =

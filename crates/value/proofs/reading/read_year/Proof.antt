@@ -6,7 +6,7 @@ use Rattle.value.specs.declared.shape.Shape.the-variants.{YearByte}
 use Rattle.value.specs.declared.datum.Value.the-variants.{Year}
 use Rattle.value.specs.Columns.{isTaken}
 use Rattle.value.specs.Shapes.{need, decode, fault}
-use Rattle.value.specs.Reading.{readOf, placed}
+use Rattle.value.specs.Reading.{readTold, placed}
 use Rattle.value.proofs.Readers.{got, ends-early}
 use borrow.Author.Needs.{needs}
 use Rattle.value.proofs.reading.read_year.Statement.{statement}
@@ -26,7 +26,8 @@ short-requires c κs = search needs
 returns : tie.Need-returns
 unfolding isTaken need
 returns c = let a = c .before .before .before .before .args in
-    ap readOf (c .short .ensures) ∙ ends-early YearByte (a .place) (a .s .now) (a .at) refl (omega (arith, c .before .before .rest .ensures))
+    ap readTold (c .short .ensures)
+    ∙ ends-early YearByte (a .place) (a .s .now) (a .at) refl (omega (arith, c .before .before .rest .ensures))
 
 add-next : tie.Need-add-next
 add-next c = search needs
@@ -43,7 +44,8 @@ cast-year c = search needs
 returns-2 : tie.Need-returns-2
 unfolding isTaken need decode fault placed
 returns-2 c = let a = c .before .before .before .before .args in
-    got YearByte (a .place) (a .s .now) (a .at) 1 _ _ refl refl (omega (arith, c .before .before .rest .ensures)) refl (ap (λ (n : ℕ). Year (1900 + n)) (c .read-le .ensures .0)) refl
+    got YearByte (a .place) (a .s .now) (a .at) 1 _ _ refl refl (omega (arith, c .before .before .rest .ensures)) refl
+    (ap (λ (n : ℕ). Year (1900 + n)) (c .read-le .ensures .0)) refl
 
 pub read-year-spec : {M : Type 1} → statement M
 read-year-spec =

@@ -32,14 +32,21 @@ returns-2 c = let a = c .before .before .before .before .args in
     let d = datumOf [] (a .value) in
     let e = ap (λ (p : Part). p .len) (c .before .bytes-at .ensures) in
     let h : bytesAt (a .value) .len < a .least = omega (arith, e) in
-    rw (eq-eqb (tag d) 7 (sym (c .before .before .before .tag-of .ensures) ∙ c .before .before .if1 .left), lt-leb (a .least) (bytesAt (a .value) .len) h)
+    rw (
+      eq-eqb (tag d) 7 (sym (c .before .before .before .tag-of .ensures) ∙ c .before .before .if1 .left),
+      lt-leb (a .least) (bytesAt (a .value) .len) h,
+    )
 
 returns-3 : tie.Need-returns-3
 returns-3 c = let a = c .before .before .before .before .args in
     let d = datumOf [] (a .value) in
     let e = ap (λ (p : Part). p .len) (c .before .bytes-at .ensures) in
     let h : a .least ≤ bytesAt (a .value) .len = omega (arith, e) in
-    rw (eq-eqb (tag d) 7 (sym (c .before .before .before .tag-of .ensures) ∙ c .before .before .if1 .left), le-leb (a .least) (bytesAt (a .value) .len) h, e)
+    rw (
+      eq-eqb (tag d) 7 (sym (c .before .before .before .tag-of .ensures) ∙ c .before .before .if1 .left),
+      le-leb (a .least) (bytesAt (a .value) .len) h,
+      e,
+    )
 
 pub is-bytes-spec : {M : Type 1} → statement M
 is-bytes-spec = tie.close (tie.spec tag-of-requires returns bytes-at-requires returns-2 returns-3)

@@ -29,13 +29,20 @@ returns-2 : tie.Need-returns-2
 returns-2 c = let a = c .before .before .before .before .args in
     let d = datumOf [] (a .value) in
     let h : numberIn d < a .least = omega (arith, c .before .number-in .ensures) in
-    rw (eq-eqb (tag d) (a .sort) (sym (c .before .before .before .tag-of .ensures) ∙ c .before .before .if1 .left), lt-leb (a .least) (numberIn d) h)
+    rw (
+      eq-eqb (tag d) (a .sort) (sym (c .before .before .before .tag-of .ensures) ∙ c .before .before .if1 .left),
+      lt-leb (a .least) (numberIn d) h,
+    )
 
 returns-3 : tie.Need-returns-3
 returns-3 c = let a = c .before .before .before .before .args in
     let d = datumOf [] (a .value) in
     let h : a .least ≤ numberIn d = omega (arith, c .before .number-in .ensures) in
-    rw (eq-eqb (tag d) (a .sort) (sym (c .before .before .before .tag-of .ensures) ∙ c .before .before .if1 .left), le-leb (a .least) (numberIn d) h, c .before .number-in .ensures)
+    rw (
+      eq-eqb (tag d) (a .sort) (sym (c .before .before .before .tag-of .ensures) ∙ c .before .before .if1 .left),
+      le-leb (a .least) (numberIn d) h,
+      c .before .number-in .ensures,
+    )
 
 pub is-number-spec : {M : Type 1} → statement M
 is-number-spec =

@@ -34,7 +34,9 @@ in-halves-requires c κs = search needs
 returns-2 : tie.Need-returns-2
 returns-2 c = let a = c .before .before .before .before .args in
     let d = datumOf [] (a .value) in
-    rw (eq-eqb (tag d) 1 (sym (c .before .before .before .tag-of .ensures) ∙ c .before .before .if1 .left)) (c .in-halves .ensures ∙ ap (inHalves (256 ^ min (a .k) 8)) (toZ-ofZ w64 (c .before .int-in .result) (record { sfits = c .before .int-in .ok }) ∙ c .before .int-in .ensures))
+    rw (eq-eqb (tag d) 1 (sym (c .before .before .before .tag-of .ensures) ∙ c .before .before .if1 .left))
+    (c .in-halves .ensures ∙ ap (inHalves (256 ^ min (a .k) 8))
+    (toZ-ofZ w64 (c .before .int-in .result) (record { sfits = c .before .int-in .ok }) ∙ c .before .int-in .ensures))
 
 pub is-signed-spec : {M : Type 1} → statement M
 is-signed-spec =

@@ -24,7 +24,12 @@ refuse-requires c κs = search needs
 
 returns : tie.Need-returns
 returns c = let a = c .before .before .before .before .before .args in
-    rw (sizes-not (a .shape) (a .place) (a .lent .now) (a .value) (sym (c .before .before .before .is-taken .ensures) ∙ not-true _ (c .before .before .if1 .taken)), c .refuse .ensures, c .before .refusal-of .ensures)
+    rw (
+      sizes-not (a .shape) (a .place) (a .lent .now) (a .value)
+          (sym (c .before .before .before .is-taken .ensures) ∙ not-true _ (c .before .before .if1 .taken)),
+      c .refuse .ensures,
+      c .before .refusal-of .ensures,
+    )
 
 is-in-requires : tie.Need-is-in-requires
 is-in-requires c κs = search needs
@@ -34,14 +39,24 @@ refuse-requires-2 c κs = search needs
 
 returns-2 : tie.Need-returns-2
 returns-2 c = let a = c .before .before .before .before .before .before .args in
-    rw (sizes-out (a .shape) (a .place) (a .lent .now) (a .value) (sym (c .before .before .before .before .is-taken .ensures) ∙ not-false _ (c .before .before .before .if1 .left)) (sym (c .before .before .is-in .ensures) ∙ not-true _ (c .before .if2 .taken)), c .refuse2 .ensures)
+    rw (
+      sizes-out (a .shape) (a .place) (a .lent .now) (a .value)
+          (sym (c .before .before .before .before .is-taken .ensures) ∙ not-false _ (c .before .before .before .if1 .left))
+          (sym (c .before .before .is-in .ensures) ∙ not-true _ (c .before .if2 .taken)),
+      c .refuse2 .ensures,
+    )
 
 size-in-requires : tie.Need-size-in-requires
 size-in-requires c κs = (c .before .before .before .before .before .pre, sym (c .before .is-in .ensures) ∙ not-false _ (c .if2 .left))
 
 returns-3 : tie.Need-returns-3
 returns-3 c = let a = c .before .before .before .before .before .before .args in
-    rw (sizes-in (a .shape) (a .place) (a .lent .now) (a .value) (sym (c .before .before .before .before .is-taken .ensures) ∙ not-false _ (c .before .before .before .if1 .left)) (sym (c .before .before .is-in .ensures) ∙ not-false _ (c .before .if2 .left)), c .size-in .ensures)
+    rw (
+      sizes-in (a .shape) (a .place) (a .lent .now) (a .value)
+          (sym (c .before .before .before .before .is-taken .ensures) ∙ not-false _ (c .before .before .before .if1 .left))
+          (sym (c .before .before .is-in .ensures) ∙ not-false _ (c .before .if2 .left)),
+      c .size-in .ensures,
+    )
 
 pub size-shape-spec : {M : Type 1} → statement M
 size-shape-spec =

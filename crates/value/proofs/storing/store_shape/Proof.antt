@@ -2,11 +2,12 @@
 use mathlib.Core.Path.{sym, ap, subst, _∙_}
 use native.Mathlib.Omega.{arith}
 use Rattle.value.specs.declared.shape.Shape.{Shape}
-use Rattle.value.specs.Shapes.{Sized}
+use Rattle.value.specs.Inner.Shapes.{Sized}
 use Rattle.value.specs.Storing.{isIn}
 use mir.Syntax.{w64}
 use mir.ValLaws.{toZ-ofZ}
-use Rattle.value.proofs.Writers.{is-in, none-in, put-unsigned, put-signed, put-float, put-double, put-year, put-fixed, put-counted, put-timed, year-least}
+use Rattle.value.proofs.Writers.{is-in, none-in, put-unsigned, put-signed, put-float, put-double, put-year, put-fixed, put-counted}
+use Rattle.value.proofs.Writers.{put-timed, year-least}
 use borrow.Author.Needs.{needs}
 use Rattle.value.proofs.storing.store_shape.Statement.{statement}
 use Rattle.value.proofs.storing.store_shape.Tie as tie
@@ -15,7 +16,7 @@ use Rattle.value.proofs.storing.store_shape.Lts as lts
 use Rattle.temporal.proofs.write_temporal.Reads as write-temporal-reads
 use Rattle.value.proofs.datum.int_in.Reads as int-in-reads
 use Rattle.value.proofs.datum.number_in.Reads as number-in-reads
-use Rattle.value.proofs.datum.when_in.Reads as when-in-reads
+use Rattle.value.proofs.datum.temporal_in.Reads as temporal-in-reads
 use Rattle.wire.proofs.twos_of.Reads as twos-of-reads
 use Rattle.value.proofs.storing.write_part.Reads as write-part-reads
 use Rattle.wire.proofs.write_le.Reads as write-le-reads
@@ -67,8 +68,10 @@ number-in-requires-4 : tie.Need-number-in-requires-4
 number-in-requires-4 c κs = search needs
 
 sub-write-le : tie.Need-sub-write-le
-sub-write-le c = let a = c .before .before .before .before .before .before .args in
-    let h = ap (λ (sh : Shape). isIn sh (a .lent .now) (a .value)) (sym (c .before .before .enum-told3 .given .1)) ∙ c .before .before .before .before .before .before .pre .1 in
+sub-write-le c = let a = c .before .before .before .before .before .args in
+    let h =
+    ap (λ (sh : Shape). isIn sh (a .lent .now) (a .value)) (sym (c .before .enum-told3 .given .1))
+    ∙ c .before .before .before .before .before .pre .1 in
     omega (arith, year-least (a .lent .now) (a .value) h, c .number-in4 .ensures)
 
 write-le-requires-5 : tie.Need-write-le-requires-5
@@ -77,8 +80,8 @@ write-le-requires-5 c κs = search needs
 enum-known-shape-3 : tie.Need-enum-known-shape-3
 enum-known-shape-3 c = search needs
 
-when-in-requires : tie.Need-when-in-requires
-when-in-requires c κs = search needs
+temporal-in-requires : tie.Need-temporal-in-requires
+temporal-in-requires c κs = search needs
 
 write-temporal-requires : tie.Need-write-temporal-requires
 write-temporal-requires c κs = search needs
@@ -87,13 +90,17 @@ enum-told-4 : tie.Need-enum-told-4
 enum-told-4 c = search needs
 
 write-part-requires : tie.Need-write-part-requires
-write-part-requires c κs = let a = c .before .before .before .before .before .args in (omega arith, is-in _ (a .lent .now) (a .value) (c .before .before .before .before .before .pre .1) .0)
+write-part-requires c κs = let a = c .before .before .before .before .before .args in
+    (omega arith, is-in _ (a .lent .now) (a .value) (c .before .before .before .before .before .pre .1) .0)
 
 enum-known-shape-4 : tie.Need-enum-known-shape-4
 enum-known-shape-4 c = search needs
 
 write-part-requires-2 : tie.Need-write-part-requires-2
-write-part-requires-2 c κs = let a = c .before .before .before .before .before .before .args in (subst Sized (c .before .before .shape4 .given .1) (c .before .before .before .before .before .before .pre .0), is-in _ (a .lent .now) (a .value) (c .before .before .before .before .before .before .pre .1) .0)
+write-part-requires-2 c κs = let a = c .before .before .before .before .before .before .args in (
+  subst Sized (c .before .before .shape4 .given .1) (c .before .before .before .before .before .before .pre .0),
+  is-in _ (a .lent .now) (a .value) (c .before .before .before .before .before .before .pre .1) .0,
+)
 
 enum-known-shape-5 : tie.Need-enum-known-shape-5
 enum-known-shape-5 c = search needs
@@ -109,7 +116,13 @@ returns c = let a = c .before .before .before .before .before .before .before .b
     let s = a .lent .now in
     let v = a .value in
     let f = c .before .before .write-le .ensures in
-    rw (c .before .before .before .before .before .before .shape .given .1, put-unsigned (c .before .before .before .before .before .before .shape .given .0 .0) s v (subst Sized (c .before .before .before .before .before .before .shape .given .1) (c .before .before .before .before .before .before .before .before .before .before .pre .0)), ← c .before .before .before .number-in .ensures) (f .0, f .1)
+    rw (
+      c .before .before .before .before .before .before .shape .given .1,
+      put-unsigned (c .before .before .before .before .before .before .shape .given .0 .0) s v
+          (subst Sized (c .before .before .before .before .before .before .shape .given .1)
+          (c .before .before .before .before .before .before .before .before .before .before .pre .0)),
+      ← c .before .before .before .before .number-in .ensures,
+    ) (f .0, f .1)
 
 same-length-2 : tie.Need-same-length-2
 same-length-2 c = search needs
@@ -119,7 +132,16 @@ returns-2 c = let a = c .before .before .before .before .before .before .before 
     let s = a .lent .now in
     let v = a .value in
     let f = c .before .before .write-le2 .ensures in
-    rw (c .before .before .before .before .before .before .before .shape2 .given .1, put-signed (c .before .before .before .before .before .before .before .shape2 .given .0 .0) s v (subst Sized (c .before .before .before .before .before .before .before .shape2 .given .1) (c .before .before .before .before .before .before .before .before .before .before .before .pre .0) .1), ← toZ-ofZ w64 (c .before .before .before .before .int-in .result) (record { sfits = c .before .before .before .before .int-in .ok }) ∙ c .before .before .before .before .int-in .ensures, ← c .before .before .before .twos-of .ensures) (f .0, f .1)
+    rw (
+      c .before .before .before .before .before .before .before .shape2 .given .1,
+      put-signed (c .before .before .before .before .before .before .before .shape2 .given .0 .0) s v
+          (subst Sized (c .before .before .before .before .before .before .before .shape2 .given .1)
+          (c .before .before .before .before .before .before .before .before .before .before .before .pre .0) .1),
+      ← toZ-ofZ w64 (c .before .before .before .before .before .int-in .result)
+          (record { sfits = c .before .before .before .before .before .int-in .ok })
+          ∙ c .before .before .before .before .before .int-in .ensures,
+      ← c .before .before .before .before .twos-of .ensures,
+    ) (f .0, f .1)
 
 same-length-3 : tie.Need-same-length-3
 same-length-3 c = search needs
@@ -129,7 +151,11 @@ returns-3 c = let a = c .before .before .before .before .before .before .before 
     let s = a .lent .now in
     let v = a .value in
     let f = c .before .before .write-le3 .ensures in
-    rw (c .before .before .before .before .before .enum-told .given .1, put-float s v, ← c .before .before .before .number-in2 .ensures) (f .0, f .1)
+    rw (
+      c .before .before .before .before .before .enum-told .given .1,
+      put-float s v,
+      ← c .before .before .before .before .number-in2 .ensures,
+    ) (f .0, f .1)
 
 same-length-4 : tie.Need-same-length-4
 same-length-4 c = search needs
@@ -139,7 +165,11 @@ returns-4 c = let a = c .before .before .before .before .before .before .before 
     let s = a .lent .now in
     let v = a .value in
     let f = c .before .before .write-le4 .ensures in
-    rw (c .before .before .before .before .before .enum-told2 .given .1, put-double s v, ← c .before .before .before .number-in3 .ensures) (f .0, f .1)
+    rw (
+      c .before .before .before .before .before .enum-told2 .given .1,
+      put-double s v,
+      ← c .before .before .before .before .number-in3 .ensures,
+    ) (f .0, f .1)
 
 same-length-5 : tie.Need-same-length-5
 same-length-5 c = search needs
@@ -149,7 +179,11 @@ returns-5 c = let a = c .before .before .before .before .before .before .before 
     let s = a .lent .now in
     let v = a .value in
     let f = c .before .before .write-le5 .ensures in
-    rw (c .before .before .before .before .before .enum-told3 .given .1, put-year s v, ← c .before .before .before .number-in4 .ensures) (f .0, f .1)
+    rw (
+      c .before .before .before .before .before .enum-told3 .given .1,
+      put-year s v,
+      ← c .before .before .before .before .number-in4 .ensures,
+    ) (f .0, f .1)
 
 same-length-6 : tie.Need-same-length-6
 same-length-6 c = search needs
@@ -158,9 +192,15 @@ returns-6 : tie.Need-returns-6
 returns-6 c = let a = c .before .before .before .before .before .before .before .before .before .before .args in
     let s = a .lent .now in
     let v = a .value in
-    let h = ap (λ (sh : Shape). isIn sh s v) (sym (c .before .before .before .before .before .before .shape3 .given .1)) ∙ c .before .before .before .before .before .before .before .before .before .before .pre .1 in
+    let h =
+    ap (λ (sh : Shape). isIn sh s v) (sym (c .before .before .before .before .before .before .shape3 .given .1))
+    ∙ c .before .before .before .before .before .before .before .before .before .before .pre .1 in
     let f = c .before .before .write-temporal .ensures in
-    rw (c .before .before .before .before .before .before .shape3 .given .1, put-timed (c .before .before .before .before .before .before .shape3 .given .0 .0) s v (a .buf .now) (a .at) h, ← c .before .before .before .when-in .ensures) (f .0, f .1)
+    rw (
+      c .before .before .before .before .before .before .shape3 .given .1,
+      put-timed (c .before .before .before .before .before .before .shape3 .given .0 .0) s v (a .buf .now) (a .at) h,
+      ← c .before .before .before .before .temporal-in .ensures,
+    ) (f .0, f .1)
 
 same-length-7 : tie.Need-same-length-7
 same-length-7 c = search needs
@@ -180,11 +220,17 @@ returns-8 c = let a = c .before .before .before .before .before .before .before 
     let s = a .lent .now in
     let v = a .value in
     let f = c .before .before .write-part2 .ensures in
-    rw (c .before .before .before .before .before .shape4 .given .1, put-counted (c .before .before .before .before .before .shape4 .given .0 .0) s v (is-in _ s v (c .before .before .before .before .before .before .before .before .before .pre .1) .0)) (f .0, f .1)
+    rw (
+      c .before .before .before .before .before .shape4 .given .1,
+      put-counted (c .before .before .before .before .before .shape4 .given .0 .0) s v
+          (is-in _ s v (c .before .before .before .before .before .before .before .before .before .pre .1) .0),
+    ) (f .0, f .1)
 
 returns-9 : tie.Need-returns-9
 returns-9 c = let a = c .before .before .before .before .before .before .args in
-    absurd (none-in _ (a .lent .now) (a .value) (ap (λ (sh : Shape). isIn sh (a .lent .now) (a .value)) (sym (c .before .before .shape5 .given .1)) ∙ c .before .before .before .before .before .before .pre .1))
+    absurd (none-in _ (a .lent .now) (a .value)
+    (ap (λ (sh : Shape). isIn sh (a .lent .now) (a .value)) (sym (c .before .before .shape5 .given .1))
+    ∙ c .before .before .before .before .before .before .pre .1))
 
 pub store-shape-spec : {M : Type 1} → statement M
 store-shape-spec =
@@ -208,7 +254,7 @@ store-shape-spec =
     sub-write-le
     write-le-requires-5
     enum-known-shape-3
-    when-in-requires
+    temporal-in-requires
     write-temporal-requires
     enum-told-4
     write-part-requires

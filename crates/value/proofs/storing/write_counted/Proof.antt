@@ -30,7 +30,9 @@ write-le-requires c κs = search needs
 
 add-behind : tie.Need-add-behind
 add-behind c = let a = c .before .before .before .before .before .before .before .before .args in
-    let r : a .at + (a .k + length (a .bytes .now)) ≤ length (a .buf .now) = room _ _ _ _ (c .before .before .before .before .before .has-room .ensures) (c .before .before .before .before .if1 .taken) in omega arith
+    let r : a .at + (a .k + length (a .bytes .now)) ≤ length (a .buf .now) =
+    room _ _ _ _ (c .before .before .before .before .before .has-room .ensures) (c .before .before .before .before .if1 .taken) in
+    omega arith
 
 write-bytes-requires : tie.Need-write-bytes-requires
 write-bytes-requires c κs = search needs
@@ -40,10 +42,16 @@ same-length c = search needs
 
 returns : tie.Need-returns
 returns c = let a = c .before .before .before .before .before .before .before .before .before .before .before .before .args in
-    let r : a .at + (a .k + length (a .bytes .now)) ≤ length (a .buf .now) = room _ _ _ _ (c .before .before .before .before .before .before .before .before .before .has-room .ensures) (c .before .before .before .before .before .before .before .before .if1 .taken) in
+    let r : a .at + (a .k + length (a .bytes .now)) ≤ length (a .buf .now) =
+    room _ _ _ _ (c .before .before .before .before .before .before .before .before .before .has-room .ensures)
+    (c .before .before .before .before .before .before .before .before .if1 .taken) in
     let e = narrow (a .k) (omega arith) in
-    let p = c .before .before .before .before .before .before .write-le .ensures .1 ∙ ap (λ (j : ℕ). leftOf (a .buf .now) (store (a .buf .now) (a .at) (leBytes j (length (a .bytes .now))))) e in
-    wrote-two (a .buf .now) (leBytes (a .k) (length (a .bytes .now))) (a .bytes .now) _ _ (a .at) (a .k) (c .before .before .write-bytes .result) (leBytes-length (a .k) (length (a .bytes .now))) r p (c .before .before .write-bytes .ensures)
+    let p =
+    c .before .before .before .before .before .before .write-le .ensures .1
+    ∙ ap (λ (j : ℕ). leftOf (a .buf .now) (store (leBytes j (length (a .bytes .now))) (a .buf .now) (a .at))) e in
+    wrote-two (a .buf .now) (leBytes (a .k) (length (a .bytes .now))) (a .bytes .now) _ _ (a .at) (a .k)
+    (c .before .before .write-bytes .result) (leBytes-length (a .k) (length (a .bytes .now))) r p
+    (c .before .before .write-bytes .ensures)
 
 refuse-requires : tie.Need-refuse-requires
 refuse-requires c κs = search needs
@@ -51,7 +59,8 @@ refuse-requires c κs = search needs
 returns-2 : tie.Need-returns-2
 returns-2 c = let a = c .before .before .before .before .before .args in
     not-wrote (a .buf .now) (leBytes (a .k) (length (a .bytes .now)) ++ a .bytes .now) (a .at) (a .k + length (a .bytes .now)) _
-    (length-append (leBytes (a .k) (length (a .bytes .now))) (a .bytes .now) ∙ rw leBytes-length) (no-room _ _ _ _ (c .before .before .has-room .ensures) (c .before .if1 .left)) (c .refuse .ensures)
+    (length-append (leBytes (a .k) (length (a .bytes .now))) (a .bytes .now) ∙ rw leBytes-length)
+    (no-room _ _ _ _ (c .before .before .has-room .ensures) (c .before .if1 .left)) (c .refuse .ensures)
 
 pub write-counted-spec : {M : Type 1} → statement M
 write-counted-spec =

@@ -25,7 +25,8 @@ returns : tie.Need-returns
 returns c = let b = c .before .before .before .before .before .before .before .before in
     let a = b .args in
     let f = c .before .before .write-counted .ensures in
-    rw (← lent-part (a .lent .now) (a .value) (a .k) (c .before .before .before .before .before .bytes-at .result) _ (b .pre .1) (c .before .before .before .before .before .bytes-at .ensures) (c .before .before .before .before .part-of .ensures)) (f .0, f .1)
+    rw (← lent-part (a .lent .now) (a .value) (a .k) (c .before .before .before .before .before .bytes-at .result) _ (b .pre .1)
+    (c .before .before .before .before .before .bytes-at .ensures) (c .before .before .before .before .part-of .ensures)) (f .0, f .1)
 
 pub write-part-spec : {M : Type 1} → statement M
 write-part-spec =

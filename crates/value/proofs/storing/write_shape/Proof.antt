@@ -24,7 +24,12 @@ refuse-requires c κs = search needs
 
 returns : tie.Need-returns
 returns c = let a = c .before .before .before .before .before .before .args in
-    rw (writes-not (a .shape) (a .place) (a .lent .now) (a .value) (a .buf .now) (a .at) (sym (c .before .before .before .is-taken .ensures) ∙ not-true _ (c .before .before .if1 .taken)), c .refuse .ensures, c .before .refusal-of .ensures) (refl, refl)
+    rw (
+      writes-not (a .shape) (a .place) (a .lent .now) (a .value) (a .buf .now) (a .at)
+          (sym (c .before .before .before .is-taken .ensures) ∙ not-true _ (c .before .before .if1 .taken)),
+      c .refuse .ensures,
+      c .before .refusal-of .ensures,
+    ) (refl, refl)
 
 is-in-requires : tie.Need-is-in-requires
 is-in-requires c κs = search needs
@@ -34,10 +39,18 @@ refuse-requires-2 c κs = search needs
 
 returns-2 : tie.Need-returns-2
 returns-2 c = let a = c .before .before .before .before .before .before .before .args in
-    rw (writes-out (a .shape) (a .place) (a .lent .now) (a .value) (a .buf .now) (a .at) (sym (c .before .before .before .before .is-taken .ensures) ∙ not-false _ (c .before .before .before .if1 .left)) (sym (c .before .before .is-in .ensures) ∙ not-true _ (c .before .if2 .taken)), c .refuse2 .ensures) (refl, refl)
+    rw (
+      writes-out (a .shape) (a .place) (a .lent .now) (a .value) (a .buf .now) (a .at)
+          (sym (c .before .before .before .before .is-taken .ensures) ∙ not-false _ (c .before .before .before .if1 .left))
+          (sym (c .before .before .is-in .ensures) ∙ not-true _ (c .before .if2 .taken)),
+      c .refuse2 .ensures,
+    ) (refl, refl)
 
 store-shape-requires : tie.Need-store-shape-requires
-store-shape-requires c κs = (c .before .before .before .before .before .before .before .pre, sym (c .before .before .is-in .ensures) ∙ not-false _ (c .before .if2 .left))
+store-shape-requires c κs = (
+  c .before .before .before .before .before .before .before .pre,
+  sym (c .before .before .is-in .ensures) ∙ not-false _ (c .before .if2 .left),
+)
 
 same-length : tie.Need-same-length
 same-length c = search needs
@@ -45,7 +58,11 @@ same-length c = search needs
 returns-3 : tie.Need-returns-3
 returns-3 c = let a = c .before .before .before .before .before .before .before .before .before .before .args in
     let f = c .before .before .store-shape .ensures in
-    rw (writes-in (a .shape) (a .place) (a .lent .now) (a .value) (a .buf .now) (a .at) (sym (c .before .before .before .before .before .before .before .is-taken .ensures) ∙ not-false _ (c .before .before .before .before .before .before .if1 .left)) (sym (c .before .before .before .before .before .is-in .ensures) ∙ not-false _ (c .before .before .before .before .if2 .left))) (f .0, f .1)
+    rw (writes-in (a .shape) (a .place) (a .lent .now) (a .value) (a .buf .now) (a .at)
+    (sym (c .before .before .before .before .before .before .before .is-taken .ensures)
+    ∙ not-false _ (c .before .before .before .before .before .before .if1 .left))
+    (sym (c .before .before .before .before .before .is-in .ensures) ∙ not-false _ (c .before .before .before .before .if2 .left)))
+    (f .0, f .1)
 
 pub write-shape-spec : {M : Type 1} → statement M
 write-shape-spec =

@@ -24,7 +24,8 @@ returns c = rw (sym (c .before .before .family-of .ensures) ∙ c .enum-told .gi
 returns-2 : tie.Need-returns-2
 unfolding isKnown
 returns-2 c = rw (sym (c .before .family-of .ensures))
-    (sym (at-arm Bool·beq beq→eq isKnown true (0 ∷ 1 ∷ 2 ∷ 3 ∷ 4 ∷ 5 ∷ 6 ∷ 7 ∷ 8 ∷ 9 ∷ 10 ∷ 11 ∷ 12 ∷ 13 ∷ 14 ∷ 15 ∷ 16 ∷ 17 ∷ 18 ∷ []) (c .before .family-of .result) (λ k. refl) tt (c .match .keys2)))
+    (sym (at-arm Bool·beq beq→eq isKnown true (0 ∷ 1 ∷ 2 ∷ 3 ∷ 4 ∷ 5 ∷ 6 ∷ 7 ∷ 8 ∷ 9 ∷ 10 ∷ 11 ∷ 12 ∷ 13 ∷ 14 ∷ 15 ∷ 16 ∷ 17 ∷ 18 ∷ [])
+    (c .before .family-of .result) (λ k. refl) tt (c .match .keys2)))
 
 pub is-known-spec : {M : Type 1} → statement M
 is-known-spec = tie.close (tie.spec family-of-requires enum-told returns returns-2)

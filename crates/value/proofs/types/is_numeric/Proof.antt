@@ -22,7 +22,8 @@ returns c = rw (sym (c .before .family-of .ensures))
 returns-2 : tie.Need-returns-2
 unfolding isNumeric
 returns-2 c = rw (sym (c .before .family-of .ensures))
-    (sym (at-arm Bool·beq beq→eq isNumeric false (3 ∷ 4 ∷ 5 ∷ 6 ∷ 7 ∷ 8 ∷ 9 ∷ 10 ∷ 11 ∷ 12 ∷ 13 ∷ 14 ∷ 15 ∷ 17 ∷ 18 ∷ 19 ∷ []) (c .before .family-of .result) (λ k. refl) tt (c .match .keys2)))
+    (sym (at-arm Bool·beq beq→eq isNumeric false (3 ∷ 4 ∷ 5 ∷ 6 ∷ 7 ∷ 8 ∷ 9 ∷ 10 ∷ 11 ∷ 12 ∷ 13 ∷ 14 ∷ 15 ∷ 17 ∷ 18 ∷ 19 ∷ [])
+    (c .before .family-of .result) (λ k. refl) tt (c .match .keys2)))
 
 pub is-numeric-spec : {M : Type 1} → statement M
 is-numeric-spec = tie.close (tie.spec family-of-requires returns returns-2)

@@ -17,17 +17,20 @@ family-of-requires c κs = search needs
 returns : tie.Need-returns
 unfolding metadataBytes
 returns c = rw (sym (c .before .family-of .ensures))
-    (sym (at-arm eqb eqb→eq metadataBytes 1 (1 ∷ 2 ∷ 8 ∷ 9 ∷ 10 ∷ 13 ∷ 14 ∷ []) (c .before .family-of .result) (λ k. refl) tt (c .match .keys1)))
+    (sym (at-arm eqb eqb→eq metadataBytes 1 (1 ∷ 2 ∷ 8 ∷ 9 ∷ 10 ∷ 13 ∷ 14 ∷ []) (c .before .family-of .result) (λ k. refl) tt
+    (c .match .keys1)))
 
 returns-2 : tie.Need-returns-2
 unfolding metadataBytes
 returns-2 c = rw (sym (c .before .family-of .ensures))
-    (sym (at-arm eqb eqb→eq metadataBytes 2 (11 ∷ 12 ∷ 15 ∷ 16 ∷ 17 ∷ 18 ∷ []) (c .before .family-of .result) (λ k. refl) tt (c .match .keys2)))
+    (sym (at-arm eqb eqb→eq metadataBytes 2 (11 ∷ 12 ∷ 15 ∷ 16 ∷ 17 ∷ 18 ∷ []) (c .before .family-of .result) (λ k. refl) tt
+    (c .match .keys2)))
 
 returns-3 : tie.Need-returns-3
 unfolding metadataBytes
 returns-3 c = rw (sym (c .before .family-of .ensures))
-    (sym (at-arm eqb eqb→eq metadataBytes 0 (0 ∷ 3 ∷ 4 ∷ 5 ∷ 6 ∷ 7 ∷ 19 ∷ []) (c .before .family-of .result) (λ k. refl) tt (c .match .keys3)))
+    (sym (at-arm eqb eqb→eq metadataBytes 0 (0 ∷ 3 ∷ 4 ∷ 5 ∷ 6 ∷ 7 ∷ 19 ∷ []) (c .before .family-of .result) (λ k. refl) tt
+    (c .match .keys3)))
 
 pub metadata-bytes-spec : {M : Type 1} → statement M
 metadata-bytes-spec = tie.close (tie.spec family-of-requires returns returns-2 returns-3)

@@ -22,7 +22,8 @@ loop-holds c = (omega arith, refl)
 
 returns : tie.Need-returns Inv-loop μ-loop
 returns c = let a = c .before .before .before .args in
-    sym (c .before .before .loop .inv .1 ∙ fit-short (a .tops .now) (a .parts .now) (c .before .before .loop .i) (c .before .loop-test .taken) (c .if1 .taken))
+    sym (c .before .before .loop .inv .1
+    ∙ fit-short (a .tops .now) (a .parts .now) (c .before .before .loop .i) (c .before .loop-test .taken) (c .if1 .taken))
 
 mul-if2 : tie.Need-mul-if2 Inv-loop μ-loop
 mul-if2 c = search needs
@@ -38,7 +39,9 @@ shared-slice-read-if2-2 c = search needs
 
 returns-2 : tie.Need-returns-2 Inv-loop μ-loop
 returns-2 c = let a = c .before .before .before .before .before .before .args in
-    sym (c .before .before .before .before .before .loop .inv .1 ∙ fit-great (a .tops .now) (a .parts .now) (c .before .before .before .before .before .loop .i) (omega arith) (omega arith) (c .if2 .taken))
+    sym (c .before .before .before .before .before .loop .inv .1
+    ∙ fit-great (a .tops .now) (a .parts .now) (c .before .before .before .before .before .loop .i) (omega arith) (omega arith)
+    (c .if2 .taken))
 
 add-i : tie.Need-add-i Inv-loop μ-loop
 add-i c = search needs
@@ -47,8 +50,12 @@ loop-less : tie.Need-loop-less Inv-loop μ-loop
 loop-less c = search needs
 
 loop-again : tie.Need-loop-again Inv-loop μ-loop
-loop-again c = let a = c .before .before .before .before .before .before .args in
-    (omega arith, c .before .before .before .before .before .loop .inv .1 ∙ fit-on (a .tops .now) (a .parts .now) (c .before .before .before .before .before .loop .i) (omega arith) (omega arith) (c .if2 .left))
+loop-again c = let a = c .before .before .before .before .before .before .args in (
+  omega arith,
+  c .before .before .before .before .before .loop .inv .1
+      ∙ fit-on (a .tops .now) (a .parts .now) (c .before .before .before .before .before .loop .i) (omega arith) (omega arith)
+      (c .if2 .left),
+)
 
 returns-3 : tie.Need-returns-3 Inv-loop μ-loop
 returns-3 c = let a = c .before .before .args in

@@ -14,13 +14,13 @@ use Rattle.value_parts.proofs.made.make_value.Statement.{statement}
 use Rattle.value_parts.proofs.made.make_value.Tie as tie
 use Rattle.value_parts.proofs.made.make_value.Reads as reads
 use Rattle.value_parts.proofs.made.make_value.Lts as lts
-use Rattle.value_parts.proofs.made.date_of.Reads as date-of-reads
-use Rattle.value_parts.proofs.made.moment_of.Reads as moment-of-reads
+use Rattle.value_parts.proofs.made.made_date.Reads as made-date-reads
+use Rattle.value_parts.proofs.made.made_datetime.Reads as made-datetime-reads
 use Rattle.value_parts.proofs.made.part.Reads as part-reads
 use Rattle.value_parts.proofs.made.part_16.Reads as part-16-reads
 use Rattle.value_parts.proofs.made.part_32.Reads as part-32-reads
-use Rattle.value_parts.proofs.made.stamp_of.Reads as stamp-of-reads
-use Rattle.value_parts.proofs.made.time_of.Reads as time-of-reads
+use Rattle.value_parts.proofs.made.made_seconds.Reads as made-seconds-reads
+use Rattle.value_parts.proofs.made.made_time.Reads as made-time-reads
 use Rattle.wire.proofs.signed_of.Reads as signed-of-reads
 
 part-requires : tie.Need-part-requires
@@ -40,22 +40,22 @@ part-32-requires c κs = let a = c .before .before .args in
 part-requires-3 : tie.Need-part-requires-3
 part-requires-3 c κs = search needs
 
-stamp-of-requires : tie.Need-stamp-of-requires
-stamp-of-requires c κs = taken-fit _ 6 (c .before .before .args .parts .now) (c .before .before .pre) (c .match .keys5)
+made-seconds-requires : tie.Need-made-seconds-requires
+made-seconds-requires c κs = taken-fit _ 6 (c .before .before .args .parts .now) (c .before .before .pre) (c .match .keys5)
 
 part-16-requires : tie.Need-part-16-requires
 unfolding topsOf
 part-16-requires c κs = let a = c .before .before .args in
     fit-at (topsOf 7) (a .parts .now) 0 (taken-fit _ 7 (a .parts .now) (c .before .before .pre) (c .match .keys6)) (omega arith)
 
-date-of-requires : tie.Need-date-of-requires
-date-of-requires c κs = taken-fit _ 8 (c .before .before .args .parts .now) (c .before .before .pre) (c .match .keys7)
+made-date-requires : tie.Need-made-date-requires
+made-date-requires c κs = taken-fit _ 8 (c .before .before .args .parts .now) (c .before .before .pre) (c .match .keys7)
 
-moment-of-requires : tie.Need-moment-of-requires
-moment-of-requires c κs = taken-fit _ 9 (c .before .before .args .parts .now) (c .before .before .pre) (c .match .keys8)
+made-datetime-requires : tie.Need-made-datetime-requires
+made-datetime-requires c κs = taken-fit _ 9 (c .before .before .args .parts .now) (c .before .before .pre) (c .match .keys8)
 
-time-of-requires : tie.Need-time-of-requires
-time-of-requires c κs = taken-fit _ 10 (c .before .before .args .parts .now) (c .before .before .pre) (c .match .keys9)
+made-time-requires : tie.Need-made-time-requires
+made-time-requires c κs = taken-fit _ 10 (c .before .before .args .parts .now) (c .before .before .pre) (c .match .keys9)
 
 part-requires-4 : tie.Need-part-requires-4
 part-requires-4 c κs = search needs
@@ -65,7 +65,10 @@ part-requires-5 c κs = search needs
 
 returns : tie.Need-returns
 unfolding made
-returns c = rw (c .before .before .match .keys1) (ap Int (toZ-ofZ w64 (c .signed-of .result) (record { sfits = c .signed-of .ok }) ∙ c .signed-of .ensures ∙ ap (signedOf (2 ^ 64)) (c .before .part .ensures)))
+returns c =
+    rw (c .before .before .match .keys1)
+    (ap Int (toZ-ofZ w64 (c .signed-of .result) (record { sfits = c .signed-of .ok }) ∙ c .signed-of .ensures
+    ∙ ap (signedOf (2 ^ 64)) (c .before .part .ensures)))
 
 returns-2 : tie.Need-returns-2
 unfolding made
@@ -81,7 +84,7 @@ returns-4 c = rw (c .before .match .keys4, c .part3 .ensures)
 
 returns-5 : tie.Need-returns-5
 unfolding made
-returns-5 c = rw (c .before .match .keys5, c .stamp-of .ensures)
+returns-5 c = rw (c .before .match .keys5, c .made-seconds .ensures)
 
 returns-6 : tie.Need-returns-6
 unfolding made
@@ -89,15 +92,15 @@ returns-6 c = rw (c .before .match .keys6, c .part-16 .ensures)
 
 returns-7 : tie.Need-returns-7
 unfolding made
-returns-7 c = rw (c .before .match .keys7, c .date-of .ensures)
+returns-7 c = rw (c .before .match .keys7, c .made-date .ensures)
 
 returns-8 : tie.Need-returns-8
 unfolding made
-returns-8 c = rw (c .before .match .keys8, c .moment-of .ensures)
+returns-8 c = rw (c .before .match .keys8, c .made-datetime .ensures)
 
 returns-9 : tie.Need-returns-9
 unfolding made
-returns-9 c = rw (c .before .match .keys9, c .time-of .ensures)
+returns-9 c = rw (c .before .match .keys9, c .made-time .ensures)
 
 returns-10 : tie.Need-returns-10
 unfolding made
@@ -116,11 +119,11 @@ make-value-spec =
     part-requires-2
     part-32-requires
     part-requires-3
-    stamp-of-requires
+    made-seconds-requires
     part-16-requires
-    date-of-requires
-    moment-of-requires
-    time-of-requires
+    made-date-requires
+    made-datetime-requires
+    made-time-requires
     part-requires-4
     part-requires-5
     returns

@@ -74,23 +74,47 @@ returns c = (rw (c .enum-told .given .1), rw (c .enum-told .given .1) held-null)
 
 returns-2 : tie.Need-returns-2
 unfolding partsOf
-returns-2 c = (rw (c .before .before .before .value .given .1) (c .one-part .ensures ∙ ap (λ (n : ℕ). padded 7 (n ∷ [])) (c .before .twos-of .ensures ∙ ap (twosOf (2 ^ 64)) (toZ-ofZ w64 (c .before .before .before .value .given .0 .0) (record { sfits = c .before .before .known-told .given .0 .1 })))), rw (c .before .before .before .value .given .1) (held-int (c .before .before .before .value .given .0 .0) (record { sfits = c .before .before .known-told .given .0 .1 })))
+returns-2 c = (
+  rw (c .before .before .before .value .given .1)
+      (c .one-part .ensures ∙ ap (λ (n : ℕ). padded 7 (n ∷ []))
+      (c .before .twos-of .ensures
+      ∙ ap (twosOf (2 ^ 64)) (toZ-ofZ w64 (c .before .before .before .value .given .0 .0)
+      (record { sfits = c .before .before .known-told .given .0 .1 })))),
+  rw (c .before .before .before .value .given .1)
+      (held-int (c .before .before .before .value .given .0 .0) (record { sfits = c .before .before .known-told .given .0 .1 })),
+)
 
 returns-3 : tie.Need-returns-3
 unfolding partsOf
-returns-3 c = (rw (c .before .before .value2 .given .1) (c .one-part2 .ensures), rw (c .before .before .value2 .given .1) (held-uint (c .before .before .value2 .given .0 .0) (omega (arith, c .before .known-told2 .given))))
+returns-3 c = (
+  rw (c .before .before .value2 .given .1) (c .one-part2 .ensures),
+  rw (c .before .before .value2 .given .1)
+      (held-uint (c .before .before .value2 .given .0 .0) (omega (arith, c .before .known-told2 .given))),
+)
 
 returns-4 : tie.Need-returns-4
 unfolding partsOf
-returns-4 c = (rw (c .before .before .value3 .given .1) (c .one-part3 .ensures), rw (c .before .before .value3 .given .1) (held-float (c .before .before .value3 .given .0 .0) (omega (arith, c .before .known-told3 .given))))
+returns-4 c = (
+  rw (c .before .before .value3 .given .1) (c .one-part3 .ensures),
+  rw (c .before .before .value3 .given .1)
+      (held-float (c .before .before .value3 .given .0 .0) (omega (arith, c .before .known-told3 .given))),
+)
 
 returns-5 : tie.Need-returns-5
 unfolding partsOf
-returns-5 c = (rw (c .before .before .value4 .given .1) (c .one-part4 .ensures), rw (c .before .before .value4 .given .1) (held-double (c .before .before .value4 .given .0 .0) (omega (arith, c .before .known-told4 .given))))
+returns-5 c = (
+  rw (c .before .before .value4 .given .1) (c .one-part4 .ensures),
+  rw (c .before .before .value4 .given .1)
+      (held-double (c .before .before .value4 .given .0 .0) (omega (arith, c .before .known-told4 .given))),
+)
 
 returns-6 : tie.Need-returns-6
 unfolding partsOf
-returns-6 c = (rw (c .before .before .value5 .given .1) (c .one-part5 .ensures), rw (c .before .before .value5 .given .1) (held-year (c .before .before .value5 .given .0 .0) (omega (arith, c .before .known-told5 .given))))
+returns-6 c = (
+  rw (c .before .before .value5 .given .1) (c .one-part5 .ensures),
+  rw (c .before .before .value5 .given .1)
+      (held-year (c .before .before .value5 .given .0 .0) (omega (arith, c .before .known-told5 .given))),
+)
 
 returns-7 : tie.Need-returns-7
 unfolding partsOf
@@ -98,7 +122,11 @@ returns-7 c = rw (c .before .before .value6 .given .1) (c .temporal-parts .ensur
 
 returns-8 : tie.Need-returns-8
 unfolding padded partsOf
-returns-8 c = (rw (c .before .value7 .given .1), rw (c .before .value7 .given .1) (held-bytes (c .before .value7 .given .0 .0) (omega (arith, c .known-told7 .given)) (omega (arith, c .known-told7 .given))))
+returns-8 c = (
+  rw (c .before .value7 .given .1),
+  rw (c .before .value7 .given .1)
+      (held-bytes (c .before .value7 .given .0 .0) (omega (arith, c .known-told7 .given)) (omega (arith, c .known-told7 .given))),
+)
 
 pub parts-of-spec : {M : Type 1} → statement M
 parts-of-spec =

@@ -1,7 +1,7 @@
 -- `value_parts::parts::temporal_parts` meets its contract. Assumes nothing.
 use native.Mathlib.Omega.{arith}
 use Rattle.value_parts.proofs.Takes.{as-number}
-use Rattle.value_parts.proofs.Holds.{held-stamp, held-date, held-moment, held-time}
+use Rattle.value_parts.proofs.Holds.{held-seconds, held-date, held-datetime, held-time}
 use Rattle.value_parts.specs.Parts.{padded, partsOf}
 use borrow.Author.Needs.{needs}
 use Rattle.value_parts.proofs.parts.temporal_parts.Statement.{statement}
@@ -74,19 +74,39 @@ cast-t23 c = search needs
 
 returns : tie.Need-returns
 unfolding padded partsOf
-returns c = (rw (c .before .before .before .t .given .1), rw (c .before .before .before .t .given .1) (held-stamp (c .before .before .before .t .given .0 .0) (omega arith) (omega arith)))
+returns c = (
+  rw (c .before .before .before .t .given .1),
+  rw (c .before .before .before .t .given .1) (held-seconds (c .before .before .before .t .given .0 .0) (omega arith) (omega arith)),
+)
 
 returns-2 : tie.Need-returns-2
 unfolding padded partsOf
-returns-2 c = (rw (c .before .before .before .before .t2 .given .1), rw (c .before .before .before .before .t2 .given .1) (held-date (c .before .before .before .before .t2 .given .0 .0) (omega arith) (omega arith) (omega arith)))
+returns-2 c = (
+  rw (c .before .before .before .before .t2 .given .1),
+  rw (c .before .before .before .before .t2 .given .1)
+      (held-date (c .before .before .before .before .t2 .given .0 .0) (omega arith) (omega arith) (omega arith)),
+)
 
 returns-3 : tie.Need-returns-3
 unfolding padded partsOf
-returns-3 c = (rw (c .before .before .before .before .before .before .before .before .t3 .given .1), rw (c .before .before .before .before .before .before .before .before .t3 .given .1) (held-moment (c .before .before .before .before .before .before .before .before .t3 .given .0 .0) (omega arith) (omega arith) (omega arith) (omega arith) (omega arith) (omega arith) (omega arith)))
+returns-3 c = (
+  rw (c .before .before .before .before .before .before .before .before .t3 .given .1),
+  rw (c .before .before .before .before .before .before .before .before .t3 .given .1)
+      (held-datetime (c .before .before .before .before .before .before .before .before .t3 .given .0 .0) (omega arith) (omega arith)
+      (omega arith) (omega arith) (omega arith) (omega arith) (omega arith)),
+)
 
 returns-4 : tie.Need-returns-4
 unfolding padded partsOf
-returns-4 c = (rw (c .before .before .before .before .before .before .t4 .given .1, as-number (c .before .before .before .before .before .before .t4 .given .0 .0 .negative)), rw (c .before .before .before .before .before .before .t4 .given .1) (held-time (c .before .before .before .before .before .before .t4 .given .0 .0) (omega arith) (omega arith) (omega arith) (omega arith)))
+returns-4 c = (
+  rw (
+    c .before .before .before .before .before .before .t4 .given .1,
+    as-number (c .before .before .before .before .before .before .t4 .given .0 .0 .negative),
+  ),
+  rw (c .before .before .before .before .before .before .t4 .given .1)
+      (held-time (c .before .before .before .before .before .before .t4 .given .0 .0) (omega arith) (omega arith) (omega arith)
+      (omega arith)),
+)
 
 pub temporal-parts-spec : {M : Type 1} → statement M
 temporal-parts-spec =

@@ -1,4 +1,5 @@
--- `wire::fixed::be` meets its contract. The loop's invariant: the first i bytes are read, and their number has as many bytes. Assumes nothing.
+-- `wire::fixed::be` meets its contract. The loop's invariant: the first i bytes are read, and their number has as many bytes. Assumes
+-- nothing.
 use Prim.Native.Nat.{_≤_, _<_, _+_, _-_, _^_}
 use mathlib.Core.Path.{_≡_}
 use native.Mathlib.Omega.{arith}
@@ -39,7 +40,10 @@ wide-requires c κs = search needs
 add-acc : tie.Need-add-acc Inv-loop μ-loop
 add-acc c = let a = c .before .before .before .before .before .args in
     let l = c .before .before .before .loop in
-    record { fits = turn-fits (l .i) (l .acc) _ (omega arith) (l .inv .1) (omega (arith, c .before .shared-slice-known2 .given (a .at + l .i))) }
+    record {
+      fits =
+          turn-fits (l .i) (l .acc) _ (omega arith) (l .inv .1) (omega (arith, c .before .shared-slice-known2 .given (a .at + l .i)));
+    }
 
 add-i : tie.Need-add-i Inv-loop μ-loop
 add-i c = search needs

@@ -1,5 +1,5 @@
--- `wire::fixed::le` meets its contract. The loop goes from the last byte to the first. Its invariant: the bytes from i on are read, and their number
--- has as many bytes. Assumes nothing.
+-- `wire::fixed::le` meets its contract. The loop goes from the last byte to the first. Its invariant: the bytes from i on are read, and
+-- their number has as many bytes. Assumes nothing.
 use Prim.Native.Nat.{_≤_, suc, _<_, _+_, _-_, _^_}
 use mathlib.Core.Path.{_≡_}
 use native.Mathlib.Omega.{arith}
@@ -43,7 +43,11 @@ wide-requires c κs = search needs
 add-acc : tie.Need-add-acc Inv-loop μ-loop
 add-acc c = let a = c .before .before .before .before .before .args in
     let l = c .before .before .before .loop in
-    record { fits = turn-fits (a .k - l .i) (l .acc) _ (omega arith) (l .inv .1) (omega (arith, c .before .shared-slice-known2 .given (a .at + (l .i - 1)))) }
+    record {
+      fits =
+          turn-fits (a .k - l .i) (l .acc) _ (omega arith) (l .inv .1)
+          (omega (arith, c .before .shared-slice-known2 .given (a .at + (l .i - 1))));
+    }
 
 loop-less : tie.Need-loop-less Inv-loop μ-loop
 loop-less c = search needs

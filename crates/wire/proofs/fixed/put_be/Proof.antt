@@ -1,5 +1,5 @@
--- `wire::fixed::put_be` meets its contract. The loop goes from the last byte to the first. Its invariant: what stands before at, then the bytes of
--- the rest, then what stands from at + i on, is what is wanted. Assumes nothing.
+-- `wire::fixed::put_be` meets its contract. The loop goes from the last byte to the first. Its invariant: what stands before at, then the
+-- bytes of the rest, then what stands from at + i on, is what is wanted. Assumes nothing.
 use Prim.Native.Nat.{_≤_, _+_}
 use mathlib.Core.Path.{_≡_, refl, _∙_}
 use mathlib.Core.List.{_++_}
@@ -14,11 +14,11 @@ use Rattle.wire.proofs.fixed.put_be.Reads as reads
 use Rattle.wire.proofs.fixed.put_be.Lts as lts
 
 abbrev Inv-loop : tie.InvT-loop
-Inv-loop buf₀ at k v rest₀ i₀ buf rest i = (i ≤ k) × (length buf ≡ length buf₀)
+Inv-loop k v buf₀ at rest₀ i₀ buf rest i = (i ≤ k) × (length buf ≡ length buf₀)
     × (take at buf ++ (beBytes i rest ++ drop (at + i) buf) ≡ take at buf₀ ++ (beBytes k v ++ drop (at + k) buf₀))
 
 abbrev μ-loop : tie.MeasureT-loop
-μ-loop buf₀ at k v rest₀ i₀ buf rest i = i
+μ-loop k v buf₀ at rest₀ i₀ buf rest i = i
 
 loop-holds : tie.Need-loop-holds Inv-loop μ-loop
 loop-holds c = (omega arith, refl, refl)

@@ -23,7 +23,8 @@ returns : tie.Need-returns
 returns c = let a = c .before .before .before .args in
     let n = c .before .there .ensures in
     let e = c .be .ensures in (
-      e .0 ∙ ap beValue (rw n (take-there (min (a .k) 8) (length (a .s .now) - a .at) (drop (a .at) (a .s .now)) (length-drop (a .at) (a .s .now)))),
+      e .0 ∙ ap beValue (rw n (take-there (min (a .k) 8) (length (a .s .now) - a .at) (drop (a .at) (a .s .now))
+          (length-drop (a .at) (a .s .now)))),
       wider (c .before .there .result) (min (a .k) 8) (c .be .result) (omega arith) (e .1),
     )
 

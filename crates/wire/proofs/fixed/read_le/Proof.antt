@@ -23,7 +23,8 @@ returns : tie.Need-returns
 returns c = let a = c .before .before .before .args in
     let n = c .before .there .ensures in
     let e = c .le .ensures in (
-      e .0 ∙ ap leValue (rw n (take-there (min (a .k) 8) (length (a .s .now) - a .at) (drop (a .at) (a .s .now)) (length-drop (a .at) (a .s .now)))),
+      e .0 ∙ ap leValue (rw n (take-there (min (a .k) 8) (length (a .s .now) - a .at) (drop (a .at) (a .s .now))
+          (length-drop (a .at) (a .s .now)))),
       wider (c .before .there .result) (min (a .k) 8) (c .le .result) (omega arith) (e .1),
     )
 

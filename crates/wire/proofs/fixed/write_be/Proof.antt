@@ -35,7 +35,8 @@ same-length c = search needs
 returns : tie.Need-returns
 returns c =
     let b = c .before .before .before .before in
-    wrote-number beBytes beBytes-length _ _ _ _ _ _ _ (b .before .before .least .ensures) (b .before .has-room .ensures) (b .if1 .taken) (c .before .before .put-be .ensures)
+    wrote-number beBytes beBytes-length _ _ _ _ _ _ _ (b .before .before .least .ensures) (b .before .has-room .ensures) (b .if1 .taken)
+    (c .before .before .put-be .ensures)
 
 refuse-requires : tie.Need-refuse-requires
 refuse-requires c κs = search needs
@@ -43,7 +44,8 @@ refuse-requires c κs = search needs
 returns-2 : tie.Need-returns-2
 returns-2 c =
     let b = c .before in
-    not-wrote-number beBytes beBytes-length _ _ _ _ _ _ _ (b .before .before .least .ensures) (b .before .has-room .ensures) (b .if1 .left) (c .refuse .ensures)
+    not-wrote-number beBytes beBytes-length _ _ _ _ _ _ _ (b .before .before .least .ensures) (b .before .has-room .ensures) (b .if1 .left)
+    (c .refuse .ensures)
 
 pub write-be-spec : {M : Type 1} → statement M
 write-be-spec =

@@ -39,24 +39,29 @@ put-le-requires c κs = let a = c .before .before .before .before .args in
 
 add-next : tie.Need-add-next
 add-next c = let a = c .before .before .before .before .before .before .before .args in
-    let r : a .at + (a .k + 1) ≤ length (a .buf .now) = room _ _ _ _ (c .before .before .before .before .before .has-room .ensures) (c .before .before .before .before .if1 .taken) in
+    let r : a .at + (a .k + 1) ≤ length (a .buf .now) =
+    room _ _ _ _ (c .before .before .before .before .before .has-room .ensures) (c .before .before .before .before .if1 .taken) in
     omega arith
 
 same-length : tie.Need-same-length
-same-length c = c .before .before .put-le .kept .0 ∙ simp length-set
+same-length c = c .before .before .put-le .kept .1 .1 .0 ∙ simp length-set
 
 returns : tie.Need-returns
 returns c = let a = c .before .before .before .before .before .before .before .args in
-    let r : a .at + (a .k + 1) ≤ length (a .buf .now) = room _ _ _ _ (c .before .before .before .before .before .has-room .ensures) (c .before .before .before .before .if1 .taken) in
-    wrote (a .buf .now) (a .first ∷ leBytes (a .k) (a .v)) _ (a .at) (a .k + 1) _ (rw leBytes-length (omega arith)) (omega arith) (omega arith)
-    (c .before .before .put-le .ensures ∙ stored-first (a .buf .now) (a .at) (a .first) (leBytes (a .k) (a .v)) (omega (arith, leBytes-length (a .k) (a .v))))
+    let r : a .at + (a .k + 1) ≤ length (a .buf .now) =
+    room _ _ _ _ (c .before .before .before .before .before .has-room .ensures) (c .before .before .before .before .if1 .taken) in
+    wrote (a .buf .now) (a .first ∷ leBytes (a .k) (a .v)) _ (a .at) (a .k + 1) _ (rw leBytes-length (omega arith)) (omega arith)
+    (omega arith)
+    (c .before .before .put-le .ensures
+    ∙ stored-first (a .buf .now) (a .at) (a .first) (leBytes (a .k) (a .v)) (omega (arith, leBytes-length (a .k) (a .v))))
 
 refuse-requires : tie.Need-refuse-requires
 refuse-requires c κs = search needs
 
 returns-2 : tie.Need-returns-2
 returns-2 c = let a = c .before .before .before .before .args in
-    not-wrote (a .buf .now) (a .first ∷ leBytes (a .k) (a .v)) (a .at) (a .k + 1) _ (rw leBytes-length (omega arith)) (no-room _ _ _ _ (c .before .before .has-room .ensures) (c .before .if1 .left)) (c .refuse .ensures)
+    not-wrote (a .buf .now) (a .first ∷ leBytes (a .k) (a .v)) (a .at) (a .k + 1) _ (rw leBytes-length (omega arith))
+    (no-room _ _ _ _ (c .before .before .has-room .ensures) (c .before .if1 .left)) (c .refuse .ensures)
 
 pub write-form-spec : {M : Type 1} → statement M
 write-form-spec =

@@ -17,7 +17,8 @@ has-room-requires c κs = search needs
 add-end : tie.Need-add-end
 add-end c =
     let a = c .before .before .before .before .args in
-    let r : a .part .start + a .part .len ≤ length (a .s .now) = room _ _ _ _ (c .before .before .has-room .ensures) (c .before .if1 .taken) in
+    let r : a .part .start + a .part .len ≤ length (a .s .now) =
+    room _ _ _ _ (c .before .before .has-room .ensures) (c .before .if1 .taken) in
     omega arith
 
 sub-result : tie.Need-sub-result
@@ -29,7 +30,8 @@ part-result-start c = search needs
 part-result-end : tie.Need-part-result-end
 part-result-end c =
     let a = c .before .before .before .before .args in
-    let r : a .part .start + a .part .len ≤ length (a .s .now) = room _ _ _ _ (c .before .before .has-room .ensures) (c .before .if1 .taken) in
+    let r : a .part .start + a .part .len ≤ length (a .s .now) =
+    room _ _ _ _ (c .before .before .has-room .ensures) (c .before .if1 .taken) in
     omega arith
 
 returns : tie.Need-returns

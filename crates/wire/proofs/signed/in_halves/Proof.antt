@@ -4,7 +4,7 @@ use mathlib.Core.Path.{_≡_, sym, ap, _∙_}
 use native.Mathlib.Omega.{arith}
 use mir.Syntax.{w64}
 use mir.ValLaws.{toZ-ofZ}
-use Rattle.wire.specs.Signed.{magnitudeOf}
+use Rattle.wire.specs.Inner.Signed.{magnitudeOf}
 use Rattle.wire.proofs.Signs.{halves-is}
 use borrow.Author.Needs.{needs}
 use Rattle.wire.proofs.signed.in_halves.Statement.{statement}

@@ -4,7 +4,7 @@ use mathlib.Core.Path.{_≡_, sym, ap, _∙_}
 use native.Mathlib.Omega.{arith}
 use mir.Syntax.{w64}
 use mir.ValLaws.{toZ-ofZ}
-use Rattle.wire.specs.Signed.{magnitudeOf}
+use Rattle.wire.specs.Inner.Signed.{magnitudeOf}
 use Rattle.wire.proofs.Signs.{turned, same, magnitude-neg, magnitude-pos, twos-neg, twos-pos}
 use borrow.Author.Needs.{needs}
 use Rattle.wire.proofs.signed.twos_of.Statement.{statement}
@@ -42,7 +42,8 @@ returns-2 : tie.Need-returns-2
 returns-2 c =
     let a = c .before .before .args in
     let w = same (a .z) (c .before .before .fits .z) (c .before .if1 .left) .1 in
-    c .magnitude2 .ensures ∙ ap magnitudeOf (toZ-ofZ w64 (a .z) (c .before .before .fits .z)) ∙ magnitude-pos _ _ w ∙ sym (twos-pos (256 ^ min (a .k) 8) (a .z) _ w)
+    c .magnitude2 .ensures ∙ ap magnitudeOf (toZ-ofZ w64 (a .z) (c .before .before .fits .z)) ∙ magnitude-pos _ _ w
+    ∙ sym (twos-pos (256 ^ min (a .k) 8) (a .z) _ w)
 
 pub twos-of-spec : {M : Type 1} → statement M
 twos-of-spec =

@@ -13,10 +13,10 @@ use Rattle.wire.proofs.store.put_bytes.Reads as reads
 use Rattle.wire.proofs.store.put_bytes.Lts as lts
 
 abbrev Inv-loop : tie.InvT-loop
-Inv-loop buf₀ at bytes i₀ buf i = (i ≤ length bytes) × (length buf ≡ length buf₀) × (buf ≡ paste buf₀ at bytes i)
+Inv-loop bytes buf₀ at i₀ buf i = (i ≤ length bytes) × (length buf ≡ length buf₀) × (buf ≡ paste buf₀ at bytes i)
 
 abbrev μ-loop : tie.MeasureT-loop
-μ-loop buf₀ at bytes i₀ buf i = length bytes - i
+μ-loop bytes buf₀ at i₀ buf i = length bytes - i
 
 loop-holds : tie.Need-loop-holds Inv-loop μ-loop
 loop-holds c = let a = c .args in
@@ -39,8 +39,11 @@ loop-less c = search needs
 
 loop-again : tie.Need-loop-again Inv-loop μ-loop
 loop-again c = let a = c .before .before .before .args in
-    let l = c .before .before .loop in
-    (omega arith, simp length-set (l .inv .1), rw (add-one, l .inv .2) (paste-suc (a .buf .now) (a .at) (a .bytes .now) (l .i) 0 (omega arith) (search needs)))
+    let l = c .before .before .loop in (
+      omega arith,
+      simp length-set (l .inv .1),
+      rw (add-one, l .inv .2) (paste-suc (a .buf .now) (a .at) (a .bytes .now) (l .i) 0 (omega arith) (search needs)),
+    )
 
 same-length : tie.Need-same-length Inv-loop μ-loop
 same-length c = search needs

@@ -21,7 +21,8 @@ put-bytes-requires c κs = room _ _ _ _ (c .before .before .has-room .ensures) (
 
 add-next : tie.Need-add-next
 add-next c = let a = c .before .before .before .before .before .before .before .before .args in
-    let r : a .at + length (a .bytes .now) ≤ length (a .buf .now) = room _ _ _ _ (c .before .before .before .before .before .has-room .ensures) (c .before .before .before .before .if1 .taken) in
+    let r : a .at + length (a .bytes .now) ≤ length (a .buf .now) =
+    room _ _ _ _ (c .before .before .before .before .before .has-room .ensures) (c .before .before .before .before .if1 .taken) in
     omega arith
 
 same-length : tie.Need-same-length
@@ -29,14 +30,17 @@ same-length c = search needs
 
 returns : tie.Need-returns
 returns c = let a = c .before .before .before .before .before .before .before .before .args in
-    wrote (a .buf .now) (a .bytes .now) _ (a .at) _ _ refl (room _ _ _ _ (c .before .before .before .before .before .has-room .ensures) (c .before .before .before .before .if1 .taken)) refl (c .before .before .put-bytes .ensures)
+    wrote (a .buf .now) (a .bytes .now) _ (a .at) _ _ refl
+    (room _ _ _ _ (c .before .before .before .before .before .has-room .ensures) (c .before .before .before .before .if1 .taken)) refl
+    (c .before .before .put-bytes .ensures)
 
 refuse-requires : tie.Need-refuse-requires
 refuse-requires c κs = search needs
 
 returns-2 : tie.Need-returns-2
 returns-2 c = let a = c .before .before .before .before .before .args in
-    not-wrote (a .buf .now) (a .bytes .now) (a .at) _ _ refl (no-room _ _ _ _ (c .before .before .has-room .ensures) (c .before .if1 .left)) (c .refuse .ensures)
+    not-wrote (a .buf .now) (a .bytes .now) (a .at) _ _ refl (no-room _ _ _ _ (c .before .before .has-room .ensures) (c .before .if1 .left))
+    (c .refuse .ensures)
 
 pub write-bytes-spec : {M : Type 1} → statement M
 write-bytes-spec =

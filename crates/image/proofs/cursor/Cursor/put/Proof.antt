@@ -5,8 +5,8 @@ use Rattle.wire.specs.Outcome.{refused}
 use Rattle.record.proofs.Valid.{valid-few}
 use Rattle.image.specs.Split.{headTold}
 use Rattle.image.specs.Puts.{putFrom}
-use Rattle.image.proofs.Heads.{head-tested, nulls-tested}
-use Rattle.image.proofs.Puts.{put-above, put-goes, put-refused}
+use Rattle.image.proofs.CursorLaws.Heads.{head-tested, nulls-tested}
+use Rattle.image.proofs.PutLaws.Puts.{put-above, put-goes, put-refused}
 use borrow.Author.Needs.{needs}
 use Rattle.image.proofs.cursor.Cursor.put.Statement.{statement}
 use Rattle.image.proofs.cursor.Cursor.put.Tie as tie
@@ -35,26 +35,52 @@ refuse-requires c κs = search needs
 
 returns-2 : tie.Need-returns-2
 returns-2 c = let a = c .before .before .before .before .before .before .before .before .before .before .before .args in
-    let q = sym (c .before .before .before .before .before .read-head-nulls .ensures) ∙ ap headTold (c .before .before .before .head .given .1) in
+    let q =
+    sym (c .before .before .before .before .before .read-head-nulls .ensures)
+    ∙ ap headTold (c .before .before .before .head .given .1) in
     put-refused (a .buf .now)
-    (put-above (a .profile .now) (a .presence .now) (a .nulls .now) (a .self) (a .lent .now) (a .value) (a .buf .now) q (c .before .if1 .taken) ∙ ap refused (sym (c .refuse .ensures)))
+    (put-above (a .profile .now) (a .presence .now) (a .nulls .now) (a .self) (a .lent .now) (a .value) (a .buf .now) q
+    (c .before .if1 .taken) ∙ ap refused (sym (c .refuse .ensures)))
 
 count-bits-requires : tie.Need-count-bits-requires
 count-bits-requires c κs = search needs
 
 put-inner-requires : tie.Need-put-inner-requires
 put-inner-requires c κs = let a = c .before .before .before .before .before .before .before .before .before .before .before .before .args in
-    let q = sym (c .before .before .before .before .before .before .read-head-nulls .ensures) ∙ ap headTold (c .before .before .before .before .head .given .1) in
+    let q =
+    sym (c .before .before .before .before .before .before .read-head-nulls .ensures)
+    ∙ ap headTold (c .before .before .before .before .head .given .1) in
     let t = head-tested (a .profile .now) (a .presence .now) (nulls-tested (a .profile .now) (a .presence .now) (a .nulls .now) q .0) in
-    record { count = t .columns; few = omega (arith, t .columns, valid-few (a .profile .now) (λ i. omega (arith, c .before .before .before .before .before .before .before .before .before .before .before .shared-slice-known .given i)) (t .valid)); column = omega arith; rank = c .before .count-bits .ensures }
+    record {
+      count =
+          t .columns;
+      few =
+          omega (
+            arith,
+            t .columns,
+            valid-few (a .profile .now)
+                (λ i. omega (
+                  arith,
+                  c .before .before .before .before .before .before .before .before .before .before .before .shared-slice-known
+                      .given i,
+                )) (t .valid),
+          );
+      column = omega arith;
+      rank = c .before .count-bits .ensures;
+    }
 
 same-length : tie.Need-same-length
 same-length c = search needs
 
 returns-3 : tie.Need-returns-3
-returns-3 c = let a = c .before .before .before .before .before .before .before .before .before .before .before .before .before .before .before .args in
-    let q = sym (c .before .before .before .before .before .before .before .before .before .read-head-nulls .ensures) ∙ ap headTold (c .before .before .before .before .before .before .before .head .given .1) in
-    rw (put-goes (a .profile .now) (a .presence .now) (a .nulls .now) (a .self) (a .lent .now) (a .value) (a .buf .now) q (c .before .before .before .before .before .if1 .left)) (c .before .before .put-inner .ensures)
+returns-3 c =
+    let a =
+    c .before .before .before .before .before .before .before .before .before .before .before .before .before .before .before .args in
+    let q =
+    sym (c .before .before .before .before .before .before .before .before .before .read-head-nulls .ensures)
+    ∙ ap headTold (c .before .before .before .before .before .before .before .head .given .1) in
+    rw (put-goes (a .profile .now) (a .presence .now) (a .nulls .now) (a .self) (a .lent .now) (a .value) (a .buf .now) q
+    (c .before .before .before .before .before .if1 .left)) (c .before .before .put-inner .ensures)
 
 pub put-spec : {M : Type 1} → statement M
 put-spec =

@@ -27,14 +27,24 @@ has-ended-requires c κs = search needs
 
 returns-2 : tie.Need-returns-2
 unfolding nextImage
-returns-2 c = rw (le-ltb _ _ (c .before .before .before .if1 .left), ← c .before .before .is-second .ensures, sym (c .before .has-ended .ensures) ∙ c .if2 .taken)
+returns-2 c =
+    rw (
+      le-ltb _ _ (c .before .before .before .if1 .left),
+      ← c .before .before .is-second .ensures,
+      sym (c .before .has-ended .ensures) ∙ c .if2 .taken,
+    )
 
 image-at-requires : tie.Need-image-at-requires
 image-at-requires c κs = search needs
 
 returns-3 : tie.Need-returns-3
 unfolding nextImage
-returns-3 c = rw (le-ltb _ _ (c .before .before .before .before .if1 .left), ← c .before .before .before .is-second .ensures, sym (c .before .before .has-ended .ensures) ∙ c .before .if2 .left) (c .image-at .ensures)
+returns-3 c =
+    rw (
+      le-ltb _ _ (c .before .before .before .before .if1 .left),
+      ← c .before .before .before .is-second .ensures,
+      sym (c .before .before .has-ended .ensures) ∙ c .before .if2 .left,
+    ) (c .image-at .ensures)
 
 pub next-spec : {M : Type 1} → statement M
 next-spec =

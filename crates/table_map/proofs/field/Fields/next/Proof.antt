@@ -1,6 +1,7 @@
--- `table_map::field::Fields::next` meets its contract: each return is one of the ways in which a field is cut out and judged. Assumes nothing.
+-- `table_map::field::Fields::next` meets its contract: each return is one of the ways in which a field is cut out and judged. Assumes
+-- nothing.
 use mathlib.Core.Path.{sym, ap, _∙_}
-use Rattle.table_map.specs.Fields.{fieldStep, fieldItem, fieldCutOf, judgedOf}
+use Rattle.table_map.specs.Fields.{fieldStep, fieldItem, fieldCutTold, judgedTold}
 use Rattle.table_map.proofs.Steps.{step-end}
 use Rattle.table_map.proofs.Optional.{not-cut, not-held, a-field}
 use borrow.Author.Needs.{needs}
@@ -37,19 +38,24 @@ enum-known-r-2 c = search needs
 
 returns-2 : tie.Need-returns-2
 returns-2 c =
-    sym (a-field (c .before .before .before .before .before .before .before .before .before .args .self) _ _ _ (c .before .before .before .before .before .before .before .if1 .left)
-    (sym (c .before .before .before .before .before .before .cut-field .ensures) ∙ ap fieldCutOf (c .before .before .before .before .kind .given .1))
-    (sym (c .before .before .judge .ensures) ∙ ap judgedOf (c .enum-told .given .1)))
+    sym (a-field (c .before .before .before .before .before .before .before .before .before .args .self) _ _ _
+    (c .before .before .before .before .before .before .before .if1 .left)
+    (sym (c .before .before .before .before .before .before .cut-field .ensures)
+    ∙ ap fieldCutTold (c .before .before .before .before .kind .given .1))
+    (sym (c .before .before .judge .ensures) ∙ ap judgedTold (c .enum-told .given .1)))
 
 returns-3 : tie.Need-returns-3
 returns-3 c =
-    sym (not-held (c .before .before .before .before .before .before .before .before .before .before .args .self) _ _ _ _ (c .before .before .before .before .before .before .before .before .if1 .left)
-    (sym (c .before .before .before .before .before .before .before .cut-field .ensures) ∙ ap fieldCutOf (c .before .before .before .before .before .kind .given .1))
-    (sym (c .before .before .before .judge .ensures) ∙ ap judgedOf (c .before .r .given .1)))
+    sym (not-held (c .before .before .before .before .before .before .before .before .before .before .args .self) _ _ _ _
+    (c .before .before .before .before .before .before .before .before .if1 .left)
+    (sym (c .before .before .before .before .before .before .before .cut-field .ensures)
+    ∙ ap fieldCutTold (c .before .before .before .before .before .kind .given .1))
+    (sym (c .before .before .before .judge .ensures) ∙ ap judgedTold (c .before .r .given .1)))
 
 returns-4 : tie.Need-returns-4
 returns-4 c =
-    sym (not-cut (c .before .before .before .before .before .before .args .self) _ _ (c .before .before .before .before .if1 .left) (sym (c .before .before .before .cut-field .ensures) ∙ ap fieldCutOf (c .before .r2 .given .1)))
+    sym (not-cut (c .before .before .before .before .before .before .args .self) _ _ (c .before .before .before .before .if1 .left)
+    (sym (c .before .before .before .cut-field .ensures) ∙ ap fieldCutTold (c .before .r2 .given .1)))
 
 pub next-spec : {M : Type 1} → statement M
 next-spec =

@@ -1,7 +1,7 @@
 -- `table_map::list::Groups::next` meets its contract. Assumes nothing.
 use mathlib.Core.Path.{sym, ap, _∙_}
-use Rattle.wire.specs.Packed.{packedOf}
-use Rattle.wire.specs.Parts.{reachOf}
+use Rattle.wire.specs.Packed.{packedTold}
+use Rattle.wire.specs.Parts.{reachTold}
 use Rattle.table_map.specs.Lists.{groupItem}
 use Rattle.table_map.proofs.Steps.{step-end, step-else}
 use Rattle.table_map.proofs.Items.{group-early}
@@ -40,8 +40,8 @@ returns-2 c =
     let a = c .before .before .before .before .before in
     rw (
       step-else groupItem group-early _ _ (a .before .before .before .if1 .left),
-      sym (a .before .before .read-packed .ensures) ∙ ap packedOf (a .count .given .1),
-      sym (c .before .before .before .skip-strings .ensures) ∙ ap reachOf (c .before .next .given .1),
+      sym (a .before .before .read-packed .ensures) ∙ ap packedTold (a .count .given .1),
+      sym (c .before .before .before .skip-strings .ensures) ∙ ap reachTold (c .before .next .given .1),
     )
 
 returns-3 : tie.Need-returns-3
@@ -50,15 +50,15 @@ returns-3 c =
     let a = c .before .before .before .before .before in
     rw (
       step-else groupItem group-early _ _ (a .before .before .before .if1 .left),
-      sym (a .before .before .read-packed .ensures) ∙ ap packedOf (a .count .given .1),
-      sym (c .before .before .before .skip-strings .ensures) ∙ ap reachOf (c .before .r .given .1),
+      sym (a .before .before .read-packed .ensures) ∙ ap packedTold (a .count .given .1),
+      sym (c .before .before .before .skip-strings .ensures) ∙ ap reachTold (c .before .r .given .1),
     )
 
 returns-4 : tie.Need-returns-4
 unfolding groupItem
 returns-4 c = rw (
   step-else groupItem group-early _ _ (c .before .before .before .before .if1 .left),
-  sym (c .before .before .before .read-packed .ensures) ∙ ap packedOf (c .before .r2 .given .1),
+  sym (c .before .before .before .read-packed .ensures) ∙ ap packedTold (c .before .r2 .given .1),
 )
 
 pub next-spec : {M : Type 1} → statement M

@@ -1,6 +1,6 @@
 -- `table_map::list::Integers::next` meets its contract. Assumes nothing.
 use mathlib.Core.Path.{sym, ap, _∙_}
-use Rattle.wire.specs.Packed.{packedOf}
+use Rattle.wire.specs.Packed.{packedTold}
 use Rattle.table_map.specs.Lists.{integerItem}
 use Rattle.table_map.proofs.Steps.{step-end, step-else}
 use Rattle.table_map.proofs.Items.{integer-early}
@@ -26,13 +26,13 @@ enum-known-r c = search needs
 returns-2 : tie.Need-returns-2
 returns-2 c = rw (
   step-else integerItem integer-early _ _ (c .before .before .before .before .if1 .left),
-  sym (c .before .before .before .read-packed .ensures) ∙ ap packedOf (c .before .value .given .1),
+  sym (c .before .before .before .read-packed .ensures) ∙ ap packedTold (c .before .value .given .1),
 )
 
 returns-3 : tie.Need-returns-3
 returns-3 c = rw (
   step-else integerItem integer-early _ _ (c .before .before .before .before .if1 .left),
-  sym (c .before .before .before .read-packed .ensures) ∙ ap packedOf (c .before .r .given .1),
+  sym (c .before .before .before .read-packed .ensures) ∙ ap packedTold (c .before .r .given .1),
 )
 
 pub next-spec : {M : Type 1} → statement M

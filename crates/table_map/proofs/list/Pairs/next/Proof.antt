@@ -1,6 +1,6 @@
 -- `table_map::list::Pairs::next` meets its contract. Assumes nothing.
 use mathlib.Core.Path.{sym, ap, _∙_}
-use Rattle.wire.specs.Packed.{packedOf}
+use Rattle.wire.specs.Packed.{packedTold}
 use Rattle.table_map.specs.Lists.{pairItem}
 use Rattle.table_map.proofs.Steps.{step-end, step-else}
 use Rattle.table_map.proofs.Items.{pair-early}
@@ -38,8 +38,8 @@ returns-2 c =
     let a = c .before .before .before .before .before in
     rw (
       step-else pairItem pair-early _ _ (a .before .before .before .if1 .left),
-      sym (a .before .before .read-packed .ensures) ∙ ap packedOf (a .first .given .1),
-      sym (c .before .before .before .read-packed2 .ensures) ∙ ap packedOf (c .before .second .given .1),
+      sym (a .before .before .read-packed .ensures) ∙ ap packedTold (a .first .given .1),
+      sym (c .before .before .before .read-packed2 .ensures) ∙ ap packedTold (c .before .second .given .1),
     )
 
 returns-3 : tie.Need-returns-3
@@ -48,15 +48,15 @@ returns-3 c =
     let a = c .before .before .before .before .before in
     rw (
       step-else pairItem pair-early _ _ (a .before .before .before .if1 .left),
-      sym (a .before .before .read-packed .ensures) ∙ ap packedOf (a .first .given .1),
-      sym (c .before .before .before .read-packed2 .ensures) ∙ ap packedOf (c .before .r .given .1),
+      sym (a .before .before .read-packed .ensures) ∙ ap packedTold (a .first .given .1),
+      sym (c .before .before .before .read-packed2 .ensures) ∙ ap packedTold (c .before .r .given .1),
     )
 
 returns-4 : tie.Need-returns-4
 unfolding pairItem
 returns-4 c = rw (
   step-else pairItem pair-early _ _ (c .before .before .before .before .if1 .left),
-  sym (c .before .before .before .read-packed .ensures) ∙ ap packedOf (c .before .r2 .given .1),
+  sym (c .before .before .before .read-packed .ensures) ∙ ap packedTold (c .before .r2 .given .1),
 )
 
 pub next-spec : {M : Type 1} → statement M

@@ -1,6 +1,6 @@
 -- `table_map::list::Strings::next` meets its contract. Assumes nothing.
 use mathlib.Core.Path.{sym, ap, _∙_}
-use Rattle.table_map.specs.Reads.{cutOf}
+use Rattle.table_map.specs.Inner.Reads.{partTold}
 use Rattle.table_map.specs.Lists.{stringItem}
 use Rattle.table_map.proofs.Steps.{step-end, step-else}
 use Rattle.table_map.proofs.Items.{string-early}
@@ -26,13 +26,13 @@ enum-known-r c = search needs
 returns-2 : tie.Need-returns-2
 returns-2 c = rw (
   step-else stringItem string-early _ _ (c .before .before .before .before .before .if1 .left),
-  sym (c .before .before .before .before .long-part .ensures) ∙ ap cutOf (c .before .before .cut .given .1),
+  sym (c .before .before .before .before .long-part .ensures) ∙ ap partTold (c .before .before .cut .given .1),
 )
 
 returns-3 : tie.Need-returns-3
 returns-3 c = rw (
   step-else stringItem string-early _ _ (c .before .before .before .before .if1 .left),
-  sym (c .before .before .before .long-part .ensures) ∙ ap cutOf (c .before .r .given .1),
+  sym (c .before .before .before .long-part .ensures) ∙ ap partTold (c .before .r .given .1),
 )
 
 pub next-spec : {M : Type 1} → statement M
