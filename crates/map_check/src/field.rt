@@ -10,10 +10,12 @@ use crate::rank::TablePlace;
 use table_map::FieldStep;
 use table_map::Fields;
 use table_map::field_type::COLUMN_CHARSET;
+use table_map::field_type::COLUMN_VISIBILITY;
 use table_map::field_type::DEFAULT_CHARSET;
 use table_map::field_type::ENUM_AND_SET_COLUMN_CHARSET;
 use table_map::field_type::ENUM_AND_SET_DEFAULT_CHARSET;
 use table_map::field_type::PRIMARY_KEY_WITH_PREFIX;
+use table_map::field_type::SIGNEDNESS;
 use table_map::field_type::SIMPLE_PRIMARY_KEY;
 use wire::Part;
 use wire::Refusal;
@@ -72,23 +74,23 @@ fn kept_of(bits: Part, places: [Found; 14]) -> KeptFields
     ensures { λ r. ⌜ r ≡ keptBy bits (λ k. getD places k Nothing) ⌝ }
 {
     let characters = Charsets {
-        default: places[2],
-        list: places[3],
+        default: places[DEFAULT_CHARSET as usize],
+        list: places[COLUMN_CHARSET as usize],
     };
     let choices = Charsets {
-        default: places[10],
-        list: places[11],
+        default: places[ENUM_AND_SET_DEFAULT_CHARSET as usize],
+        list: places[ENUM_AND_SET_COLUMN_CHARSET as usize],
     };
     let facts = Facts {
         bits,
-        signs: places[1],
-        visibility: places[12],
+        signs: places[SIGNEDNESS as usize],
+        visibility: places[COLUMN_VISIBILITY as usize],
         characters,
         choices,
     };
     KeptFields {
-        simple: places[8],
-        prefixed: places[9],
+        simple: places[SIMPLE_PRIMARY_KEY as usize],
+        prefixed: places[PRIMARY_KEY_WITH_PREFIX as usize],
         facts,
     }
 }
