@@ -17,9 +17,9 @@
  *
  * Every call returns a status: 0 for an answer, else the number of a refusal. The last parameter is a buffer of numbers, out.
  *  - Status 0: the first numbers of out are the answer (the count stands with each call), all behind them are as they were.
- *  - A refusal: out[0] is its place, and every other byte that was lent is as it was.
+ *  - A refusal: out[0] is its place and out[1] its part, which is 0 but for FEED_OUT_OF_RANGE; all else that was lent is as it was.
  *  - out shorter than the answer: the status is FEED_NO_ROOM, and nothing is changed, not even out[0]. Lend FEED_OUT_NUMBERS
- *    numbers to every call, and this cannot happen.
+ *    numbers to every call, and this cannot happen. No answer has fewer than two numbers.
  */
 #ifndef FEED_H
 #define FEED_H
@@ -61,7 +61,7 @@ enum {
     FEED_NO_ROOM = 8,          /* a lent buffer is too small; place: 0 */
     FEED_IMAGE_SHORT = 9,      /* the image ends early, or bytes are left over where no column is present; place: the column, 0 in the null bits and for bytes left over;
                                   of feed_image 0 also for an offset past the event */
-    FEED_OUT_OF_RANGE = 10,    /* a part of a date or time is out of range; place: the column */
+    FEED_OUT_OF_RANGE = 10,    /* a part of a date or time is out of range; place: the column; part: the first such one, a FEED_PART_ below */
     FEED_BAD_RECORD = 11,      /* the record is not valid; place: 0 */
     FEED_BAD_BITS = 12,        /* presence or null bits have the wrong length; place: 0 */
     FEED_NOT_TAKEN = 13,       /* a value that the column cannot hold, or a number that the call does not take; place: the column, or 0 */
@@ -69,6 +69,18 @@ enum {
     FEED_BAD_EXTRA = 15,       /* the length of a rows event's extra data is below 2; place: where that length stands, 8 */
     FEED_OTHER_EVENT = 16      /* a rows event of another code, another table id, or another number of columns; place: 0 for code and table id, else where the
                                   event's column count stands */
+};
+
+/* Which part of a date or time is out of range. FEED_PART_NEGATIVE is tested first, then the others in their order; the first is told. */
+enum {
+    FEED_PART_YEAR = 1,
+    FEED_PART_MONTH = 2,
+    FEED_PART_DAY = 3,
+    FEED_PART_HOUR = 4,
+    FEED_PART_MINUTE = 5,
+    FEED_PART_SECOND = 6,
+    FEED_PART_FRACTION = 7, /* 1,000,000 microseconds or more */
+    FEED_PART_NEGATIVE = 8  /* a datetime below zero */
 };
 
 /* Kinds of values (sorts, in the crates), with their parts in order. feed_step answers them, feed_put takes all but FEED_END. */
@@ -98,6 +110,7 @@ enum {
 /* Where each number of an answer stands in out. */
 enum {
     FEED_PLACE = 0, /* every refusal */
+    FEED_PART = 1,
 
     FEED_MAP_ID = 0, /* feed_map */
     FEED_MAP_FLAGS = 1,
@@ -107,6 +120,7 @@ enum {
     FEED_MAP_TABLE_LENGTH = 5,
 
     FEED_RECORD_LENGTH = 0, /* feed_check */
+    FEED_RECORD_COLUMNS = 1,
 
     FEED_COLUMN_TYPE = 0, /* feed_column */
     FEED_COLUMN_FLAGS = 1,
@@ -169,7 +183,7 @@ uint64_t feed_map(const uint8_t *event, size_t event_length, uint8_t post_header
  * Checks the body of a table map event (what follows the 19-byte event header, without a checksum) and writes the record that the
  * other calls read. post_header is the event's post-header length from the format description event: 8, or 6 in very old logs.
  * Lend FEED_RECORD_MOST bytes to be sure of the room.
- * Answer, 1 number: the length of the record, which stands at the start of profile.
+ * Answer, 2 numbers: the length of the record, which stands at the start of profile, and how many columns there are.
  */
 uint64_t feed_check(const uint8_t *event, size_t event_length, uint8_t post_header, uint8_t dialect,
                     uint8_t *profile, size_t profile_length, uint64_t *out, size_t out_length);

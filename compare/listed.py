@@ -58,22 +58,43 @@ def bytes_needed(kind, m0):
 
 
 # ---- temporals
+# of each kind the parts in order: the number that request 4 gives to each, and the most that it may be
+RANGES = {
+    "seconds": ((0, 2 ** 32 - 1), (7, 999999)),
+    "date": ((1, 9999), (2, 12), (3, 31)),
+    "datetime": ((1, 9999), (2, 12), (3, 31), (4, 23), (5, 59), (6, 59), (7, 999999)),
+    "time": ((4, 838), (5, 59), (6, 59), (7, 999999)),
+}
+YEAR, HOUR, FRACTION, NEGATIVE = 1, 4, 7, 8
+
+
 def range_fault(parts):
-    """whether the parts of a temporal, as `cases` writes it, are out of their ranges"""
+    """the first part of a temporal, as `cases` writes it, that is out of its range; 0 if none is"""
     name, *rest = parts.split(":")
-    if name == "time":
-        rest = rest[1:]
-    numbers = [int(x) for x in rest]
-    most = {"seconds": (2 ** 32 - 1, 999999), "date": (9999, 12, 31), "datetime": (9999, 12, 31, 23, 59, 59, 999999), "time": (838, 59, 59, 999999)}
-    return any(not 0 <= x <= y for x, y in zip(numbers, most[name]))
+    numbers = [int(x) for x in (rest[1:] if name == "time" else rest)]
+    return next((part for number, (part, most) in zip(numbers, RANGES[name]) if not 0 <= number <= most), 0)
+
+
+def refused_for(part):
+    return "refused 10 0 %d" % part
+
+
+def in_range(told):
+    """a temporal that is read, or its refusal"""
+    part = range_fault(told)
+    return refused_for(part) if part else told
 
 
 def time_of(negative, whole, micros):
-    """a time by document 01, of the whole part's bits"""
-    hours, minutes, seconds = whole // 4096, whole // 64 % 64, whole % 64
-    told = "time:%s:%d:%d:%d:%d" % ("-" if negative else "+", hours, minutes, seconds, micros)
-    is_zero = negative and not (whole or micros)
-    return "refused 10 0" if is_zero or range_fault(told) else told
+    """a time by document 01, of the whole part's bits; none is a negative zero"""
+    return in_range("time:%s:%d:%d:%d:%d" % ("-" if negative else "+", whole // 4096, whole // 64 % 64, whole % 64, micros))
+
+
+def datetime2(stored, micros):
+    """a DATETIME2 that is not below zero, by document 01"""
+    number = int.from_bytes(stored[:5], "big") - 2 ** 39
+    months = number >> 22
+    return "datetime:%d:%d:%d:%d:%d:%d:%d" % (months // 13, months % 13, number >> 17 & 31, number >> 12 & 31, number >> 6 & 63, number & 63, micros)
 
 
 def time2(m0, stored):
@@ -91,7 +112,6 @@ def time2(m0, stored):
 
 def temporal_entry(kind, m0, stored, rust):
     """the entry for bytes of a temporal which the Rust reads otherwise, and what document 01 asks; None if there is none"""
-    refused = "refused 10 0"
     number = int.from_bytes(stored, "little")
     high = 17 <= kind and len(stored) > bytes_needed(kind, 0) and stored[bytes_needed(kind, 0)] >= 128
     if kind == 19:
@@ -99,22 +119,21 @@ def temporal_entry(kind, m0, stored, rust):
         if FRACTION_BYTES[m0] == 1 and negative and stored[3]:
             return "3a TIME2 below zero with a fraction of one byte", time_of(negative, whole, micros)
         if whole // 4096 >= 1024:
-            return "3b TIME2 of 1,024 hours or more", refused
+            return "3b TIME2 of 1,024 hours or more", refused_for(HOUR)
     if kind == 18 and int.from_bytes(stored[:5], "big") < 2 ** 39:
-        return "3i DATETIME2 below zero", refused
+        return "3i DATETIME2 below zero", refused_for(NEGATIVE)
     if kind in (17, 18) and high:
-        return "3h a fraction with its highest bit set", refused
+        # the fraction is out of range, whatever its unit; of a DATETIME2 other parts may be before it
+        return "3h a fraction with its highest bit set", in_range(datetime2(stored, 10 ** 6)) if kind == 18 else refused_for(FRACTION)
     if kind == 17 and stored[0] >= 128 and rust not in (ERROR, PANIC):
         whole, micros = rust.split(" ")[1].split(":")[1:]
-        asked = "seconds:%d:%s" % (int(whole) + 2 ** 32, micros)
-        return "3j TIMESTAMP2 from 2^31 seconds on", refused if range_fault(asked) else asked
+        return "3j TIMESTAMP2 from 2^31 seconds on", in_range("seconds:%d:%s" % (int(whole) + 2 ** 32, micros))
     if kind == 11 and number // 10000 > 255:
-        asked = "time:+:%d:%d:%d:0" % (number // 10000, number // 100 % 100, number % 100)
-        return "3d TIME above 255 hours", refused if range_fault(asked) else asked
+        return "3d TIME above 255 hours", in_range("time:+:%d:%d:%d:0" % (number // 10000, number // 100 % 100, number % 100))
     if kind == 12 and number // 10 ** 10 > 65535:
-        return "3g DATETIME with a year over 65,535", refused
+        return "3g DATETIME with a year over 65,535", refused_for(YEAR)
     if rust.startswith("ok ") and range_fault(rust.split(" ")[1]):
-        return "3c parts out of range", refused
+        return "3c parts out of range", in_range(rust.split(" ")[1])
     return None
 
 
@@ -124,10 +143,10 @@ def judge_packed(words, ours, rust):
     eaten, checked, read = rust.split(" | ")
     if at < len(s) and s[at] in NOT_PACKED:
         zero = "ok 0 %d" % (at + 1)
-        listed = (eaten, checked, read) == (zero, zero, ERROR) and ours == "refused 2 %d" % at
+        listed = (eaten, checked, read) == (zero, zero, ERROR) and ours == "refused 2 %d 0" % at
         return "2a first byte 251 or 255" if listed else None
     if (eaten, checked, read) == (PANIC, ERROR, ERROR):
-        return "2b missing bytes: refused, where one reader of three panics" if ours == "refused 1 %d" % at else None
+        return "2b missing bytes: refused, where one reader of three panics" if ours == "refused 1 %d 0" % at else None
     return EQUAL if eaten == checked == read == ours else None
 
 
@@ -136,16 +155,16 @@ def judge_pack(words, ours, rust):
     if put != written or len(put) != 2 * int(size):
         return None
     if int(words[2]) < int(size):
-        return "2f room" if ours == "refused 8 0" else None
+        return "2f room" if ours == "refused 8 0 0" else None
     return EQUAL if ours == "ok " + put else None
 
 
 def judge_refused_column(kind, m0, m1, ours, rust):
     if not is_taken(kind):
-        if ours != "refused 4 0":
+        if ours != "refused 4 0 0":
             return None
         return BOTH_REFUSE if rust == ERROR else "4o TYPED_ARRAY, which takes its type from the metadata" if kind == 20 else None
-    if ours != "refused 5 0":
+    if ours != "refused 5 0 0":
         return None
     if rust == ERROR:
         return BOTH_REFUSE
@@ -157,7 +176,7 @@ def judge_refused_column(kind, m0, m1, ours, rust):
 def judge_json(stored, ours, rust):
     size = int.from_bytes(stored[:4], "little")
     if len(stored) < 4 or len(stored) - 4 < size:
-        return BOTH_REFUSE if rust == ERROR and ours == "refused 9 0" else None
+        return BOTH_REFUSE if rust == ERROR and ours == "refused 9 0 0" else None
     asked = "ok bytes:%s %d" % (stored[4:4 + size].hex() or "-", 4 + size)
     if ours != asked:
         return None
@@ -186,13 +205,17 @@ def judge_value(words, ours, rust):
         number = int.from_bytes(stored[:3], "little")
         listed = rust == "ok int:%d 3" % number and ours == "ok int:%d 3" % (number - 2 ** 24)
         return "4a signed INT24 below zero, through a stand-in" if listed else None
-    return BOTH_REFUSE if rust == ERROR and ours == "refused 9 0" else None
+    return BOTH_REFUSE if rust == ERROR and ours == "refused 9 0 0" else None
+
+
+# the words of a refusal: `refused`, number, place and part
+REFUSAL = 4
 
 
 def fault_of(ours):
-    """number and place of a refusal, or nothing"""
-    words = ours.split(" ")
-    return (int(words[-2]), int(words[-1])) if len(words) > 2 and words[-3] == "refused" else None
+    """number and place of a refusal without a part, or nothing"""
+    words = ours.split(" ")[-REFUSAL:]
+    return (int(words[1]), int(words[2])) if words[0] == "refused" and words[3:] == ["0"] else None
 
 
 def judge_event(words, ours, rust):
@@ -243,7 +266,7 @@ def judge_fields(words, ours, rust):
     types, optional = unhex(words[2]), unhex(words[3])
     mine, theirs = ours.split(" "), rust.split(" ")
     fault = fault_of(ours)
-    fields = mine[:-3] if fault else mine[:-1]
+    fields = mine[:-REFUSAL] if fault else mine[:-1]
     for told, read in zip(fields, theirs):
         kind, _, place = told.partition("@")
         start, length = (int(x) for x in place.split("+"))
@@ -293,7 +316,7 @@ LIST_FIELDS = {"integers": (8, 13, 3, 11, 7), "pairs": (9,), "charsets": (2, 10)
 def judge_list_of(kind, s, ours, rust):
     words, theirs = ours.split(" "), rust.split(" ")
     fault = fault_of(ours)
-    items = words[:-3] if fault else words[:-1]
+    items = words[:-REFUSAL] if fault else words[:-1]
     if kind in (5, 6):
         split = [x.split("@") for x in items]
         items = [count + strings_at(s, int(start), int(count)) for count, start in split]
@@ -318,7 +341,7 @@ def judge_list_of(kind, s, ours, rust):
 def is_hostile(s, ours):
     """whether the group that we refuse announces more strings than bytes are left"""
     at = 0
-    for _ in ours.split(" ")[:-3]:
+    for _ in ours.split(" ")[:-REFUSAL]:
         count, at = packed_at(s, at)
         for _ in range(count):
             size, at = packed_at(s, at)
@@ -392,7 +415,7 @@ def judge_image(words, ours, rust):
     theirs = rust.split(" ")
     found = EQUAL
     for j, entry, one, other in zip(columns, entries, mine, theirs):
-        if mine[-3:] == ["refused", "10", str(j)] and one == "refused" and entry[0] == 11 and other.startswith("time:"):
+        if mine[-REFUSAL:] == ["refused", "10", str(j), str(HOUR)] and one == "refused" and entry[0] == 11 and other.startswith("time:"):
             return "3e TIME below zero"
         how = value_entry(entry[0], entry[2], one, other)
         if how is None:

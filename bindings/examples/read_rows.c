@@ -47,12 +47,23 @@ static void stop(const char *why)
     exit(1);
 }
 
-/* A refusal ends the program: the number tells the rule that was broken, the first number of out the place. */
+/* the part of a date or time that a refusal names */
+static const char *part_name(uint64_t part)
+{
+    static const char *const names[] = {
+        "", " (year)", " (month)", " (day)", " (hour)", " (minute)", " (second)", " (fraction)", " (negative datetime)",
+    };
+
+    return part < sizeof names / sizeof names[0] ? names[part] : "";
+}
+
+/* A refusal ends the program: the number tells the rule that was broken, the first numbers of out the place and the part. */
 static void answered(const char *call, uint64_t status, const uint64_t *out)
 {
     if (status == FEED_OK)
         return;
-    fprintf(stderr, "read_rows: %s refused %" PRIu64 " %" PRIu64 "\n", call, status, out[FEED_PLACE]);
+    fprintf(stderr, "read_rows: %s refused %" PRIu64 " %" PRIu64 " %" PRIu64 "%s\n",
+            call, status, out[FEED_PLACE], out[FEED_PART], part_name(out[FEED_PART]));
     exit(1);
 }
 
@@ -148,7 +159,7 @@ static void read_map(struct table *table, uint8_t dialect)
     answered("feed_check",
              feed_check(event->at, event->length, POST_HEADER, dialect, table->record, FEED_RECORD_MOST, out, FEED_OUT_NUMBERS), out);
     table->record_length = (size_t)out[FEED_RECORD_LENGTH];
-    table->columns = (table->record_length - FEED_RECORD_BYTES(0)) / 6;
+    table->columns = (size_t)out[FEED_RECORD_COLUMNS];
 }
 
 /* the real type of a column, and whether it is known to be unsigned */

@@ -40,16 +40,17 @@ def check_line(server, of_map):
     return "check-as %s 8 %s 262144" % (server, of_map.hex())
 
 
+# why the check turns down what the servers of the captures log, by the number of the refusal
 REFUSED_MAPS = {
-    "refused 3 0": "of more than 255 columns, refused 3 until request 6",
-    "refused 4": "with a compressed column, refused 4",
-    "refused 5": "with a DECIMAL of more than 30 digits behind the point, refused 5",
+    "3": "of more than 255 columns, refused 3 until request 6",
+    "4": "with a compressed column, refused 4",
+    "5": "with a DECIMAL of more than 30 digits behind the point, refused 5",
 }
 
 
 def why_refused(told, of_map, checked):
     """why a map is refused; a difference, if that is not listed"""
-    why = REFUSED_MAPS.get(checked) or REFUSED_MAPS.get(checked.rpartition(" ")[0])
+    why = REFUSED_MAPS.get(checked.split(" ")[1])
     if why is None:
         told.differ("map", of_map.hex(), checked, "ok")
     return why or "that should not be refused"

@@ -12,6 +12,7 @@ from .values import entry_of, hex_word, judge_values, present, unhex
 # bodies that hold no images as they stand
 UNREAD = {39: "rows events of code 39, partial updates, refused 16"}
 UNREAD.update((code, "rows events of codes 166 to 168, compressed, refused 16") for code in (166, 167, 168))
+OTHER_CODE = "refused 16 0 0"
 FRACTIONS = "rows events of old temporals with a fraction, which no map tells, left out"
 
 
@@ -144,10 +145,10 @@ def phase_events(folder, server, name, told):
         code = int(line.split(" ")[1])
         if code in TOGETHER:
             judge_event(told, phase, case, line, answered(got))
-        elif got == "refused 16 0":
+        elif got == OTHER_CODE:
             told[UNREAD[code]] += 1
         else:
-            told.differ("code %d" % code, line, got, "refused 16 0")
+            told.differ("code %d" % code, line, got, OTHER_CODE)
     for case in {case for case, _ in asked}:
         if phase.images.get(case):
             told.differ("images that no event gave", case, 0, len(phase.images[case]))

@@ -8,7 +8,12 @@ from .values import hex_word, judge_values, unhex
 
 MOST_COLUMNS = 255
 # what the servers of the captures log and document 01 turns down, by its answer
-REFUSED_MAPS = {"refused 4 1": "a compressed column, refused 4", "refused 5 0": "a DECIMAL of more than 30 digits behind the point, refused 5"}
+REFUSED_MAPS = {"refused 4 1 0": "a compressed column, refused 4", "refused 5 0 0": "a DECIMAL of more than 30 digits behind the point, refused 5"}
+
+
+def with_part(answer):
+    """an answer of the lists, which tell number and place of a refusal; no refusal of the check has a part"""
+    return answer + " 0" if answer.startswith("refused ") else answer
 
 
 def maps(folder, server, told):
@@ -18,12 +23,12 @@ def maps(folder, server, told):
     rights, written, names = lines(base + ".right"), lines(base + ".answers"), lines(base + ".names")
     cases = ["check-as %s %s" % (server, c.split(" ", 1)[1]) for c in asked]
     for case, got, right, as_written, name in zip(cases, answers(cases), rights, written, names):
-        wanted = as_written if right == "=" else right
+        wanted = with_part(as_written if right == "=" else right)
         told["maps"] += 1
         if wanted in REFUSED_MAPS:
             told["maps with " + REFUSED_MAPS[wanted]] += 1
         if int(name.split("\t")[1]) > MOST_COLUMNS:
-            wanted = "refused 3 0"
+            wanted = "refused 3 0 0"
             told["maps of more than 255 columns, refused 3 until request 6"] += 1
         if got != wanted:
             told.differ("map " + name.split("\t")[0], case, got, wanted)

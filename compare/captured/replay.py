@@ -3,7 +3,7 @@ import re
 
 from .answered import UPDATES, WRITES
 from .texts import plain, true_word
-from .values import OLD_TIME, columns_of, entry_of, how_value, present
+from .values import HOUR, OLD_TIME, columns_of, entry_of, how_value, present
 
 NO_VALUE = "values absent from the log, as an insert may leave them out"
 # statements that change rows and log none of them
@@ -38,8 +38,8 @@ class Tables(dict):
         """the rows of an event"""
         table = self[change.table]
         table.record = change.record
-        if got.how[:2] == ["refused", "10"] and entry_of(change.record, int(got.how[2]))[0] == OLD_TIME:
-            told["rows events refused 10 at a negative old TIME"] += 1
+        if got.how[:2] == ["refused", "10"] and got.how[3] == HOUR and entry_of(change.record, int(got.how[2]))[0] == OLD_TIME:
+            told["rows events refused 10 at a negative old TIME, for its hour"] += 1
             table.lost = "with a negative old TIME"
         elif got.how[0] != "end":
             told.differ("rows event at %d" % change.offset, change.line, " ".join(got.how), "end")

@@ -3,6 +3,8 @@
 # bits of the integer types
 WIDTHS = {1: 8, 2: 16, 9: 24, 3: 32, 8: 64}
 OLD_TIME, CHAR = 11, 254
+# the part that a negative old TIME has out of range (Q4.4)
+HOUR = "4"
 SIGN_KNOWN = 4
 EQUAL = "values equal to the server's"
 
@@ -64,8 +66,8 @@ def judge_values(told, case, record, presence, values, how, trues):
     for rank, place in enumerate(columns):
         entry = entry_of(record, place)
         if rank == len(values):
-            if how == ["refused", "10", str(place)] and entry[0] == OLD_TIME and trues[rank].startswith("time:-"):
-                told["negative old TIME, refused 10: 01 reads it unsigned"] += 1
+            if how == ["refused", "10", str(place), HOUR] and entry[0] == OLD_TIME and trues[rank].startswith("time:-"):
+                told["negative old TIME, refused 10 for its hour: 01 reads it unsigned"] += 1
             else:
                 told.differ("column %d" % place, case, " ".join(how), trues[rank])
             return False

@@ -1,13 +1,13 @@
-"""What is not taken: "number and place only"."""
+"""What is not taken: a number, a place, and "this third number, zero for all other refusals" than 10."""
 
 
 class Refused(Exception):
-    def __init__(self, number, place):
-        super().__init__(number, place)
-        self.number, self.place = number, place
+    def __init__(self, number, place, part=0):
+        super().__init__(number, place, part)
+        self.number, self.place, self.part = number, place, part
 
     def __str__(self):
-        return "refused %d %d" % (self.number, self.place)
+        return "refused %d %d %d" % (self.number, self.place, self.part)
 
 
 def fits(stored, room):

@@ -1,6 +1,7 @@
 """Stored dates and times: types 7, 11, 12, 14, 17, 18, 19. A value is its kind and its parts, as docs/CASES.md writes them.
 
-A reader is given all the bytes of a value. It answers parts that may be out of range; `in_range` judges them."""
+A reader is given all the bytes of a value. It answers parts that may be out of range; `offending` names the first that is (request 4, with the
+readings Q4.1 to Q4.4)."""
 
 TIMESTAMP, TIME, DATETIME, DATE, TIMESTAMP2, DATETIME2, TIME2 = 7, 11, 12, 14, 17, 18, 19
 # bytes of each, without the fraction
@@ -16,6 +17,14 @@ MOST = {
     "datetime": (9999, 12, 31, 23, 59, 59, 999999),
     "time": (838, 59, 59, 999999),
 }
+# "year 1, month 2, day 3, hour 4, minute 5, second 6, fraction 7"; seconds since 1970 fill their bytes, so they are out of range for a writer alone
+YEAR, MONTH, DAY, HOUR, MINUTE, SECOND, FRACTION, NEGATIVE = range(1, 9)
+NAMED = {
+    "seconds": (None, FRACTION),
+    "date": (YEAR, MONTH, DAY),
+    "datetime": (YEAR, MONTH, DAY, HOUR, MINUTE, SECOND, FRACTION),
+    "time": (HOUR, MINUTE, SECOND, FRACTION),
+}
 
 
 def fraction_bytes(kind, m0):
@@ -30,14 +39,26 @@ def micros_of(fraction, k):
     return fraction * UNITS[k] if k else 0
 
 
-def in_range(value):
-    # "Ranges: .. datetimes not negative. A time is sign, hours, the rest; no negative zero."
+def judged(value):
+    """each number of a value with the most that it may be; the sign of a time is none of them"""
     kind, *parts = value
-    if kind == "time":
-        sign, *parts = parts
-        if sign == "-" and not any(parts):
-            return False
-    return all(0 <= part <= most for part, most in zip(parts, MOST[kind]))
+    return list(zip(parts[1:] if kind == "time" else parts, MOST[kind]))
+
+
+def offending(value):
+    """the number of the first part that is out of its range, in a value that was read; 0 if none is"""
+    # "and 8 for a negative datetime, which is tested before the others": it was read with a year below 0
+    if value[0] == "datetime" and value[1] < 0:
+        return NEGATIVE
+    return next((name for name, (number, most) in zip(NAMED[value[0]], judged(value)) if number > most), 0)
+
+
+def in_range(value):
+    """whether a writer may take a value; none that was read is a negative zero"""
+    # "Ranges: .. datetimes not negative. A time is sign, hours, the rest; no negative zero."
+    if value[:2] == ("time", "-") and not any(value[2:]):
+        return False
+    return all(0 <= number <= most for number, most in judged(value))
 
 
 def read(kind, m0, stored):

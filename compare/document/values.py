@@ -69,9 +69,10 @@ def read_value(column, s, at, place):
         return ("bytes", cut(s, at + k, length, place)), at + k + length
     stored = cut(s, at, fixed_size(column), place)
     value = read_fixed(column, stored)
-    # "a value's bytes before its range"
-    if column.type in temporal.SIZES and not temporal.in_range(value):
-        raise Refused(10, place)
+    # "a value's bytes before its range"; "Each temporal reader shall name the first offending part"
+    part = temporal.offending(value) if column.type in temporal.SIZES else 0
+    if part:
+        raise Refused(10, place, part)
     return value, at + len(stored)
 
 

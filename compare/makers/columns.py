@@ -1,5 +1,6 @@
 """Columns of all types with their metadata, and values in and around their domains."""
 from functools import lru_cache
+from itertools import product
 
 from document import temporal, values
 from document.columns import ACCEPTED, METADATA_BYTES, Column, real_type
@@ -259,10 +260,67 @@ def loose_stored(column):
     return [loosely(column, value) for value in edge_values_of(column)[1]]
 
 
+# ---- parts out of range
+# for each part of a type the least and the greatest that its bytes hold out of range, none if they hold none; of fractions these go by their bytes
+OUTSIDE = {
+    temporal.TIME: ((839, 1676), (60, 99), (60, 99), ()),
+    temporal.DATETIME: ((10000, 1844674406), (13, 99), (32, 99), (24, 99), (60, 99), (60, 99), ()),
+    temporal.DATE: ((10000, 32767), (13, 15), ()),
+    temporal.TIMESTAMP2: ((), ()),
+    temporal.DATETIME2: ((10000, 10081), (), (), (24, 31), (60, 63), (60, 63), ()),
+    temporal.TIME2: ((839, 2047), (60, 63), (60, 63), ()),
+}
+
+
+def choices(kind, m0):
+    """for each part of a temporal its bound, and then what it may be out of range"""
+    bounds, outside = list(temporal.MOST[temporal.KINDS[kind]]), list(OUTSIDE[kind])
+    k = temporal.fraction_bytes(kind, m0)
+    if k:
+        bounds[-1], outside[-1] = 10 ** 6 - temporal.UNITS[k], (10 ** 6, temporal.UNITS[k] * (256 ** k - 1))
+    elif kind != temporal.DATE:
+        bounds[-1] = 0
+    return [(bound, *some) for bound, some in zip(bounds, outside)]
+
+
+def below_zero(stored):
+    """a DATETIME2 of the same parts, but below zero, and one whose sign bit alone is another"""
+    whole = int.from_bytes(stored[:5], "big")
+    for negative in (2 ** 40 - whole, whole - 2 ** 39):
+        yield negative.to_bytes(5, "big") + stored[5:]
+
+
+def signed(kind, m0, parts):
+    """the bytes of parts, with each sign that the type has"""
+    name = temporal.KINDS[kind]
+    for sign in (("+",), ("-",)) if kind == temporal.TIME2 else (("+",),) if name == "time" else ((),):
+        stored = temporal.write(kind, m0, (name, *sign, *parts))
+        yield stored
+        if kind == temporal.DATETIME2:
+            yield from below_zero(stored)
+
+
+def parted(digits=range(7), least=0, most=7):
+    """(column, bytes): each set of parts that a type can have out of range, all others at their bound; from `least` to `most` parts in a set"""
+    for kind in OUTSIDE:
+        for m0 in digits if kind >= temporal.TIMESTAMP2 else (0,):
+            for parts in product(*(some[:2] for some in choices(kind, m0))):
+                if least <= sum(part != some[0] for part, some in zip(parts, choices(kind, m0))) <= most:
+                    yield from ((Column(kind, m0, 0), stored) for stored in signed(kind, m0, parts))
+
+
+def some_parted(rng, column):
+    """bytes of a temporal with any of its parts out of range"""
+    parts = [rng.choice((0, *some, some[0], some[-1])) for some in choices(column.type, column.m0)]
+    return rng.choice(list(signed(column.type, column.m0, parts)))
+
+
 def some_stored(rng, column):
     """bytes of a value, in a temporal with parts that may be out of range"""
     if column.type not in temporal.SIZES or rng.random() < 0.4:
         return values.stored_value(column, some_value(rng, column), 0)
+    if column.type in OUTSIDE and chance(rng, 3):
+        return some_parted(rng, column)
     stored = rng.choice(loose_stored(column))
     k = temporal.fraction_bytes(column.type, column.m0)
     if k and chance(rng, 3):

@@ -5,7 +5,8 @@ from document.columns import CHARACTER, ENUM_OR_SET, NUMERIC, Column
 from document.image import Head
 from document.record import record as record_of
 
-from .columns import edge_columns, edge_values_of, loosely, rule_columns, rule_values, some_bad_column, some_bad_value, some_column, some_stored, some_value
+from .columns import (edge_columns, edge_values_of, loosely, parted, rule_columns, rule_values, some_bad_column, some_bad_value, some_column,
+                      some_stored, some_value)
 from .some import MOST_ROOM, NUMBERS, changes, chance, cuts, damaged, line, maker, near, some_bytes, some_room
 
 
@@ -208,7 +209,36 @@ def first_rules(rng):
             yield line("first", record, presence)
 
 
+def parted_images(digits, least=0, most=7):
+    """(record, presence, image): a column that is absent, a TINYINT, and a temporal with parts out of range, the last byte there or missing"""
+    for column, stored in parted(digits, least, most):
+        record = record_of([(Column(252, 1, 0), 8, 0), (Column(1, 0, 0), 8, 0), (column, 8, 0)])
+        yield record, b"\x06", b"\xfc\x05" + stored
+        if least:
+            yield record, b"\x06", b"\xfc\x05" + stored[:-1]
+
+
+def two_temporals():
+    """(record, presence, image): of two temporals with a part out of range the first is told; a NULL has no parts, and neither has an absent column"""
+    date, time = Column(14, 0, 0), Column(19, 2, 0)
+    dates, times = (b"\x21\x00\x00", b"\xa0\x01\x00", b"\x00\x20\x4e"), (b"\x80\x00\x00\x00", b"\x80\x00\x3c\x00", b"\x7f\xff\xff\x9c")
+    record = record_of([(Column(1, 0, 0), 8, 0), (date, 10, 0), (time, 10, 0)])
+    for one in dates:
+        for other in times:
+            yield record, b"\x07", b"\xf8\x05" + one + other
+            yield record, b"\x07", b"\xfa\x05" + other
+            yield record, b"\x05", b"\xfc\x05" + other
+            yield record, b"\x06", b"\xfe" + one
+            yield record, b"\x07", b"\xf8\x05" + one + other[:-1]
+
+
 def step_rules(rng):
+    # a part that is out of range, met by a cursor at its column and by one before it
+    for given in parted_images((0, 2, 6), 1, 2):
+        yield line("step", *given, 2, 2)
+    for given in two_temporals():
+        for cursor in ((0, 1), (1, 2), (2, 2), (2, 5), (3, 2)):
+            yield line("step", *given, *cursor)
     for record in RECORDS:
         for presence in PRESENCES:
             for image in (b"\xfc\x01\x21\x00\x00", b"\xfe\x01\xff\xff\xff", b"\x00\x01\x21", b"\x00", b""):
@@ -284,6 +314,8 @@ def image_rules(rng):
             yield line("image", row, b"\x06", b"\xfc\x05" + loosely(column, given))
         elif values.takes(column, given):
             yield line("image", row, b"\x06", b"\xfc\x05" + values.stored_value(column, given, 0))
+    for given in (*parted_images((0, 2, 3, 6)), *parted_images((0, 2, 6), 1, 1), *two_temporals()):
+        yield line("image", *given)
 
 
 def image_edges(rng):

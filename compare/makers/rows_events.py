@@ -5,7 +5,7 @@ from document.packed import pack
 from document.record import record as record_of
 from document.rows import FORMS
 
-from .columns import some_column
+from .columns import parted, some_column
 from .rows import Row, rule_records, some_columns, some_presence, spoilt_record
 from .some import NUMBERS, TWO64, changes, chance, cuts, damaged, line, longer, maker, near, some_bytes, some_number, some_pack
 
@@ -149,8 +149,22 @@ def rule_images():
     yield event_of(WRITE2, [TINY], [b"\xfe\x05", b"\xfe\x01\xfe\x02"]).line()
 
 
+def rule_parts():
+    """a part out of range, in the first image and in a later one; in an update in either half, the other half having another"""
+    for column, stored in parted((0, 2), 1, 2):
+        bad = b"\xfc\x05" + stored
+        yield event_of(WRITE, [TINY, column], [bad]).line()
+        yield event_of(WRITE2, [TINY, column], [b"\xfe\x05", b"\xff", bad, bad]).line()
+    month, fraction = b"\xf8\x05\xa0\x01\x00\x80\x00\x00\x00", b"\xf8\x05\x21\x00\x00\x7f\xff\xff\x9c"
+    good = b"\xf8\x05\x21\x00\x00\x80\x00\x00\x00"
+    for code in (WRITE, UPDATE, WRITE2, UPDATE2):
+        for images in ((month, fraction), (fraction, month), (good, month), (good, good, fraction), (good, good, good, month), (good, month[:-1]),
+                       (good, fraction[:-1])):
+            yield event_of(code, [TINY, Column(14, 0, 0), TIME2], images).line()
+
+
 def rows_rules(rng):
-    for rules in (rule_codes, rule_lengths, rule_cuts, rule_ids, rule_counts, rule_orders, rule_sets, rule_images):
+    for rules in (rule_codes, rule_lengths, rule_cuts, rule_ids, rule_counts, rule_orders, rule_sets, rule_images, rule_parts):
         yield from rules()
 
 

@@ -3,8 +3,8 @@ from document import temporal, values
 from document.columns import Column
 from document.refusal import Refused
 
-from .columns import (OTHERS, edge_columns, edge_values_of, loose_stored, loosely, rule_columns, rule_values, some_bad_column, some_bad_value, some_column,
-                      some_stored, some_value, turning_columns)
+from .columns import (OTHERS, OUTSIDE, edge_columns, edge_values_of, loose_stored, loosely, parted, rule_columns, rule_values, some_bad_column,
+                      some_bad_value, some_column, some_parted, some_stored, some_value, turning_columns)
 from .some import NUMBERS, TWO64, chance, cuts, damaged, line, maker, some_bytes, some_number, some_room
 
 
@@ -14,6 +14,11 @@ def value_rules(rng):
             yield line("value", *column, loosely(column, given))
         elif values.takes(column, given):
             yield line("value", *column, values.stored_value(column, given, 0))
+    # which part is told, and that bytes that are missing come before it
+    for column, stored in parted():
+        yield line("value", *column, stored)
+    for column, stored in parted((6,), 1, 1):
+        yield line("value", *column, stored[:-1])
     for column in rule_columns():
         yield line("value", *column, bytes(40))
         yield line("value", *column, b"")
@@ -25,6 +30,8 @@ def value_edges(rng):
         stored = [values.stored_value(column, value, 0) for value in inside]
         if column.type in temporal.SIZES:
             stored += loose_stored(column) + [some_stored(rng, column) for _ in range(40)]
+        if column.type in OUTSIDE:
+            stored += [some_parted(rng, column) for _ in range(80)]
         for s in dict.fromkeys(stored):
             yield line("value", *column, s)
         longest = max(stored, key=len)[:12]

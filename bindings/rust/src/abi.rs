@@ -380,5 +380,6 @@ fn answered(status: u64, out: Answer) -> Result<Answer, Refusal> {
     Err(Refusal {
         number: status,
         place: out[0],
+        part: out[1],
     })
 }

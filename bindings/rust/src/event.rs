@@ -2,7 +2,7 @@
 
 use crate::abi::{self, Answer};
 use crate::refusal;
-use crate::{part, Record, Refusal, Row};
+use crate::{cut, Record, Refusal, Row};
 use std::iter::FusedIterator;
 
 /// The codes of rows events, as an event's header has them.
@@ -62,10 +62,7 @@ pub struct Rows<'a> {
 }
 
 /// What the library never leaves to this crate to find: an image that does not lie in its event, or an end behind a `before`.
-const MISSING: Refusal = Refusal {
-    number: refusal::IMAGE_SHORT,
-    place: 0,
-};
+const MISSING: Refusal = Refusal::at(refusal::IMAGE_SHORT, 0);
 
 impl Record {
     /// Reads a rows event of this record's table. `code` is the event's type from its header, `table` the [`id`](crate::Map::id) of its map.
@@ -97,7 +94,7 @@ impl<'a> RowsEvent<'a> {
         if self.told[1] == 0 {
             return None;
         }
-        part(self.event, self.told[2], self.told[3])
+        cut(self.event, self.told[2], self.told[3])
     }
 
     /// The rows, in order.
@@ -124,8 +121,8 @@ impl<'a> RowsEvent<'a> {
         };
         Some(Image {
             record: self.record,
-            presence: part(self.event, start, length)?,
-            bytes: part(self.event, out[1], out[2])?,
+            presence: cut(self.event, start, length)?,
+            bytes: cut(self.event, out[1], out[2])?,
         })
     }
 }

@@ -44,7 +44,7 @@ pub mod refusal {
     pub const NO_ROOM: u64 = 8;
     /// The image ends early. Place: the column, or 0 in the null bits.
     pub const IMAGE_SHORT: u64 = 9;
-    /// A part of a date or time is out of range. Place: the column.
+    /// A part of a date or time is out of range. Place: the column. Part: the first such one, a number of [`part`](crate::part).
     pub const OUT_OF_RANGE: u64 = 10;
     /// The record is not valid. Place: 0.
     pub const BAD_RECORD: u64 = 11;
@@ -60,18 +60,72 @@ pub mod refusal {
     pub const OTHER_EVENT: u64 = 16;
 }
 
-/// Why a call did not answer: a number of [`refusal`], and a place, which is an offset in the given bytes, a column counted from 0, or 0.
+/// The parts of dates and times that a refusal can name. A datetime below zero is told first, and then the others in their order.
+pub mod part {
+    /// The year, over 9999.
+    pub const YEAR: u64 = 1;
+    /// The month, over 12.
+    pub const MONTH: u64 = 2;
+    /// The day, over 31.
+    pub const DAY: u64 = 3;
+    /// The hour, over 23, or over 838 in a time.
+    pub const HOUR: u64 = 4;
+    /// The minute, over 59.
+    pub const MINUTE: u64 = 5;
+    /// The second, over 59.
+    pub const SECOND: u64 = 6;
+    /// The fraction of a second, of 1,000,000 microseconds or more.
+    pub const FRACTION: u64 = 7;
+    /// A datetime below zero.
+    pub const NEGATIVE: u64 = 8;
+}
+
+/// Why a call did not answer: a number of [`refusal`]; a place, which is an offset in the given bytes, a column counted from 0, or 0; and
+/// for a date or time that is out of range, which [`part`] of it is.
 #[derive(Clone, Copy, Debug, PartialEq, Eq)]
 pub struct Refusal {
     /// Which rule was broken.
     pub number: u64,
     /// Where.
     pub place: u64,
+    /// The first part out of range, if the number is [`refusal::OUT_OF_RANGE`]; else 0.
+    pub part: u64,
 }
 
+impl Refusal {
+    /// A refusal that names no part.
+    const fn at(number: u64, place: u64) -> Refusal {
+        Refusal {
+            number,
+            place,
+            part: 0,
+        }
+    }
+
+    /// The part in words, if the refusal names one.
+    pub fn part_name(&self) -> Option<&'static str> {
+        Some(match self.part {
+            part::YEAR => "year",
+            part::MONTH => "month",
+            part::DAY => "day",
+            part::HOUR => "hour",
+            part::MINUTE => "minute",
+            part::SECOND => "second",
+            part::FRACTION => "fraction",
+            part::NEGATIVE => "negative datetime",
+            _ => return None,
+        })
+    }
+}
+
+/// `refused`, number, place and part, and behind them the part in words: `refused 10 4 2 (month)`, and `refused 9 1 0`.
 impl fmt::Display for Refusal {
     fn fmt(&self, f: &mut fmt::Formatter<'_>) -> fmt::Result {
-        write!(f, "refused {} {}", self.number, self.place)
+        write!(f, "refused {} {} {}", self.number, self.place, self.part)?;
+        match self.part_name() {
+            Some(name) => write!(f, " ({name})"),
+            None => Ok(()),
+        }
     }
 }
 
@@ -147,8 +201,8 @@ pub fn map(event: &[u8], post_header: u8) -> Result<Map<'_>, Refusal> {
     Ok(Map {
         id: out[0],
         flags: out[1] as u16,
-        database: part(event, out[2], out[3]).unwrap_or(&[]),
-        table: part(event, out[4], out[5]).unwrap_or(&[]),
+        database: cut(event, out[2], out[3]).unwrap_or(&[]),
+        table: cut(event, out[4], out[5]).unwrap_or(&[]),
     })
 }
 
@@ -206,7 +260,7 @@ pub fn names(event: &[u8], post_header: u8, dialect: Dialect) -> Result<Option<&
     Ok(if out[0] == 0 {
         None
     } else {
-        part(event, out[1], out[2])
+        cut(event, out[1], out[2])
     })
 }
 
@@ -215,10 +269,7 @@ pub fn names(event: &[u8], post_header: u8, dialect: Dialect) -> Result<Option<&
 pub fn name<'a>(names: &'a [u8], fallback: &'a [u8], column: usize) -> Result<&'a [u8], Refusal> {
     let out = abi::name(names, fallback, column)?;
     let list = if names.is_empty() { fallback } else { names };
-    part(list, out[0], out[1]).ok_or(Refusal {
-        number: refusal::NO_COLUMN,
-        place: column as u64,
-    })
+    cut(list, out[0], out[1]).ok_or(Refusal::at(refusal::NO_COLUMN, column as u64))
 }
 
 /// The name of a column in an event. It is refused with 14 if the event has no names, or fewer, and as [`names`] if they are not known.
@@ -233,7 +284,7 @@ pub fn column_name(
 }
 
 /// A part of some bytes. The library answers no part that is not there, so this is `Some` for all its answers.
-fn part(bytes: &[u8], start: u64, length: u64) -> Option<&[u8]> {
+fn cut(bytes: &[u8], start: u64, length: u64) -> Option<&[u8]> {
     let start = start as usize;
     bytes.get(start..start.checked_add(length as usize)?)
 }

@@ -60,10 +60,7 @@ impl<'a> Iterator for Row<'a> {
         }
         // the library answers only the kinds that it names, and bytes that lie in the image
         let Some(value) = Value::from_parts(kind, parts, self.image) else {
-            return Some(Err(Refusal {
-                number: refusal::IMAGE_SHORT,
-                place: at,
-            }));
+            return Some(Err(Refusal::at(refusal::IMAGE_SHORT, at)));
         };
         self.state = State::At {
             column: next_column as usize,
@@ -96,7 +93,7 @@ impl Record {
         abi::first(&self.bytes, presence)?;
         let present = (0..self.columns()).filter(|&c| is_set(presence, c)).count();
         if values.len() != present {
-            return Err(refuse(refusal::BAD_BITS));
+            return Err(Refusal::at(refusal::BAD_BITS, 0));
         }
         let nulls = null_bits(values);
         let mut image = room_for(&nulls, values)?;
@@ -125,14 +122,9 @@ fn room_for(nulls: &[u8], values: &[Value]) -> Result<Vec<u8>, Refusal> {
     let mut image = Vec::new();
     match image.try_reserve_exact(room) {
         Ok(()) => image.resize(room, 0),
-        Err(_) => return Err(refuse(refusal::NO_ROOM)),
+        Err(_) => return Err(Refusal::at(refusal::NO_ROOM, 0)),
     }
     Ok(image)
-}
-
-/// A refusal that no one column is to blame for.
-fn refuse(number: u64) -> Refusal {
-    Refusal { number, place: 0 }
 }
 
 /// A bit for each value, lowest first, set where it is NULL.

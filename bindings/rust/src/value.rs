@@ -1,7 +1,7 @@
 //! One value of a column.
 
 use crate::abi::Taken;
-use crate::part;
+use crate::cut;
 
 /// One value of a column. Strings, BLOB, SET, BIT, DECIMAL, JSON, geometry and VECTOR are bytes, as the server stored them.
 #[derive(Clone, Copy, Debug, PartialEq)]
@@ -119,7 +119,7 @@ impl<'a> Value<'a> {
                 seconds: d as u8,
                 micros: e as u32,
             },
-            BYTES => Value::Bytes(part(image, a, b)?),
+            BYTES => Value::Bytes(cut(image, a, b)?),
             _ => return None,
         })
     }

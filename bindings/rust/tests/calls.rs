@@ -1,7 +1,7 @@
 //! The calls of the crate, on the worked readings of the specification, on maps that a server logged, and on bytes that are refused.
 
 use feed::{
-    check, code, column_name, map, name, names, refusal, Column, Dialect, Image, Map, Record,
+    check, code, column_name, map, name, names, part, refusal, Column, Dialect, Image, Map, Record,
     Refusal, Value,
 };
 
@@ -32,7 +32,19 @@ fn record() -> Record {
 }
 
 fn refused<T>(number: u64, place: u64) -> Result<T, Refusal> {
-    Err(Refusal { number, place })
+    Err(Refusal {
+        number,
+        place,
+        part: 0,
+    })
+}
+
+fn out_of_range<T>(place: u64, part: u64) -> Result<T, Refusal> {
+    Err(Refusal {
+        number: refusal::OUT_OF_RANGE,
+        place,
+        part,
+    })
 }
 
 #[test]
@@ -392,6 +404,118 @@ fn an_image_cut_in_its_event_is_refused_once() {
         refused::<()>(refusal::IMAGE_SHORT, 2).err()
     );
     assert!(rows.next().is_none());
+}
+
+// the only value of an image of one column, or why there is none
+fn lone(real_type: u8, m0: u8, stored: &[u8]) -> Result<(), Refusal> {
+    let image = [&[0], stored].concat();
+    let record = one_column(real_type, m0);
+    let mut row = record.row(&[1], &image).unwrap();
+    row.next().unwrap().map(|_| ())
+}
+
+#[test]
+fn the_first_part_out_of_range_is_named() {
+    // DATE: the year 10000, the month 13, and both
+    assert_eq!(lone(14, 0, &[0, 0x20, 0x4e]), out_of_range(0, part::YEAR));
+    assert_eq!(lone(14, 0, &[0xa0, 1, 0]), out_of_range(0, part::MONTH));
+    assert_eq!(
+        lone(14, 0, &[0xa0, 0x21, 0x4e]),
+        out_of_range(0, part::YEAR)
+    );
+    // DATETIME of old: the day 32
+    let day = 32_000_000u64.to_le_bytes();
+    assert_eq!(lone(12, 0, &day), out_of_range(0, part::DAY));
+    // TIME: 839 hours, 60 minutes, 60 seconds, the last two together, and a second less 1,000,000 microseconds below zero
+    assert_eq!(lone(19, 0, &[0xb4, 0x70, 0]), out_of_range(0, part::HOUR));
+    assert_eq!(lone(19, 0, &[0x80, 0x0f, 0]), out_of_range(0, part::MINUTE));
+    assert_eq!(lone(19, 0, &[0x80, 0, 0x3c]), out_of_range(0, part::SECOND));
+    assert_eq!(
+        lone(19, 0, &[0x80, 0x0f, 0x3c]),
+        out_of_range(0, part::MINUTE)
+    );
+    assert_eq!(
+        lone(19, 2, &[0x7f, 0xff, 0xff, 0x9c]),
+        out_of_range(0, part::FRACTION)
+    );
+    // DATETIME below zero, whatever its other parts are
+    assert_eq!(lone(18, 0, &[0; 5]), out_of_range(0, part::NEGATIVE));
+    // bytes that are missing come first
+    assert_eq!(lone(14, 0, &[0xa0, 1]), refused(refusal::IMAGE_SHORT, 0));
+}
+
+#[test]
+fn a_part_is_passed_on_by_images_and_rows_events() {
+    // DATE and TIME(2): the month 13, and then a fraction that is out of range too
+    let record = Record::from_bytes(vec![
+        18, 0, 1, 0, 2, 0, 14, 8, 0, 0, 0, 0, 19, 8, 2, 0, 0, 0,
+    ])
+    .unwrap();
+    let month = [0, 0xa0, 1, 0, 0x7f, 0xff, 0xff, 0x9c];
+    let fraction = [0, 0x21, 0, 0, 0x7f, 0xff, 0xff, 0x9c];
+    let last = |image| record.row(&[3], image).unwrap().last().unwrap();
+    assert_eq!(last(&month), out_of_range(0, part::MONTH));
+    assert_eq!(last(&fraction), out_of_range(1, part::FRACTION));
+    let head = [0x2a, 0, 0, 0, 0, 0, 1, 0, 2, 0, 2, 3];
+    let good = [0, 0x21, 0, 0, 0x80, 0, 0, 0];
+    let body = [&head[..], &good, &fraction].concat();
+    let event = record.rows_event(code::WRITE_ROWS, TABLE, &body).unwrap();
+    let mut rows = event.rows();
+    assert!(rows.next().unwrap().is_ok());
+    assert_eq!(
+        rows.next().unwrap().err(),
+        out_of_range::<()>(1, part::FRACTION).err()
+    );
+    assert!(rows.next().is_none());
+}
+
+#[test]
+fn a_writer_names_no_part() {
+    let month = Value::Date {
+        year: 2000,
+        month: 13,
+        day: 1,
+    };
+    assert_eq!(
+        one_column(14, 0).write_row(&[1], &[month]),
+        refused(refusal::NOT_TAKEN, 0)
+    );
+}
+
+#[test]
+fn a_refusal_tells_its_part_in_words() {
+    let told = |number, place, part| {
+        let refusal = Refusal {
+            number,
+            place,
+            part,
+        };
+        refusal.to_string()
+    };
+    assert_eq!(told(refusal::OUT_OF_RANGE, 4, 2), "refused 10 4 2 (month)");
+    assert_eq!(
+        told(refusal::OUT_OF_RANGE, 0, 8),
+        "refused 10 0 8 (negative datetime)"
+    );
+    assert_eq!(told(refusal::IMAGE_SHORT, 1, 0), "refused 9 1 0");
+    let names = [
+        "year",
+        "month",
+        "day",
+        "hour",
+        "minute",
+        "second",
+        "fraction",
+        "negative datetime",
+    ];
+    for (part, name) in (1..).zip(names) {
+        let why = out_of_range::<()>(0, part).unwrap_err();
+        assert_eq!(why.part_name(), Some(name));
+    }
+    for part in [0, 9, u64::MAX] {
+        let why = out_of_range::<()>(0, part).unwrap_err();
+        assert_eq!(why.part_name(), None);
+    }
 }
 
 #[test]

@@ -21,10 +21,10 @@ use crate::words::shown;
 use crate::words::text;
 
 // The forms that all kinds share, by the numbers in `turn`.
-const ANSWERS: [u8; 83] = *b"\n\
+const ANSWERS: [u8; 85] = *b"\n\
     bad\n\
     spoiled\n\
-    refused N N\n\
+    refused N N N\n\
     end\n\
     end N\n\
     \n\

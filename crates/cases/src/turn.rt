@@ -107,5 +107,11 @@ pub(crate) fn silent(next: [u64; 6]) -> Turn {
 }
 
 pub(crate) fn refused(refusal: Refusal) -> Turn {
-    few(REFUSED, refusal.number as u64, refusal.place as u64, 0, 0)
+    few(
+        REFUSED,
+        refusal.number as u64,
+        refusal.place as u64,
+        refusal.part as u64,
+        0,
+    )
 }

@@ -49,7 +49,7 @@ tells-ok k out o ns s x h e p q = rw (le-leb k (length out) h, e) (p, q)
 
 pub tells-refused : (k : ℕ) (out : List ℕ) (o : Outcome (List ℕ)) (r : Refusal) (s : ℕ) (x : List ℕ) → k ≤ length out → o ≡ refused r
     → s ≡ r .number
-    → x ≡ stored (r .place ∷ []) out 0 → Tells k out o s x
+    → x ≡ stored (r .place ∷ r .part ∷ []) out 0 → Tells k out o s x
 unfolding statusOf numbersLeft
 tells-refused k out o r s x h e p q = rw (le-leb k (length out) h, e) (p, q)
 
@@ -61,7 +61,7 @@ said-ok k out f o a s x h e p q = tells-ok k out (said f o) (f a) s x h (rw e) p
 
 pub said-refused : {A : Type 0} (k : ℕ) (out : List ℕ) (f : A → List ℕ) (o : Outcome A) (r : Refusal) (s : ℕ) (x : List ℕ) → k ≤ length out
     → o ≡ refused r → s ≡ r .number
-    → x ≡ stored (r .place ∷ []) out 0 → Tells k out (said f o) s x
+    → x ≡ stored (r .place ∷ r .part ∷ []) out 0 → Tells k out (said f o) s x
 said-refused k out f o r s x h e p q = tells-refused k out (said f o) r s x h (rw e) p q
 
 -- ---- a writer w, whose answer is said in numbers
@@ -76,8 +76,8 @@ wrote-ok k out buf f (refused r) o a s x b h d e p q u = absurd (ok-not-refused 
 
 pub wrote-refused : {A : Type 0} (k : ℕ) (out buf : List ℕ) (f : A → List ℕ) (w : Outcome (A × List ℕ)) (o : Outcome (List ℕ × List ℕ))
     (r : Refusal) (s : ℕ) (x b : List ℕ)
-    → k ≤ length out → o ≡ saidWith f w → answerOf w ≡ refused r → s ≡ r .number → x ≡ stored (r .place ∷ []) out 0 → b ≡ leftOf buf w
-    → Leaves k out buf o s x b
+    → k ≤ length out → o ≡ saidWith f w → answerOf w ≡ refused r → s ≡ r .number → x ≡ stored (r .place ∷ r .part ∷ []) out 0
+    → b ≡ leftOf buf w → Leaves k out buf o s x b
 unfolding statusOf numbersLeft bytesLeft
 wrote-refused k out buf f (ok y) o r s x b h d e p q u = absurd (ok-not-refused e)
 wrote-refused k out buf f (refused v) o r s x b h d e p q u =
@@ -95,7 +95,7 @@ wrote-told k out buf f w o (refused r) s x b h d e p q u = wrote-refused k out b
 -- a refusal before the writer was called
 pub not-called : (k : ℕ) (out buf : List ℕ) (o : Outcome (List ℕ × List ℕ)) (r : Refusal) (s : ℕ) (x : List ℕ) → k ≤ length out
     → o ≡ refused r → s ≡ r .number
-    → x ≡ stored (r .place ∷ []) out 0 → Leaves k out buf o s x buf
+    → x ≡ stored (r .place ∷ r .part ∷ []) out 0 → Leaves k out buf o s x buf
 unfolding statusOf numbersLeft bytesLeft
 not-called k out buf o r s x h e p q = rw (le-leb k (length out) h, e) (p, (q, refl))
 
@@ -141,7 +141,7 @@ step-ok out o a s x h e p q u =
     (t .0, (t .1, λ z. subst Held (sym e) u))
 
 pub step-refused : (out : List ℕ) (o : Outcome ColumnStepped) (r : Refusal) (s : ℕ) (x : List ℕ) → 11 ≤ length out → o ≡ refused r
-    → s ≡ r .number → x ≡ stored (r .place ∷ []) out 0 → Steps out o s x
+    → s ≡ r .number → x ≡ stored (r .place ∷ r .part ∷ []) out 0 → Steps out o s x
 step-refused out o r s x h e p q =
     let t = said-refused 11 out toldNumbers o r s x h e p q in
     (t .0, (t .1, λ z. subst Held (sym e) tt))

@@ -12,10 +12,10 @@ abbrev pub answerNumber : Outcome (List ℕ) → ℕ
 answerNumber (ok ns) = 0
 answerNumber (refused r) = r .number
 
--- the numbers that are told: those of the answer, or the place of the refusal
+-- the numbers that are told: those of the answer, or the place and the part of the refusal
 abbrev pub answerNumbers : Outcome (List ℕ) → List ℕ
 answerNumbers (ok ns) = ns
-answerNumbers (refused r) = r .place ∷ []
+answerNumbers (refused r) = r .place ∷ r .part ∷ []
 
 -- ---- out is the buffer of numbers, and k how many the call's answer has: without room for them the status is 8 and nothing is changed
 unfoldable pub statusOf : ℕ → List ℕ → Outcome (List ℕ) → ℕ

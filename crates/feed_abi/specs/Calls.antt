@@ -1,5 +1,5 @@
 -- What each call answers: the rule of the library's call, its answer in numbers. Assumes nothing.
-use Prim.Native.Nat.{ℕ}
+use Prim.Native.Nat.{ℕ, _-_, _/_}
 use mathlib.Core.Path.{_≡_}
 use mathlib.Core.Bool.{true, cond, not}
 use mathlib.Core.List.{List, [], _∷_, _++_}
@@ -41,9 +41,9 @@ said f o = after o (λ a. ok (f a))
 abbrev pub saidWith : {A : Type 0} → (A → List ℕ) → Outcome (A × List ℕ) → Outcome (List ℕ × List ℕ)
 saidWith f o = after o (λ x. ok (f (x .0), x .1))
 
--- the length of a record
-abbrev pub lengthNumbers : ℕ → List ℕ
-lengthNumbers n = n ∷ []
+-- the length of a record, and how many entries of 6 bytes stand behind its first 6
+abbrev pub recordNumbers : ℕ → List ℕ
+recordNumbers n = n ∷ (n - 6) / 6 ∷ []
 
 abbrev pub partNumbers : Part → List ℕ
 partNumbers p = p .start ∷ (p .len ∷ [])
@@ -109,10 +109,10 @@ feedMap event postHeader = said mapNumbers (readEvent event postHeader)
 unfoldable pub dialectOf : ℕ → Outcome Dialect
 dialectOf d = cond (eqb d 0) (ok Document) (cond (eqb d 1) (ok Mysql) (cond (eqb d 2) (ok Mariadb) (refuse 13 0)))
 
--- the record's length, with the record at the buffer's start
+-- the record's length and its columns, with the record at the buffer's start
 unfoldable pub feedCheck : List ℕ → ℕ → ℕ → List ℕ → Outcome (List ℕ × List ℕ)
 unfolding dialectOf
-feedCheck event postHeader d buf = after (dialectOf d) (λ d. saidWith lengthNumbers (check d event postHeader buf))
+feedCheck event postHeader d buf = after (dialectOf d) (λ d. saidWith recordNumbers (check d event postHeader buf))
 
 -- 11 for a record that is not valid, 14 for a column that it has not
 unfoldable pub feedColumn : List ℕ → ℕ → Outcome (List ℕ)

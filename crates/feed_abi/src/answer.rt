@@ -31,12 +31,13 @@ pub(crate) fn tell(out: &mut [u64], numbers: &[u64]) -> u64
     0
 }
 
-// A refusal: its number is the status, and its place is told.
+// A refusal: its number is the status, and its place and its part are told.
 pub(crate) fn tell_refusal(out: &mut [u64], refusal: Refusal) -> u64
-    requires { ⌜ 0 < length (now out) ⌝ }
+    requires { ⌜ 2 ≤ length (now out) ⌝ }
     ensures { λ r. ⌜ r ≡ refusal .number ⌝ }
-    ensures { λ _. ⌜ now (out .exit) ≡ stored (refusal .place ∷ []) (now (out .entry)) 0 ⌝ }
+    ensures { λ _. ⌜ now (out .exit) ≡ stored (refusal .place ∷ refusal .part ∷ []) (now (out .entry)) 0 ⌝ }
 {
-    out[0] = refusal.place as u64;
+    let numbers = [refusal.place as u64, refusal.part as u64];
+    put_numbers(out, 0, &numbers);
     refusal.number as u64
 }

@@ -21,8 +21,8 @@ ghost use Prim.Native.Nat.{_≤_};
 ghost use lib.ListN.{length};
 ghost use Rattle.wire.specs.Stored.{stored, answerOf};
 ghost use Rattle.feed_abi.specs.Answers.{statusOf, numbersLeft, bytesLeft};
-ghost use Rattle.feed_abi.specs.Calls.{partNumbers, mapNumbers, entryNumbers, namesGiven, givenNumbers, dialectOf, feedMap};
-ghost use Rattle.feed_abi.specs.Calls.{feedCheck, feedColumn, feedNames, feedName};
+ghost use Rattle.feed_abi.specs.Calls.{recordNumbers, partNumbers, mapNumbers, entryNumbers, namesGiven, givenNumbers, dialectOf};
+ghost use Rattle.feed_abi.specs.Calls.{feedMap, feedCheck, feedColumn, feedNames, feedName};
 ghost use Rattle.feed_abi.specs.Inner.Calls.{askedTold};
 
 // The dialect that a number asks for.
@@ -52,6 +52,21 @@ fn tell_part(out: &mut [u64], part: Part) -> u64
     ensures { λ _. ⌜ now (out .exit) ≡ stored (partNumbers part) (now (out .entry)) 0 ⌝ }
 {
     let numbers = [part.start as u64, part.len as u64];
+    tell(out, &numbers)
+}
+
+// A record that was written: its length, and how many entries of 6 bytes stand behind its first 6.
+fn tell_record(out: &mut [u64], len: usize) -> u64
+    requires { ⌜ 2 ≤ length (now out) ⌝ }
+    ensures { λ r. ⌜ r ≡ 0 ⌝ }
+    ensures { λ _. ⌜ now (out .exit) ≡ stored (recordNumbers len) (now (out .entry)) 0 ⌝ }
+{
+    if len < 6 {
+        let numbers = [len as u64, 0];
+        return tell(out, &numbers);
+    }
+    let columns = (len - 6) / 6;
+    let numbers = [len as u64, columns as u64];
     tell(out, &numbers)
 }
 
@@ -122,7 +137,7 @@ pub extern "C" fn feed_map(event: &[u8], post_header: u8, out: &mut [u64]) -> u6
     }
 }
 
-// Checks a map and writes its record at the start of profile: the record's length.
+// Checks a map and writes its record at the start of profile: the record's length, and how many columns it has.
 #[no_mangle]
 pub extern "C" fn feed_check(
     event: &[u8],
@@ -131,15 +146,15 @@ pub extern "C" fn feed_check(
     profile: &mut [u8],
     out: &mut [u64],
 ) -> u64
-    ensures { λ r. ⌜ r ≡ statusOf 1 (now (out .entry))
+    ensures { λ r. ⌜ r ≡ statusOf 2 (now (out .entry))
         (answerOf (feedCheck (now (event .entry)) «post_header» dialect (now (profile .entry)))) ⌝ }
     ensures { λ _. ⌜ now (out .exit)
-        ≡ numbersLeft 1 (now (out .entry)) (answerOf (feedCheck (now (event .entry)) «post_header» dialect (now (profile .entry)))) ⌝ }
+        ≡ numbersLeft 2 (now (out .entry)) (answerOf (feedCheck (now (event .entry)) «post_header» dialect (now (profile .entry)))) ⌝ }
     ensures { λ _. ⌜ now (profile .exit)
-        ≡ bytesLeft 1 (now (out .entry)) (now (profile .entry))
+        ≡ bytesLeft 2 (now (out .entry)) (now (profile .entry))
         (feedCheck (now (event .entry)) «post_header» dialect (now (profile .entry))) ⌝ }
 {
-    if out.len() < 1 {
+    if out.len() < 2 {
         return NO_NUMBERS;
     }
     let asked = match dialect_of(dialect) {
@@ -147,10 +162,7 @@ pub extern "C" fn feed_check(
         Asked::Refused(r) => return tell_refusal(out, r),
     };
     match map_check::check(event, post_header, asked, profile) {
-        Written::Done { next } => {
-            let numbers = [next as u64];
-            tell(out, &numbers)
-        }
+        Written::Done { next } => tell_record(out, next),
         Written::Refused(r) => tell_refusal(out, r),
     }
 }

@@ -4,7 +4,7 @@ use mathlib.Core.Path.{_≡_, refl}
 use mathlib.Core.List.{List, [], _∷_, _++_}
 use lib.IntN.{pos, negsuc}
 use lib.ListN.{take, replicate}
-use Rattle.wire.specs.Outcome.{ok, refuse}
+use Rattle.wire.specs.Outcome.{ok, refused, refuse, outOf}
 use Rattle.wire.specs.Number.{areBytes, leValue, leBytes}
 use Rattle.wire.specs.Signed.{signedOf, twosOf, inHalves}
 use Rattle.wire.specs.Stored.{stored, store}
@@ -50,7 +50,8 @@ pub worked : (walkImage profile (7 ∷ []) row
     -- no null bits
     × (walkImage profile (7 ∷ []) [] ≡ record { answers = []; how = refuse 9 0 })
     -- month 13, and then an image that ends before the last column: the earlier decides
-    × (walkImage dates (7 ∷ []) (0xf8 ∷ 5 ∷ 0xa1 ∷ 0xa1 ∷ 0x0f ∷ []) ≡ record { answers = (0, int (pos 5)) ∷ []; how = refuse 10 1 })
+    × (walkImage dates (7 ∷ []) (0xf8 ∷ 5 ∷ 0xa1 ∷ 0xa1 ∷ 0x0f ∷ [])
+    ≡ record { answers = (0, int (pos 5)) ∷ []; how = refused (outOf 1 2) })
     -- a record of another length, and presence bits of another length
     × (walkImage (take 23 profile) (7 ∷ []) row ≡ record { answers = []; how = refuse 11 0 })
     × (walkImage profile (7 ∷ 0 ∷ []) row ≡ record { answers = []; how = refuse 12 0 })

@@ -1,14 +1,13 @@
 -- A row on paper: for each present column NULL or a value; its bytes; and what an image must be for the answers that a walk over it gives.
 -- Assumes nothing.
-use Prim.Native.Nat.{ℕ, suc, _+_, _<_}
+use Prim.Native.Nat.{ℕ, suc, _+_, _≤_, _<_}
 use mathlib.Core.Path.{_≡_}
 use mathlib.Core.Bool.{Bool, true, false, cond, _&&_}
-use mathlib.Core.Logic.{_⊎_}
 use mathlib.Core.List.{List, [], _∷_, _++_}
 use lib.ListN.{length}
 use lib.Dec.{eqb}
 use Rattle.wire.specs.declared.refusal.Refusal.{Refusal}
-use Rattle.wire.specs.Outcome.{ok, refuse, why}
+use Rattle.wire.specs.Outcome.{ok, refused, refuse, why, outOf}
 use Rattle.wire.specs.Bits.{bytesFor, bitLsb0}
 use Rattle.value.specs.Data.{Datum, tag}
 use Rattle.value.specs.Shapes.{bytesOf}
@@ -62,12 +61,13 @@ pub data Says (cs : List Present) (image : List ℕ) : RowWalked → Type 0 wher
       → Says cs image (record { answers = answersOf cs ds; how = ok (length nulls + length (rowBytes cs ds)) })
   -- the null bits are not whole
   short : length image < bytesFor (length cs) → Says cs image (record { answers = []; how = refuse 9 0 })
-  -- every value before that of c is there, c is not NULL, and its bytes end early (9) or have a part out of range (10)
-  broken : (nulls rest : List ℕ) (before : List Present) (c : Present) (behind : List Present) (ds : Row) (n : ℕ)
+  -- every value before that of c is there, c is not NULL, and its bytes end early (9) or have a part out of range (10, with the first such
+  -- part)
+  broken : (nulls rest : List ℕ) (before : List Present) (c : Present) (behind : List Present) (ds : Row) (w : Refusal)
       → cs ≡ before ++ (c ∷ behind)
       → length nulls ≡ bytesFor (length cs) → inDomains before ds ≡ true → Marks nulls 0 ds → bitLsb0 nulls (length before) ≡ false
-      → image ≡ nulls ++ (rowBytes before ds ++ rest) → Fails (c .shape) rest n
-      → Says cs image (record { answers = answersOf before ds; how = refuse n (c .column) })
+      → image ≡ nulls ++ (rowBytes before ds ++ rest) → Fails (c .shape) rest (c .column) w
+      → Says cs image (record { answers = answersOf before ds; how = refused w })
 
 -- ---- no other refusal: short null bits, or a present column whose value ends early or has a part out of range
 -- a present column of the record: there is such a column, and its bit is set
@@ -77,4 +77,5 @@ pub record Among (profile presence : List ℕ) (j : ℕ) : Type 0 where
 
 pub data WalkRefusal (profile presence image : List ℕ) : Refusal → Type 0 where
   in-nulls : length image < bytesFor (length (present profile presence)) → WalkRefusal profile presence image (why 9 0)
-  at-column : (n j : ℕ) → (n ≡ 9) ⊎ (n ≡ 10) → Among profile presence j → WalkRefusal profile presence image (why n j)
+  ends-early : (j : ℕ) → Among profile presence j → WalkRefusal profile presence image (why 9 j)
+  out-of-range : (j part : ℕ) → 1 ≤ part → part ≤ 8 → Among profile presence j → WalkRefusal profile presence image (outOf j part)

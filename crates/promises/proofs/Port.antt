@@ -5,6 +5,14 @@ use Rattle.promises.proofs.Demand2.{demand2}
 use Rattle.promises.proofs.Demand3.{demand3}
 use Rattle.promises.proofs.Readings.{readings}
 use Rattle.promises.proofs.RowsEvents.{rows-events}
+use Rattle.promises.proofs.FirstParts.{first-parts}
 
 pub port : Port
-port = record { demand1 = demand1; demand2 = demand2; demand3 = demand3; readings = readings; rows-events = rows-events }
+port = record {
+  demand1 = demand1;
+  demand2 = demand2;
+  demand3 = demand3;
+  readings = readings;
+  rows-events = rows-events;
+  first-parts = first-parts;
+}

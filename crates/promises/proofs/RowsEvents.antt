@@ -29,7 +29,7 @@ use Rattle.rows_event.proofs.Accepted.{behind-extra, counted-at, accepted, own-
 use Rattle.promises.specs.Refusals.{Line, OneOf}
 use Rattle.promises.specs.RowsEvents.{RowsEvents}
 use Rattle.promises.proofs.Demand1.Only.{Listed, done, stop, chain, test, bytes-there, fixed, Told, further, then-told, count-told}
-use Rattle.promises.proofs.Demand1.Only.{bytes-laid, count-laid}
+use Rattle.promises.proofs.Demand1.Only.{bytes-laid, count-laid, Tens}
 use Rattle.promises.proofs.Demand1.Rows.{record-read, walk-ended}
 
 -- ---- `read_rows`: part by part, 15 at 8, 16 at 0 and at the count
@@ -106,7 +106,7 @@ rows-read {ls} code r id s eleven sixteen fifteen unlikely t =
 -- ---- `Images::next`: those of a walk over an image, and 9 at 0
 pub image-met : {ls : List Line} (r : List ℕ) (w : Rows) (s : List ℕ) (c : Images) → OneOf ls (why 11 0) → OneOf ls (why 12 0)
     → OneOf ls (why 9 0)
-    → ((j : ℕ) → j < countOf r → OneOf ls (why 9 j)) → ((j : ℕ) → j < countOf r → OneOf ls (why 10 j)) → Listed ls (nextImage r w s c)
+    → ((j : ℕ) → j < countOf r → OneOf ls (why 9 j)) → ((j : ℕ) → j < countOf r → Tens ls j) → Listed ls (nextImage r w s c)
 unfolding nextImage
 image-met r w s c eleven twelve none nine ten =
     test (ltb (length s) (c .at)) (λ u. stop none)

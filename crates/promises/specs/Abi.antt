@@ -9,22 +9,24 @@ use mathlib.Core.Option.{none, some}
 use lib.ListN.{length, getD, take, drop}
 use Rattle.wire.specs.declared.refusal.Refusal.{Refusal}
 use Rattle.wire.specs.Outcome.{Outcome, ok, refused, refuse}
-use Rattle.wire.specs.Number.{Bytes}
+use Rattle.wire.specs.Number.{Bytes, isAmong}
 use Rattle.wire.specs.Stored.{answerOf}
 use Rattle.wire.specs.declared.part.Part.{Part}
 use Rattle.value.specs.declared.classes.Dialect.{Dialect}
 use Rattle.value.specs.declared.datum.Value.{Value}
 use Rattle.value.specs.declared.datum.Value.the-variants.{Null}
 use Rattle.value_parts.specs.Parts.{topOfBits, valueOf, isHeld}
-use Rattle.record.specs.Records.{countOf}
+use Rattle.record.specs.declared.entry.Entry.{Entry}
+use Rattle.record.specs.Records.{countOf, entryAt}
+use Rattle.map_check.specs.Check.{checkMap}
 use Rattle.map_check.specs.Names.{listOf, namesField}
 use Rattle.image.specs.declared.cursor.Cursor.{Cursor}
 use Rattle.image.specs.Split.{null, value, stepFrom}
 use Rattle.feed_abi.specs.Answers.{statusOf, numbersLeft, bytesLeft}
 use Rattle.feed_abi.specs.Calls.{dialectOf, toldNumbers, feedMap, feedCheck, feedColumn, feedNames, feedName, feedFirst, feedStep}
 use Rattle.feed_abi.specs.Calls.{feedStart, feedPut, feedRows, feedImage}
-use Rattle.promises.specs.Refusals.{Line, _at_, _below_, refusalNumbers, isAmong, Only, eventLines, checkLines, nameLines, namesLines}
-use Rattle.promises.specs.Refusals.{rowsLines}
+use Rattle.promises.specs.Refusals.{Line, _at_, _below_, part-below, refusalNumbers, Only, eventLines, checkLines, nameLines}
+use Rattle.promises.specs.Refusals.{namesLines, rowsLines}
 use Rattle.promises.specs.Buffers.{Touched}
 
 -- the answer is no refusal, and there is room for its k numbers
@@ -63,7 +65,7 @@ pub record AbiCalls : Type 1 where
   -- `feed_step`: as `Cursor::step`
   pub feed-step : (profile presence image : List ℕ) (column offset : ℕ)
       → Only (feedStep profile presence image column offset)
-      (11 at 0 ∷ 12 at 0 ∷ 14 at column ∷ 9 at 0 ∷ 9 at column ∷ 9 below countOf profile ∷ 10 below countOf profile ∷ [])
+      (11 at 0 ∷ 12 at 0 ∷ 14 at column ∷ 9 at 0 ∷ 9 at column ∷ 9 below countOf profile ∷ part-below (countOf profile) ∷ [])
   -- `feed_start`: as `start`
   pub feed-start : (profile presence nulls image : List ℕ)
       → Only (answerOf (feedStart profile presence nulls image)) (11 at 0 ∷ 12 at 0 ∷ 8 at 0 ∷ [])
@@ -77,7 +79,11 @@ pub record AbiCalls : Type 1 where
   -- `feed_image`: as `Images::next`
   pub feed-image : (profile s : List ℕ) (firstStart firstLength hasSecond secondStart secondLength offset second : ℕ)
       → Only (feedImage profile s firstStart firstLength hasSecond secondStart secondLength offset second)
-      (11 at 0 ∷ 12 at 0 ∷ 9 at 0 ∷ 9 below countOf profile ∷ 10 below countOf profile ∷ [])
+      (11 at 0 ∷ 12 at 0 ∷ 9 at 0 ∷ 9 below countOf profile ∷ part-below (countOf profile) ∷ [])
+  -- ---- what `feed_check` tells of an accepted map: its record's length, and how many columns it has
+  pub check-told : (event : List ℕ) (postHeader dialect : ℕ) (buf : List ℕ) (d : Dialect) (es : List Entry) → dialectOf dialect ≡ ok d
+      → checkMap d event postHeader ≡ ok es → entryAt (length es) ≤ length buf
+      → answerOf (feedCheck event postHeader dialect buf) ≡ ok (entryAt (length es) ∷ length es ∷ [])
   -- ---- what `feed_names` tells apart: names, be they without bytes, and none
   pub names-there : (event : List ℕ) (postHeader dialect : ℕ) (d : Dialect) (p : Part) → dialectOf dialect ≡ ok d
       → namesField d event postHeader ≡ ok (some p)
@@ -92,14 +98,16 @@ pub record AbiCalls : Type 1 where
   -- else it is a number of document 01's table
   pub status-table : (k : ℕ) (out : List ℕ) (answer : Outcome (List ℕ)) (ls : List Line) → Only answer ls → (statusOf k out answer ≡ 0 → ⊥)
       → isAmong (statusOf k out answer) refusalNumbers ≡ true
-  -- that of the refusal, whose place is then the first number; without room for the numbers it is 8, and they are as they were
-  pub status-told : (k : ℕ) (out : List ℕ) (answer : Outcome (List ℕ)) (w : Refusal) → 1 ≤ k → k ≤ length out → answer ≡ refused w
+  -- that of the refusal, whose place and part are then the first two numbers; without room for the numbers it is 8, and they are as they
+  -- were
+  pub status-told : (k : ℕ) (out : List ℕ) (answer : Outcome (List ℕ)) (w : Refusal) → 2 ≤ k → k ≤ length out → answer ≡ refused w
       → (statusOf k out answer ≡ w .number) × (getD (numbersLeft k out answer) 0 0 ≡ w .place)
+      × (getD (numbersLeft k out answer) 1 0 ≡ w .part)
   pub no-numbers : (k : ℕ) (out : List ℕ) (answer : Outcome (List ℕ)) → length out < k
       → (statusOf k out answer ≡ 8) × (numbersLeft k out answer ≡ out)
-  -- and then the numbers are as they were, but for that first one
-  pub numbers-kept : (k : ℕ) (out : List ℕ) (answer : Outcome (List ℕ)) → 1 ≤ k → (statusOf k out answer ≡ 0 → ⊥)
-      → Touched out 0 1 (numbersLeft k out answer)
+  -- and then the numbers are as they were, but for those two
+  pub numbers-kept : (k : ℕ) (out : List ℕ) (answer : Outcome (List ℕ)) → 2 ≤ k → (statusOf k out answer ≡ 0 → ⊥)
+      → Touched out 0 2 (numbersLeft k out answer)
   -- and the bytes lent to a writer are as they were
   pub bytes-kept : (k : ℕ) (out buf : List ℕ) (rule : Outcome (List ℕ × List ℕ)) → (statusOf k out (answerOf rule) ≡ 0 → ⊥)
       → bytesLeft k out buf rule ≡ buf
@@ -110,7 +118,7 @@ pub record AbiCalls : Type 1 where
       → bytesLeft k out buf rule ≡ left
   -- ---- how many numbers each answer has
   pub map-six : (event : List ℕ) (postHeader : ℕ) → Counts 6 (feedMap event postHeader)
-  pub check-one : (event : List ℕ) (postHeader dialect : ℕ) (buf : List ℕ) → Counts 1 (answerOf (feedCheck event postHeader dialect buf))
+  pub check-two : (event : List ℕ) (postHeader dialect : ℕ) (buf : List ℕ) → Counts 2 (answerOf (feedCheck event postHeader dialect buf))
   pub column-five : (profile : List ℕ) (column : ℕ) → Counts 5 (feedColumn profile column)
   pub names-three : (event : List ℕ) (postHeader dialect : ℕ) → Counts 3 (feedNames event postHeader dialect)
   pub name-two : (names operator : List ℕ) (column : ℕ) → Counts 2 (feedName names operator column)

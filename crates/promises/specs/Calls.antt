@@ -18,6 +18,7 @@ use Rattle.wire.proofs.write_packed.Statement.{statement as of-write-packed}
 use Rattle.wire.proofs.part_of.Statement.{statement as of-part-of}
 use Rattle.wire.proofs.within.Statement.{statement as of-within}
 use Rattle.wire.proofs.refuse.Statement.{statement as of-refuse}
+use Rattle.wire.proofs.refuse_part.Statement.{statement as of-refuse-part}
 use Rattle.wire.proofs.in_halves.Statement.{statement as of-in-halves}
 use Rattle.wire.proofs.signed_of.Statement.{statement as of-signed-of}
 use Rattle.wire.proofs.top_of.Statement.{statement as of-top-of}
@@ -123,6 +124,7 @@ pub record Calls : Type 2 where
   pub part-of : Meets of-part-of
   pub within : Meets of-within
   pub refuse : Meets of-refuse
+  pub refuse-part : Meets of-refuse-part
   pub in-halves : Meets of-in-halves
   pub signed-of : Meets of-signed-of
   pub top-of : Meets of-top-of

@@ -12,12 +12,12 @@ use mathlib.Core.Path.{_≡_}
 use mathlib.Core.Bool.{false, cond}
 use mathlib.Core.List.{List}
 use lib.ListN.{length, take, drop}
-use Rattle.wire.specs.Outcome.{Outcome, ok, refuse}
+use Rattle.wire.specs.Outcome.{Outcome, ok, refused, outOf}
 use Rattle.wire.specs.Number.{Bytes}
 use Rattle.temporal.specs.declared.parts.Time.{Time}
 use Rattle.temporal.specs.declared.parts.Temporal.{Temporal}
 use Rattle.temporal.specs.Fraction.{fractionBytes}
-use Rattle.temporal.specs.Ranges.{inClock}
+use Rattle.temporal.specs.Ranges.{inClock, clockFault}
 use Rattle.temporal.specs.Words.{worded}
 use Rattle.value.specs.declared.datum.Value.{Value}
 use Rattle.value.specs.Columns.{shapeOf}
@@ -27,10 +27,10 @@ use Rattle.promises.specs.Values.{Values}
 use Rattle.promises.specs.Events.{Events}
 
 -- a time that was read at a place and ends at `next`, if its parts are in range: "hour 23 (time 838), minute and second 59, fraction
--- 999,999"
+-- 999,999"; else the first that is not
 abbrev pub inRange : ℕ → ℕ → Time → Outcome (Value × ℕ)
-inRange place next t =
-    cond (inClock 838 (t .hours) (t .minutes) (t .seconds) (t .micros)) (ok (Value.Temporal (Temporal.Time t), next)) (refuse 10 place)
+inRange place next t = cond (inClock 838 (t .hours) (t .minutes) (t .seconds) (t .micros)) (ok (Value.Temporal (Temporal.Time t), next))
+    (refused (outOf place (clockFault 838 (t .hours) (t .minutes) (t .seconds) (t .micros))))
 
 pub record Demand2 : Type 0 where
   -- packed integers, through reader and writer

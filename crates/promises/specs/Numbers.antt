@@ -4,7 +4,7 @@ use Prim.Native.Nat.{ℕ, suc}
 use mathlib.Core.Path.{_≡_}
 use mathlib.Core.List.{List, [], _∷_}
 use lib.ListN.{length, replicate}
-use Rattle.wire.specs.Outcome.{Outcome, ok, refuse}
+use Rattle.wire.specs.Outcome.{refused as refusedAs, outOf, Outcome, ok, refuse}
 use Rattle.value.specs.declared.classes.Dialect.the-variants.{Document, Mysql, Mariadb}
 use Rattle.feed_abi.specs.Answers.{statusOf, numbersLeft, bytesLeft}
 use Rattle.feed_abi.specs.Calls.{dialectOf, feedMap, feedCheck, feedColumn, feedNames, feedName, feedFirst, feedStep, feedStart, feedPut}
@@ -124,7 +124,9 @@ pub record Numbers : Type 0 where
   -- status 0 and the numbers, or the refusal's number and its place; 8, and nothing changed, without room for the numbers. Bytes are left
   -- as the writer leaves them
   pub answered : (statusOf 2 (7 ∷ 7 ∷ 7 ∷ []) (ok (5 ∷ 6 ∷ [])) ≡ 0) × (numbersLeft 2 (7 ∷ 7 ∷ 7 ∷ []) (ok (5 ∷ 6 ∷ [])) ≡ 5 ∷ 6 ∷ 7 ∷ [])
-  pub refused : (statusOf 2 (7 ∷ 7 ∷ 7 ∷ []) (refuse 14 9) ≡ 14) × (numbersLeft 2 (7 ∷ 7 ∷ 7 ∷ []) (refuse 14 9) ≡ 9 ∷ 7 ∷ 7 ∷ [])
+  pub refused : (statusOf 2 (7 ∷ 7 ∷ 7 ∷ []) (refuse 14 9) ≡ 14) × (numbersLeft 2 (7 ∷ 7 ∷ 7 ∷ []) (refuse 14 9) ≡ 9 ∷ 0 ∷ 7 ∷ [])
+  pub part-told : (statusOf 2 (7 ∷ 7 ∷ 7 ∷ []) (refusedAs (outOf 9 2)) ≡ 10)
+      × (numbersLeft 2 (7 ∷ 7 ∷ 7 ∷ []) (refusedAs (outOf 9 2)) ≡ 9 ∷ 2 ∷ 7 ∷ [])
   pub no-room : (statusOf 2 (7 ∷ []) (ok (5 ∷ 6 ∷ [])) ≡ 8) × (numbersLeft 2 (7 ∷ []) (ok (5 ∷ 6 ∷ [])) ≡ 7 ∷ [])
   pub bytes-left : (bytesLeft 1 (7 ∷ []) (1 ∷ []) (ok (5 ∷ [], 2 ∷ [])) ≡ 2 ∷ [])
       × (bytesLeft 1 (7 ∷ []) (1 ∷ []) (refuse 8 0) ≡ 1 ∷ []) × (bytesLeft 1 [] (1 ∷ []) (ok (5 ∷ [], 2 ∷ [])) ≡ 1 ∷ [])
@@ -137,7 +139,7 @@ pub record Numbers : Type 0 where
   -- 0 is the document, 1 MySQL, 2 MariaDB, and 3 is none
   pub dialects : (dialectOf 0 ≡ ok Document) × (dialectOf 1 ≡ ok Mysql) × (dialectOf 2 ≡ ok Mariadb) × (dialectOf 3 ≡ refuse 13 0)
   -- the length of the record, which stands at the buffer's start
-  pub check-numbers : feedCheck workedEvent 8 0 (replicate 24 0) ≡ ok (24 ∷ [], worked)
+  pub check-numbers : feedCheck workedEvent 8 0 (replicate 24 0) ≡ ok (24 ∷ 3 ∷ [], worked)
   -- real type, flags, m0, m1, charset; and 14 for a column that there is not
   pub column-numbers : feedColumn everyKind 9 ≡ ok (15 ∷ 8 ∷ 20 ∷ 1 ∷ 545 ∷ [])
   pub no-column : feedColumn everyKind 11 ≡ refuse 14 11

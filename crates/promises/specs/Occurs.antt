@@ -7,7 +7,7 @@ use mathlib.Core.Bool.{false}
 use mathlib.Core.List.{List, [], _∷_, _++_, map}
 use lib.IntN.{pos}
 use lib.ListN.{length, take}
-use Rattle.wire.specs.Outcome.{Outcome, refuse}
+use Rattle.wire.specs.Outcome.{Outcome, refuse, refused, outOf}
 use Rattle.wire.specs.Packed.{readFixed, readPacked}
 use Rattle.wire.specs.Stored.{store, answerOf}
 use Rattle.wire.specs.Parts.{part, within}
@@ -112,13 +112,13 @@ pub record Occurs : Type 0 where
   pub read-packed : (readPacked (252 ∷ []) 0 ≡ refuse 1 0) × (readPacked (251 ∷ []) 0 ≡ refuse 2 0)
   pub write-bytes : store (0 ∷ []) [] 0 ≡ refuse 8 0
   -- ---- `temporal`
-  pub read-temporal : (readTemporal Newdate 7 [] 0 ≡ refuse 9 7) × (readTemporal Newdate 7 month13 0 ≡ refuse 10 7)
+  pub read-temporal : (readTemporal Newdate 7 [] 0 ≡ refuse 9 7) × (readTemporal Newdate 7 month13 0 ≡ refused (outOf 7 2))
   pub write-temporal : (writeTemporal Newdate 7 (dated 13) [] 0 ≡ refuse 13 7) × (writeTemporal Newdate 7 (dated 12) [] 0 ≡ refuse 8 0)
   -- ---- `value`: type 6 is not taken, and a FLOAT has 4 for m0
   pub read-value : (readValue (shaped 6 0) 7 [] 0 ≡ refuse 4 7)
       × (readValue (shaped 4 0) 7 [] 0 ≡ refuse 5 7)
       × (readValue (shaped 1 0) 7 [] 0 ≡ refuse 9 7)
-      × (readValue (shaped 14 0) 7 month13 0 ≡ refuse 10 7)
+      × (readValue (shaped 14 0) 7 month13 0 ≡ refused (outOf 7 2))
   pub write-value : (writeValue (shaped 6 0) 7 [] Null [] 0 ≡ refuse 4 7)
       × (writeValue (shaped 4 0) 7 [] Null [] 0 ≡ refuse 5 7)
       × (writeValue (shaped 1 0) 7 [] Null [] 0 ≡ refuse 13 7)
@@ -189,12 +189,12 @@ pub record Occurs : Type 0 where
       × (stepFrom twoColumns onlySecond [] (cursor 2 0) ≡ refuse 9 0)
       × (stepFrom twoColumns onlySecond (0 ∷ []) (cursor 2 2) ≡ refuse 9 2)
       × (stepFrom twoColumns onlySecond (0 ∷ []) (cursor 0 1) ≡ refuse 9 1)
-      × (stepFrom twoColumns onlySecond (0 ∷ month13) (cursor 0 1) ≡ refuse 10 1)
+      × (stepFrom twoColumns onlySecond (0 ∷ month13) (cursor 0 1) ≡ refused (outOf 1 2))
   pub walk-end : (walkImage [] [] [] .how ≡ refuse 11 0)
       × (walkImage twoColumns [] [] .how ≡ refuse 12 0)
       × (walkImage twoColumns onlySecond [] .how ≡ refuse 9 0)
       × (walkImage twoColumns onlySecond (0 ∷ []) .how ≡ refuse 9 1)
-      × (walkImage twoColumns onlySecond (0 ∷ month13) .how ≡ refuse 10 1)
+      × (walkImage twoColumns onlySecond (0 ∷ month13) .how ≡ refused (outOf 1 2))
   pub start-image : (startImage [] [] [] [] ≡ refuse 11 0)
       × (startImage twoColumns [] [] [] ≡ refuse 12 0)
       × (startImage twoColumns onlySecond (0 ∷ []) [] ≡ refuse 8 0)
@@ -218,7 +218,7 @@ pub record Occurs : Type 0 where
       × (nextImage twoColumns (rowsWith 0) (2 ∷ 0 ∷ []) (imagesCursor 1) ≡ refuse 12 0)
       × (nextImage twoColumns (rowsWith 1) onlySecond (imagesCursor 2) ≡ refuse 9 0)
       × (nextImage twoColumns (rowsWith 1) (2 ∷ 0 ∷ []) (imagesCursor 1) ≡ refuse 9 1)
-      × (nextImage twoColumns (rowsWith 1) (2 ∷ 0 ∷ month13) (imagesCursor 1) ≡ refuse 10 1)
+      × (nextImage twoColumns (rowsWith 1) (2 ∷ 0 ∷ month13) (imagesCursor 1) ≡ refused (outOf 1 2))
   -- ---- `feed_abi`: what its calls refuse besides those of the calls that they stand over
   pub feed-check : answerOf (feedCheck [] 8 3 []) ≡ refuse 13 0
   pub feed-column : (feedColumn [] 7 ≡ refuse 11 0) × (feedColumn emptyRecord 7 ≡ refuse 14 7)

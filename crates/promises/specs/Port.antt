@@ -4,6 +4,7 @@ use Rattle.promises.specs.Demand2.{Demand2}
 use Rattle.promises.specs.Demand3.{Demand3}
 use Rattle.promises.specs.Readings.{Readings}
 use Rattle.promises.specs.RowsEvents.{RowsEvents}
+use Rattle.promises.specs.FirstParts.{FirstParts}
 
 pub record Port : Type 2 where
   -- the user's three demands
@@ -15,3 +16,5 @@ pub record Port : Type 2 where
   -- ---- the requests of document 02
   -- request 1: rows events
   pub rows-events : RowsEvents
+  -- request 4: which part was out of range
+  pub first-parts : FirstParts

@@ -5,11 +5,10 @@ use mathlib.Core.Path.{_≡_}
 use mathlib.Core.Bool.{true, false}
 use mathlib.Core.List.{List, [], _∷_}
 use lib.ListN.{length, getD}
-use Rattle.wire.specs.Number.{Bytes}
+use Rattle.wire.specs.Number.{Bytes, isAmong}
 use Rattle.record.specs.Records.{recordValid}
 use Rattle.map_check.specs.declared.declare.Declared.{Declared}
 use Rattle.map_check.specs.Columns.{isAccepted}
-use Rattle.promises.specs.Refusals.{isAmong}
 
 -- a real type, and the m0 and m1 that it is accepted with: document 01's table, line by line. "No type 10, and 254 only where m0 or-ed with
 -- 0x30 is 254"

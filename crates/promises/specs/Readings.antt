@@ -7,7 +7,7 @@ use mathlib.Core.List.{List, [], _∷_}
 use mathlib.Core.Path.{_≡_}
 use lib.IntN.{negsuc}
 use lib.ListN.{length}
-use Rattle.wire.specs.Outcome.{Outcome, ok, refused, refuse, after}
+use Rattle.wire.specs.Outcome.{Outcome, ok, refused, refuse, after, outOf}
 use Rattle.wire.specs.Bits.{bitLsb0, bitMsb0}
 use Rattle.wire.specs.Packed.{readPacked, packedBytes}
 use Rattle.wire.specs.Parts.{part}
@@ -75,7 +75,7 @@ table =
     -- -00:00:00.990000
     ∷ timed (Time2 2) (0x7f ∷ 0xff ∷ 0xff ∷ 0x9d ∷ [])
     (ok (Temporal.Time record { negative = true; hours = 0; minutes = 0; seconds = 0; micros = 990000 }))
-    ∷ timed (Time2 2) (0x7f ∷ 0xff ∷ 0xff ∷ 0x9c ∷ []) (refuse 10 0)
+    ∷ timed (Time2 2) (0x7f ∷ 0xff ∷ 0xff ∷ 0x9c ∷ []) (refused (outOf 0 7))
     -- 2000-01-01 00:00:00
     ∷ timed (Datetime2 0) (0x99 ∷ 0x64 ∷ 0x42 ∷ 0x00 ∷ 0x00 ∷ [])
     (ok (Temporal.Datetime record { year = 2000; month = 1; day = 1; hour = 0; minute = 0; second = 0; micros = 0 }))

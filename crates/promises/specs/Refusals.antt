@@ -4,15 +4,14 @@
 -- proves all of it. Assumes nothing.
 use Prim.Native.Nat.{ℕ, suc, _+_, _≤_, _<_}
 use mathlib.Core.Path.{_≡_}
-use mathlib.Core.Bool.{Bool, true, false, _&&_, _||_}
+use mathlib.Core.Bool.{Bool, true, _&&_}
 use mathlib.Core.Logic.{_⊎_}
 use mathlib.Core.List.{List, [], _∷_, _++_}
 use lib.ListN.{length}
-use lib.Dec.{eqb}
 use Rattle.wire.specs.declared.refusal.Refusal.{Refusal}
-use Rattle.wire.specs.Number.{Bytes}
+use Rattle.wire.specs.Number.{Bytes, isAmong}
 use Rattle.wire.specs.Bits.{bytesFor}
-use Rattle.wire.specs.Outcome.{Outcome, refused, refuse, why}
+use Rattle.wire.specs.Outcome.{Outcome, refused, refuse, why, outOf}
 use Rattle.wire.specs.Packed.{readFixed, readPacked}
 use Rattle.wire.specs.Stored.{store, answerOf, leftOf}
 use Rattle.wire.specs.declared.part.Part.{Part}
@@ -56,37 +55,45 @@ infix 70 _at_
 infix 70 _below_
 infix 70 _wherever_
 -- ---- how refusals are listed
--- a number at just this place; at a place below this; at a place of which this holds
+-- a number, with no part, at just this place; at a place below this; at a place of which this holds. Refusal 10, with a part from 1 to 8,
+-- at just this place; at a place below this
 pub data Line : Type 1 where
   _at_ : ℕ → ℕ → Line
   _below_ : ℕ → ℕ → Line
   _wherever_ : ℕ → (ℕ → Type 0) → Line
+  part-at : ℕ → Line
+  part-below : ℕ → Line
 
 -- the refusal is one of those listed
 pub data OneOf : List Line → Refusal → Type 1 where
   just : {n p : ℕ} {ls : List Line} → OneOf (n at p ∷ ls) (why n p)
   under : {n p q : ℕ} {ls : List Line} → p < q → OneOf (n below q ∷ ls) (why n p)
   such : {n p : ℕ} {P : ℕ → Type 0} {ls : List Line} → P p → OneOf (n wherever P ∷ ls) (why n p)
+  just-part : {p part : ℕ} {ls : List Line} → 1 ≤ part → part ≤ 8 → OneOf (part-at p ∷ ls) (outOf p part)
+  under-part : {p q part : ℕ} {ls : List Line} → p < q → 1 ≤ part → part ≤ 8 → OneOf (part-below q ∷ ls) (outOf p part)
   later : {l : Line} {ls : List Line} {w : Refusal} → OneOf ls w → OneOf (l ∷ ls) w
 
-abbrev pub numberOf : Line → ℕ
-numberOf (n at p) = n
-numberOf (n below p) = n
-numberOf (n wherever P) = n
-
--- the numbers of document 01's table, and those that document 02 adds
+-- the numbers of document 01's table, and those that document 02 adds; and of them those that name no part
 abbrev pub refusalNumbers : List ℕ
 refusalNumbers = 1 ∷ 2 ∷ 3 ∷ 4 ∷ 5 ∷ 6 ∷ 7 ∷ 8 ∷ 9 ∷ 10 ∷ 11 ∷ 12 ∷ 13 ∷ 14 ∷ 15 ∷ 16 ∷ []
 
-unfoldable pub isAmong : ℕ → List ℕ → Bool
-isAmong n [] = false
-isAmong n (m ∷ ms) = eqb n m || isAmong n ms
+abbrev pub withoutPart : List ℕ
+withoutPart = 1 ∷ 2 ∷ 3 ∷ 4 ∷ 5 ∷ 6 ∷ 7 ∷ 8 ∷ 9 ∷ 11 ∷ 12 ∷ 13 ∷ 14 ∷ 15 ∷ 16 ∷ []
 
--- all numbers are in the table
+-- all numbers are in the table, and 10 has a part
 unfoldable pub inTable : List Line → Bool
 unfolding isAmong
 inTable [] = true
-inTable (l ∷ ls) = isAmong (numberOf l) refusalNumbers && inTable ls
+inTable (n at p ∷ ls) = isAmong n withoutPart && inTable ls
+inTable (n below p ∷ ls) = isAmong n withoutPart && inTable ls
+inTable (n wherever P ∷ ls) = isAmong n withoutPart && inTable ls
+inTable (part-at p ∷ ls) = inTable ls
+inTable (part-below p ∷ ls) = inTable ls
+
+-- what a refusal's part is: none, but for 10, which names one
+pub data Parted : Refusal → Type 0 where
+  no-part : {n p : ℕ} → isAmong n withoutPart ≡ true → Parted (why n p)
+  a-part : {p part : ℕ} → 1 ≤ part → part ≤ 8 → Parted (outOf p part)
 
 -- where the answer is a refusal, it is one of those listed
 pub record Only {A : Type 0} (answer : Outcome A) (ls : List Line) : Type 1 where
@@ -160,7 +167,7 @@ pub record EveryCall : Type 1 where
   pub write-bytes : (buf : List ℕ) (o : ℕ) (bytes : List ℕ) → Only (store bytes buf o) (8 at 0 ∷ [])
   -- ---- `temporal`. The place is the one that the caller names. `temporal_size` and `in_domain` refuse nothing
   -- `read_temporal`, `write_temporal`
-  pub read-temporal : (k : Storage) (place : ℕ) (s : List ℕ) (o : ℕ) → Only (readTemporal k place s o) (9 at place ∷ 10 at place ∷ [])
+  pub read-temporal : (k : Storage) (place : ℕ) (s : List ℕ) (o : ℕ) → Only (readTemporal k place s o) (9 at place ∷ part-at place ∷ [])
   pub write-temporal : (k : Storage) (place : ℕ) (buf : List ℕ) (o : ℕ) (t : Temporal)
       → Only (writeTemporal k place t buf o) (13 at place ∷ 8 at 0 ∷ [])
   -- ---- `value`. The place is the one that the caller names, and 0 for a lone value. `is_accepted`, `family_of`, `is_known`,
@@ -168,7 +175,7 @@ pub record EveryCall : Type 1 where
   -- `is_character`, `has_charset` and `is_enum_or_set` refuse nothing
   -- `read_value`, `read_lone`
   pub read-value : (c : Column) (place : ℕ) (s : List ℕ) (o : ℕ)
-      → Only (readValue (shapeOf c) place s o) (4 at place ∷ 5 at place ∷ 9 at place ∷ 10 at place ∷ [])
+      → Only (readValue (shapeOf c) place s o) (4 at place ∷ 5 at place ∷ 9 at place ∷ part-at place ∷ [])
   -- `write_value`, `write_lone`
   pub write-value : (c : Column) (place : ℕ) (lent : List ℕ) (v : Value) (buf : List ℕ) (o : ℕ)
       → Only (writeValue (shapeOf c) place lent v buf o) (4 at place ∷ 5 at place ∷ 13 at place ∷ 8 at 0 ∷ [])
@@ -229,7 +236,7 @@ pub record EveryCall : Type 1 where
   -- 10, at one of the record's columns
   pub step-image : (profile presence image : List ℕ) (c : Cursor)
       → Only (stepFrom profile presence image c)
-      (11 at 0 ∷ 12 at 0 ∷ 14 at c .column ∷ 9 at 0 ∷ 9 at c .column ∷ 9 below countOf profile ∷ 10 below countOf profile ∷ [])
+      (11 at 0 ∷ 12 at 0 ∷ 14 at c .column ∷ 9 at 0 ∷ 9 at c .column ∷ 9 below countOf profile ∷ part-below (countOf profile) ∷ [])
   -- "an offset past the image, its null bits whole, 9 at that column"
   pub past-told : (profile presence image : List ℕ) (c : Cursor) → recordValid profile ≡ true → length presence ≡ bytesFor (countOf profile)
       → c .column ≤ countOf profile
@@ -237,7 +244,8 @@ pub record EveryCall : Type 1 where
       → stepFrom profile presence image c ≡ refuse 9 (c .column)
   -- `walk_end`: 9 at 0 in the null bits, and else, as 10, at one of the record's columns
   pub walk-end : (profile presence image : List ℕ)
-      → Only (walkImage profile presence image .how) (11 at 0 ∷ 12 at 0 ∷ 9 at 0 ∷ 9 below countOf profile ∷ 10 below countOf profile ∷ [])
+      → Only (walkImage profile presence image .how)
+      (11 at 0 ∷ 12 at 0 ∷ 9 at 0 ∷ 9 below countOf profile ∷ part-below (countOf profile) ∷ [])
   -- `start`
   pub start-image : (profile presence nulls buf : List ℕ) → Only (startImage profile presence nulls buf) (11 at 0 ∷ 12 at 0 ∷ 8 at 0 ∷ [])
   -- `Cursor::put`: 14 at the cursor's column, 13 at one of the record's columns
@@ -255,9 +263,11 @@ pub record EveryCall : Type 1 where
   pub read-rows : (code : ℕ) (profile : List ℕ) (id : ℕ) (s : List ℕ) → Only (readRows code profile id s) (rowsLines code profile s)
   -- `Images::next`: those of `walk_end`
   pub next-image : (profile : List ℕ) (w : Rows) (s : List ℕ) (c : Images)
-      → Only (nextImage profile w s c) (11 at 0 ∷ 12 at 0 ∷ 9 at 0 ∷ 9 below countOf profile ∷ 10 below countOf profile ∷ [])
+      → Only (nextImage profile w s c) (11 at 0 ∷ 12 at 0 ∷ 9 at 0 ∷ 9 below countOf profile ∷ part-below (countOf profile) ∷ [])
   -- ---- all calls
-  -- every refusal so listed has a number of the table
+  -- of every refusal so listed the part is 0, or the number is 10 and the part one from 1 to 8
+  pub parted : {A : Type 0} (answer : Outcome A) (ls : List Line) (w : Refusal) → Only answer ls → answer ≡ refused w → Parted w
+  -- and its number is one of the table
   pub numbered : {A : Type 0} (answer : Outcome A) (ls : List Line) (w : Refusal) → Only answer ls → answer ≡ refused w
       → isAmong (w .number) refusalNumbers ≡ true
   -- where a writer answers a refusal, that is its rule's, and the buffer that it leaves is the one that it was lent

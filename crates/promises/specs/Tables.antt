@@ -6,7 +6,7 @@ use mathlib.Core.Bool.{Bool, true, false, cond}
 use mathlib.Core.List.{List, [], _∷_}
 use lib.IntN.{negsuc}
 use lib.ListN.{length, replicate}
-use Rattle.wire.specs.Outcome.{Outcome, ok, refused, refuse}
+use Rattle.wire.specs.Outcome.{Outcome, ok, refused, refuse, outOf}
 use Rattle.value.specs.declared.column.Column.{Column}
 use Rattle.value.specs.declared.datum.Value.{Value}
 use Rattle.value.specs.Columns.{shapeOf}
@@ -56,6 +56,8 @@ pub data Stored : Type 0 where
   stored : Column → List ℕ → Value → Stored
   -- bytes that are no value of it, and the refusal's number
   unread : Column → List ℕ → ℕ → Stored
+  -- bytes that have a part out of range, and the first such part
+  outOfRange : Column → List ℕ → ℕ → Stored
   -- a value that it does not take
   unwritten : Column → Value → Stored
 
@@ -65,6 +67,7 @@ IsStored (stored c bytes v) =
     both (readValue (shapeOf c) 0 bytes 0) (writeValue (shapeOf c) 0 bytes v (replicate (length bytes) 0) 0)
     ≡ both (ok (v, length bytes)) (ok (length bytes, bytes))
 IsStored (unread c bytes number) = readValue (shapeOf c) 0 bytes 0 ≡ refuse number 0
+IsStored (outOfRange c bytes part) = readValue (shapeOf c) 0 bytes 0 ≡ refused (outOf 0 part)
 -- 13, whatever the room
 IsStored (unwritten c v) = writeValue (shapeOf c) 0 [] v [] 0 ≡ refuse 13 0
 

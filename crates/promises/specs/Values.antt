@@ -8,7 +8,7 @@ use mathlib.Core.List.{List, _++_}
 use lib.ListN.{length, take, drop}
 use Rattle.wire.specs.declared.refusal.Refusal.{Refusal}
 use Rattle.wire.specs.declared.part.Part.{Part}
-use Rattle.wire.specs.Outcome.{ok, refused, refuse, why}
+use Rattle.wire.specs.Outcome.{ok, refused, refuse, why, outOf}
 use Rattle.wire.specs.Number.{Bytes}
 use Rattle.wire.specs.Stored.{stored}
 use Rattle.temporal.specs.declared.storage.Storage.{Storage}
@@ -60,15 +60,15 @@ pub record Values : Type 0 where
       → Within s at next v
   -- an accepted column's value is refused only where its bytes end early or a part is out of range, and at the place asked for
   pub read-refuses : (c : Column) (place : ℕ) (s : List ℕ) (at : ℕ) (w : Refusal) → isTaken (shapeOf c) ≡ true
-      → readValue (shapeOf c) place s at ≡ refused w → (w .place ≡ place) × Fails (shapeOf c) (drop at s) (w .number)
+      → readValue (shapeOf c) place s at ≡ refused w → Fails (shapeOf c) (drop at s) place w
   -- 9 exactly where its bytes end early
   pub ends-early : (c : Column) (place : ℕ) (s : List ℕ) (at : ℕ) → isTaken (shapeOf c) ≡ true
       → (readValue (shapeOf c) place s at ≡ refuse 9 place → length (drop at s) < need (shapeOf c) (drop at s))
       × (length (drop at s) < need (shapeOf c) (drop at s) → readValue (shapeOf c) place s at ≡ refuse 9 place)
   -- 10 exactly where they are all there and no value of the domain has them
   pub out-of-range : (c : Column) (place : ℕ) (s : List ℕ) (at : ℕ) → isTaken (shapeOf c) ≡ true → Bytes s
-      → (readValue (shapeOf c) place s at ≡ refuse 10 place → NoValue c (drop at s))
-      × (NoValue c (drop at s) → readValue (shapeOf c) place s at ≡ refuse 10 place)
+      → ((part : ℕ) → readValue (shapeOf c) place s at ≡ refused (outOf place part) → NoValue c (drop at s))
+      × (NoValue c (drop at s) → (part : ℕ) × (readValue (shapeOf c) place s at ≡ refused (outOf place part)))
   -- ---- the writer
   -- every value of the domain is written, given room: its bytes from the place on, and the buffer else as it was
   pub written : (c : Column) (place : ℕ) (lent : List ℕ) (v : Value) (buf : List ℕ) (at : ℕ) → Takes c lent v

@@ -23,7 +23,7 @@ use Rattle.wire.proofs.Parts.{within-ok, part-length, lent-is, fixed-ok}
 use Rattle.record.specs.Records.{countOf, recordValid, readRecord}
 use Rattle.record.proofs.Valid.{read-valid}
 use Rattle.image.specs.Walk.{walkImage}
-use Rattle.image.specs.Rows.{WalkRefusal, in-nulls, at-column}
+use Rattle.image.specs.Rows.{WalkRefusal, in-nulls, ends-early, out-of-range}
 use Rattle.image.proofs.EndLaws.Images.{no-other}
 use Rattle.rows_event.specs.declared.form.Form.{Form}
 use Rattle.rows_event.specs.declared.parts.Extra.{Extra}
@@ -172,7 +172,8 @@ accepted code r id s w e =
 -- ---- a step under what was read refuses with 9 or 10 alone
 refusal-number : {r p im : List ℕ} {v : Refusal} → WalkRefusal r p im v → (v .number ≡ 9) ⊎ (v .number ≡ 10)
 refusal-number (in-nulls l) = inl refl
-refusal-number (at-column n j e a) = e
+refusal-number (ends-early j a) = inl refl
+refusal-number (out-of-range j part h l a) = inr refl
 
 pub own-record : (r : List ℕ) (w : Rows) (s : List ℕ) (c : Images) (v : Refusal) → Fits r w s → Bytes s → nextImage r w s c ≡ refused v
     → (v .number ≡ 9) ⊎ (v .number ≡ 10)

@@ -11,7 +11,7 @@ use lib.ListN.{length, take, drop, length-append, length-drop, take-append-drop}
 use lib.Seq.{take-at, drop-at, drop-append-seam, length-take-le, drop-append-le, take-append-le}
 use lib.Dec.{leb, eqb}
 use Rattle.wire.specs.declared.refusal.Refusal.{Refusal}
-use Rattle.wire.specs.Outcome.{ok, refused, why}
+use Rattle.wire.specs.Outcome.{ok, refused, why, outOf}
 use Rattle.wire.specs.Number.{Bytes, leValue, beValue, leBytes, beBytes}
 use Rattle.wire.specs.Stored.{store, stored}
 use Rattle.wire.proofs.Outcomes.{by-test, test-is-ok, test-refuses, ok-not-refused, same-refused}
@@ -130,6 +130,9 @@ module _ (k : Storage) where
             rw (e, x₁, p);
       }
 
+  pub units-few : (b : List ℕ) → length b ≡ temporalSize k → Bytes b → unitsIn k b < 256 ^ fractionSize k
+  units-few b n h = numbers-of (isBig k) refl b n h .units
+
   -- what bytes say with no part out of range can be held, and is stored as just these bytes
   pub sound : (b : List ℕ) → length b ≡ temporalSize k → Bytes b → temporalFault k b ≡ 0
       → (temporalDomain k (temporalDecode k b) ≡ true) × (temporalBytes k (temporalDecode k b) ≡ b)
@@ -194,8 +197,8 @@ module _ (k : Storage) (place : ℕ) where
       by-test (leb (at + temporalSize k) (length s)) _ _ _ e
       (λ h e₁.
       let w =
-      test-is-ok (eqb (temporalFault k (at-place s at)) 0) (temporalDecode k (at-place s at), at + temporalSize k) (why 10 place)
-      (t, next) e₁ in
+      test-is-ok (eqb (temporalFault k (at-place s at)) 0) (temporalDecode k (at-place s at), at + temporalSize k)
+      (outOf place (temporalFault k (at-place s at))) (t, next) e₁ in
       record {
         there = leb-true (at + temporalSize k) (length s) h;
         clear = eqb-true (temporalFault k (at-place s at)) 0 (w .0);
@@ -234,7 +237,8 @@ module _ (k : Storage) (place : ℕ) where
   -- ---- a reader's refusals: 9 where bytes are missing and nowhere else, 10 where a part is out of range and nowhere else
   pub data Refuses (s : List ℕ) (at : ℕ) : Refusal → Type 0 where
     short : length s < at + temporalSize k → Refuses s at (why 9 place)
-    out : at + temporalSize k ≤ length s → (temporalFault k (take (temporalSize k) (drop at s)) ≡ 0 → ⊥) → Refuses s at (why 10 place)
+    out : at + temporalSize k ≤ length s → (temporalFault k (take (temporalSize k) (drop at s)) ≡ 0 → ⊥)
+        → Refuses s at (outOf place (temporalFault k (take (temporalSize k) (drop at s))))
 
   -- each refusal has its reason
   pub read-refuses : (s : List ℕ) (at : ℕ) (w : Refusal) → readTemporal k place s at ≡ refused w → Refuses s at w
@@ -243,8 +247,8 @@ module _ (k : Storage) (place : ℕ) where
       by-test (leb (at + temporalSize k) (length s)) _ _ _ e
       (λ h e₁.
       let x =
-      test-refuses (eqb (temporalFault k (at-place s at)) 0) (temporalDecode k (at-place s at), at + temporalSize k) (why 10 place) w
-      e₁ in
+      test-refuses (eqb (temporalFault k (at-place s at)) 0) (temporalDecode k (at-place s at), at + temporalSize k)
+      (outOf place (temporalFault k (at-place s at))) w e₁ in
       subst (Refuses s at) (x .1)
       (out (leb-true (at + temporalSize k) (length s) h) (eqb-false (temporalFault k (at-place s at)) 0 (x .0))))
       (λ h e₁. subst (Refuses s at) (same-refused e₁) (short (leb-false (at + temporalSize k) (length s) h)))

@@ -9,7 +9,7 @@ use borrow.Author.Tests.{le-leb, lt-leb}
 use lib.ListN.{length, take, drop}
 use lib.Seq.{take-take, drop-drop, take-nil}
 use lib.Dec.{eqb}
-use Rattle.wire.specs.Outcome.{ok, refuse}
+use Rattle.wire.specs.Outcome.{ok, refuse, refused, outOf}
 use Rattle.wire.specs.Number.{leValue, beValue, leBytes, beBytes}
 use Rattle.wire.specs.Stored.{answerOf, leftOf, writtenTold}
 use Rattle.wire.specs.declared.store.Written.{Written}
@@ -96,12 +96,12 @@ module _ (storage : Storage) (place : ℕ) (s : List ℕ) (at a f : ℕ) (there 
 
     -- one that is not
     pub read-out : (n : ℕ) → ranged (faultOf storage a f) (temporalOf storage a f) ≡ Out n
-        → readTemporal storage place s at ≡ refuse 10 place
+        → readTemporal storage place s at ≡ refused (outOf place n)
     unfolding readTemporal temporalFault temporalDecode
     read-out n e =
         by-test (eqb (faultOf storage a f) 0) _ _ _ e
         (λ z g. let q : _≡_ {A = ℕ} 0 1 = cc in absurd (omega arith))
-        (λ z g. rw (le-leb _ _ there, ← x, ← y, z))
+        (λ z g. let p : faultOf storage a f ≡ n = cc in rw (le-leb _ _ there, ← x, ← y, z, p))
 
 -- bytes missing
 pub read-short : (storage : Storage) (place : ℕ) (s : List ℕ) (at : ℕ) → length s < at + temporalSize storage

@@ -4,7 +4,7 @@ use mathlib.Core.Bool.{cond}
 use mathlib.Core.List.{List, _++_}
 use lib.ListN.{length, take, drop}
 use lib.Dec.{leb, eqb}
-use Rattle.wire.specs.Outcome.{Outcome, ok, refused, refuse}
+use Rattle.wire.specs.Outcome.{Outcome, ok, refused, refuse, outOf}
 use Rattle.wire.specs.Number.{leValue, beValue, leBytes, beBytes}
 use Rattle.wire.specs.Stored.{store}
 use Rattle.temporal.specs.declared.storage.Storage.{Storage}
@@ -44,9 +44,9 @@ temporalBytes k t =
     cond (isBig k) (beBytes (wholeBytes k) (wholeOf k t) ++ beBytes (fractionSize k) (unitsOf k t))
     (leBytes (wholeBytes k) (wholeOf k t))
 
--- a temporal and the place after it, if no part is out of range
+-- a temporal and the place after it, if no part is out of range; else refusal 10 names the first that is
 abbrev pub ifInRange : ℕ → ℕ → Temporal → ℕ → Outcome (Temporal × ℕ)
-ifInRange place fault t next = cond (eqb fault 0) (ok (t, next)) (refuse 10 place)
+ifInRange place part t next = cond (eqb part 0) (ok (t, next)) (refused (outOf place part))
 
 -- the temporal at `at` of s and the place after it; `place` is what a refusal tells
 unfoldable pub readTemporal : Storage → ℕ → List ℕ → ℕ → Outcome (Temporal × ℕ)

@@ -3,6 +3,13 @@ use crate::parts::Date;
 use crate::parts::Datetime;
 use crate::parts::Temporal;
 use crate::parts::Time;
+use wire::refusal::DAY;
+use wire::refusal::FRACTION;
+use wire::refusal::HOUR;
+use wire::refusal::MINUTE;
+use wire::refusal::MONTH;
+use wire::refusal::SECOND;
+use wire::refusal::YEAR;
 ghost use mathlib.Core.Path.{_≡_};
 ghost use Prim.Native.Nat.{_<_};
 ghost use Rattle.temporal.specs.Ranges.{clockFault, dayFault};
@@ -10,28 +17,27 @@ ghost use Rattle.temporal.specs.Times.{timeBy};
 ghost use Rattle.temporal.specs.Datetimes.{datetimeBy, dateOf};
 ghost use Rattle.temporal.specs.Inner.Ranged.{rangedTime, rangedDatetime, rangedDate};
 
-// A temporal, or the number of its first part out of range: year 1, month 2, day 3, hour 4, minute 5, second 6, fraction 7; 8 is a datetime
-// below zero.
+// A temporal, or its first part out of range.
 pub(crate) enum Ranged {
     In(Temporal),
     Out(u8),
 }
 
-// The number of the first part out of range, or 0. Hours go up to top.
+// The first part out of range, or 0. Hours go up to top.
 pub(crate) fn clock_fault(top: u64, h: u64, m: u64, s: u64, u: u64) -> u8
     ensures { λ r. ⌜ r ≡ clockFault top h m s u ⌝ }
 {
     if top < h {
-        return 4;
+        return HOUR;
     }
     if 59 < m {
-        return 5;
+        return MINUTE;
     }
     if 59 < s {
-        return 6;
+        return SECOND;
     }
     if 999_999 < u {
-        return 7;
+        return FRACTION;
     }
     0
 }
@@ -41,13 +47,13 @@ pub(crate) fn day_fault(y: u64, mo: u64, d: u64) -> u8
     ensures { λ r. ⌜ r ≡ dayFault y mo d 0 ⌝ }
 {
     if 9999 < y {
-        return 1;
+        return YEAR;
     }
     if 12 < mo {
-        return 2;
+        return MONTH;
     }
     if 31 < d {
-        return 3;
+        return DAY;
     }
     0
 }

@@ -9,6 +9,7 @@ use crate::judge::datetime_by;
 use crate::judge::time_by;
 use crate::parts::Seconds;
 use crate::parts::Temporal;
+use wire::refusal::BELOW_ZERO;
 ghost use mathlib.Core.Path.{_≡_};
 ghost use Prim.Native.Nat.{_≤_, _<_, _^_};
 ghost use Rattle.temporal.specs.Times.{signedTime, timeBy};
@@ -81,7 +82,7 @@ pub(crate) fn datetime_from_packed(tmp: SignedTime) -> Ranged
     ensures { λ r. ⌜ r ≡ rangedSigned tmp ⌝ }
 {
     if tmp.negative {
-        return Ranged::Out(8);
+        return Ranged::Out(BELOW_ZERO);
     }
     datetime_by(64, 32, 32, 13, tmp.whole, tmp.micros)
 }

@@ -17,8 +17,8 @@ use crate::storage::temporal_size;
 use crate::storage::whole_bytes;
 use wire::Refusal;
 use wire::refusal::IMAGE_SHORT;
-use wire::refusal::OUT_OF_RANGE;
 use wire::refuse;
+use wire::refuse_part;
 ghost use mathlib.Core.Path.{_≡_};
 ghost use Prim.Native.Nat.{_+_, _≤_, _<_, _^_};
 ghost use lib.ListN.{length, take, drop};
@@ -45,8 +45,7 @@ pub fn read_temporal(storage: Storage, s: &[u8], at: usize, place: usize) -> Tem
     let next = at + size;
     match judge(storage, whole, fraction) {
         Ranged::In(temporal) => TemporalRead::Read { temporal, next },
-        // Which part it is goes no further: the table has one number for all.
-        Ranged::Out(_) => TemporalRead::Refused(refuse(OUT_OF_RANGE, place)),
+        Ranged::Out(part) => TemporalRead::Refused(refuse_part(place, part)),
     }
 }
 

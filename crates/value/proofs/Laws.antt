@@ -12,11 +12,14 @@ use lib.ListN.{length, take, drop, length-append}
 use lib.Seq.{take-at, length-take-le}
 use lib.Dec.{leb, eqb}
 use Rattle.wire.specs.declared.refusal.Refusal.{Refusal}
-use Rattle.wire.specs.Outcome.{ok, refused, refuse, why, after}
+use Rattle.wire.specs.Outcome.{ok, refused, why, after, outOf}
 use Rattle.wire.specs.Number.{Bytes}
 use Rattle.wire.proofs.Outcomes.{after-is-ok, after-refuses, test-is-ok, test-refuses, same-ok, ok-not-refused}
 use Rattle.wire.proofs.Inverse.{bytes-take}
+use Rattle.temporal.proofs.Firsts.{fault-most as timed-most}
 use Rattle.value.specs.declared.shape.Shape.{Shape}
+use Rattle.value.specs.declared.shape.Shape.the-variants.{Unsigned, Signed, FloatBits, DoubleBits, YearByte, Timed, Fixed, Counted}
+use Rattle.value.specs.declared.shape.Shape.the-variants.{NotTaken}
 use Rattle.value.specs.Data.{Datum}
 use Rattle.value.specs.Domains.{domain}
 use Rattle.value.specs.Shapes.{bytesOf, need, decode, fault}
@@ -73,7 +76,7 @@ took sh p s d n e =
     let b = after-is-ok (cut sh p s) _ _ a₂ in
     let c = after-is-ok (judged sh p (b .0)) _ _ (b .2) in
     let j = test-is-ok (leb (need sh s) (length s)) (take (need sh s) s) (why 9 p) (b .0) (b .1) in
-    let k = test-is-ok (eqb (fault sh (b .0)) 0) (decode sh (b .0)) (why 10 p) (c .0) (c .1) in
+    let k = test-is-ok (eqb (fault sh (b .0)) 0) (decode sh (b .0)) (outOf p (fault sh (b .0))) (c .0) (c .1) in
     let f : need sh s ≤ length s = leb-true (need sh s) (length s) (j .0) in
     let o = same-ok (c .2) in
     let nn : length (b .0) ≡ n = ap (λ (x : Datum × ℕ). x .1) o in
@@ -106,22 +109,17 @@ said-read sh p s at d n e =
     ap (λ (x : Datum). datumOf s (placed (at + n) x)) (t .says) ∙ said sh s at n (sym (t .size)) (t .fits) ∙ sym (t .says)
 
 -- ---- a shape that there is refuses exactly so
-fails-9 : (sh : Shape) (p : ℕ) (s : List ℕ) (w : Refusal) → leb (need sh s) (length s) ≡ false → why 9 p ≡ w
-    → (w .place ≡ p) × Fails sh s (w .number)
-fails-9 sh p s w h e =
-    (ap (λ (x : Refusal). x .place) (sym e), subst (λ (x : Refusal). Fails sh s (x .number)) e (short (leb-false (need sh s) (length s) h)))
+fails-9 : (sh : Shape) (p : ℕ) (s : List ℕ) (w : Refusal) → leb (need sh s) (length s) ≡ false → why 9 p ≡ w → Fails sh s p w
+fails-9 sh p s w h e = subst (Fails sh s p) e (short (leb-false (need sh s) (length s) h))
 
 fails-10 : (sh : Shape) (p : ℕ) (s b : List ℕ) (w : Refusal) → leb (need sh s) (length s) ≡ true → take (need sh s) s ≡ b
-    → eqb (fault sh b) 0 ≡ false → why 10 p ≡ w
-    → (w .place ≡ p) × Fails sh s (w .number)
+    → eqb (fault sh b) 0 ≡ false → outOf p (fault sh b) ≡ w → Fails sh s p w
 fails-10 sh p s b w h f r e =
-    let z : fault sh (take (need sh s) s) ≡ 0 → ⊥ = λ y. eqb-false (fault sh b) 0 r (ap (fault sh) (sym f) ∙ y) in (
-      ap (λ (x : Refusal). x .place) (sym e),
-      subst (λ (x : Refusal). Fails sh s (x .number)) e (range (leb-true (need sh s) (length s) h) z),
-    )
+    let z : fault sh (take (need sh s) s) ≡ 0 → ⊥ = λ y. eqb-false (fault sh b) 0 r (ap (fault sh) (sym f) ∙ y) in
+    let q : outOf p (fault sh (take (need sh s) s)) ≡ w = ap (λ (x : List ℕ). outOf p (fault sh x)) f ∙ e in
+    subst (Fails sh s p) q (range (leb-true (need sh s) (length s) h) z)
 
-pub fails : (sh : Shape) (p : ℕ) (s : List ℕ) (w : Refusal) → isTaken sh ≡ true → readDatum sh p s ≡ refused w
-    → (w .place ≡ p) × Fails sh s (w .number)
+pub fails : (sh : Shape) (p : ℕ) (s : List ℕ) (w : Refusal) → isTaken sh ≡ true → readDatum sh p s ≡ refused w → Fails sh s p w
 unfolding readDatum cut judged
 fails sh p s w t e =
     let e′ = rw (taken-at sh p t) at e in
@@ -132,7 +130,7 @@ fails sh p s w t e =
     (λ x.
     ⊎-elim
     (λ (y : judged sh p (x .0) ≡ refused w).
-    let r = test-refuses (eqb (fault sh (x .0)) 0) (decode sh (x .0)) (why 10 p) w y in
+    let r = test-refuses (eqb (fault sh (x .0)) 0) (decode sh (x .0)) (outOf p (fault sh (x .0))) w y in
     let v = test-is-ok (leb (need sh s) (length s)) (take (need sh s) s) (why 9 p) (x .0) (x .1) in
     fails-10 sh p s (x .0) w (v .0) (v .1) (r .0) (r .1))
     (λ y. absurd (ok-not-refused (y .2)))
@@ -140,7 +138,7 @@ fails sh p s w t e =
     (after-refuses (cut sh p s) _ w e′)
 
 -- and the other way: bytes that fail are refused so
-pub fails-back : (sh : Shape) (p : ℕ) (s : List ℕ) (n : ℕ) → isTaken sh ≡ true → Fails sh s n → readDatum sh p s ≡ refuse n p
+pub fails-back : (sh : Shape) (p : ℕ) (s : List ℕ) (w : Refusal) → isTaken sh ≡ true → Fails sh s p w → readDatum sh p s ≡ refused w
 unfolding readDatum cut judged
 fails-back sh p s _ t (short h) = rw (taken-at sh p t, lt-leb (need sh s) (length s) h)
 fails-back sh p s _ t (range h r) = rw (taken-at sh p t, le-leb (need sh s) (length s) h, ne-eqb (fault sh (take (need sh s) s)) 0 r)
@@ -150,3 +148,16 @@ pub reads : (sh : Shape) (p : ℕ) (s : List ℕ) (n : ℕ) → isTaken sh ≡ t
     → readDatum sh p s ≡ ok (decode sh (take n s), n)
 unfolding readDatum cut judged
 reads sh p s n t e h z = rw (taken-at sh p t, e, le-leb n (length s) h, eq-eqb (fault sh (take n s)) 0 z, length-take-le n s h)
+
+-- ---- no part has a greater number than 8
+pub fault-most : (sh : Shape) (b : List ℕ) → fault sh b ≤ 8
+unfolding fault
+fault-most (Unsigned k) b = omega arith
+fault-most (Signed k) b = omega arith
+fault-most FloatBits b = omega arith
+fault-most DoubleBits b = omega arith
+fault-most YearByte b = omega arith
+fault-most (Timed k) b = timed-most k b
+fault-most (Fixed n) b = omega arith
+fault-most (Counted k) b = omega arith
+fault-most (NotTaken n) b = omega arith

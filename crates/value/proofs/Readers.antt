@@ -10,7 +10,7 @@ use borrow.Author.Tests.{le-leb, lt-leb}
 use lib.Dec.{eqb}
 use lib.ListN.{length, take, drop, length-drop}
 use lib.Seq.{length-take-le}
-use Rattle.wire.specs.Outcome.{Outcome, ok, refuse, after}
+use Rattle.wire.specs.Outcome.{Outcome, ok, refuse, after, refused, why, outOf}
 use Rattle.temporal.specs.declared.storage.Storage.{Storage}
 use Rattle.temporal.specs.declared.parts.Temporal.{Temporal}
 use Rattle.temporal.specs.Reading.{temporalSize, readTemporal, temporalFault, temporalDecode}
@@ -34,7 +34,7 @@ got sh p s at n v next t e h z d m = rw (reads sh p (drop at s) n t e (rw length
 pub ends-early : (sh : Shape) (p : ℕ) (s : List ℕ) (at : ℕ) → isTaken sh ≡ true → length s - at < need sh (drop at s)
     → refuse 9 p ≡ readValue sh p s at
 unfolding readValue
-ends-early sh p s at t h = rw (fails-back sh p (drop at s) 9 t (short (rw length-drop h)))
+ends-early sh p s at t h = rw (fails-back sh p (drop at s) (why 9 p) t (short (rw length-drop h)))
 
 -- a width of at most 8 is taken as it is
 pub narrow : (k : ℕ) → k ≤ 8 → min k 8 ≡ k
@@ -53,13 +53,14 @@ unfolding readValue readDatum taken
 no-column n p s at = refl
 
 -- the same judgement, of a temporal alone and of a temporal among values
-judged-same : (b : Bool) (t : Temporal) (at m n p : ℕ) → m ≡ n
-    → after {B = Value × ℕ} (after {B = Datum × ℕ} (cond b (ok (temporal t)) (refuse 10 p)) (λ d. ok (d, m)))
+judged-same : (b : Bool) (t : Temporal) (at m n p q : ℕ) → m ≡ n
+    → after {B = Value × ℕ} (after {B = Datum × ℕ} (cond b (ok (temporal t)) (refused (outOf p q))) (λ d. ok (d, m)))
     (λ x. ok (placed (at + x .1) (x .0), at + x .1))
-    ≡ after {B = Value × ℕ} (cond {A = Outcome (Temporal × ℕ)} b (ok (t, at + n)) (refuse 10 p)) (λ x. ok (Value.Temporal (x .0), x .1))
+    ≡ after {B = Value × ℕ} (cond {A = Outcome (Temporal × ℕ)} b (ok (t, at + n)) (refused (outOf p q)))
+    (λ x. ok (Value.Temporal (x .0), x .1))
 unfolding placed
-judged-same true t at m n p e = rw e
-judged-same false t at m n p e = refl
+judged-same true t at m n p q e = rw e
+judged-same false t at m n p q e = refl
 
 -- a temporal: read as its own crate says
 pub timed : (k : Storage) (p : ℕ) (s : List ℕ) (at : ℕ)
@@ -72,7 +73,7 @@ timed k p s at =
     let b = take (temporalSize k) (drop at s) in
     let n : length b ≡ temporalSize k = length-take-le (temporalSize k) (drop at s) l in
     rw (le-leb (temporalSize k) (length (drop at s)) l, le-leb (at + temporalSize k) (length s) h)
-    (judged-same (eqb (temporalFault k b) 0) (temporalDecode k b) at (length b) (temporalSize k) p n))
+    (judged-same (eqb (temporalFault k b) 0) (temporalDecode k b) at (length b) (temporalSize k) p (temporalFault k b) n))
     (λ h.
     let l : length (drop at s) < temporalSize k = rw length-drop (omega (arith, size-least k)) in
     rw (lt-leb (temporalSize k) (length (drop at s)) l, lt-leb (at + temporalSize k) (length s) (omega arith)))

@@ -6,7 +6,8 @@ use mathlib.Core.List.{List}
 use lib.ListN.{length, take, drop}
 use lib.Dec.{leb, eqb}
 use Rattle.wire.specs.Parts.{part, partOf}
-use Rattle.wire.specs.Outcome.{Outcome, ok, refused, refuse, after}
+use Rattle.wire.specs.declared.refusal.Refusal.{Refusal}
+use Rattle.wire.specs.Outcome.{Outcome, ok, refused, refuse, after, why, outOf}
 use Rattle.value.specs.declared.shape.Shape.{Shape}
 use Rattle.value.specs.declared.datum.Value.{Value}
 use Rattle.value.specs.declared.datum.Value.the-variants.{Null, Int, Uint, Float, Double, Year, Bytes}
@@ -29,7 +30,7 @@ cut sh place s = cond (leb (need sh s) (length s)) (ok (take (need sh s) s)) (re
 -- what they say, if no part is out of range
 unfoldable pub judged : Shape → ℕ → List ℕ → Outcome Datum
 unfolding fault decode
-judged sh place b = cond (eqb (fault sh b) 0) (ok (decode sh b)) (refuse 10 place)
+judged sh place b = cond (eqb (fault sh b) 0) (ok (decode sh b)) (refused (outOf place (fault sh b)))
 
 -- the value at the head of s, and how many bytes it takes; `place` is what a refusal tells
 unfoldable pub readDatum : Shape → ℕ → List ℕ → Outcome (Datum × ℕ)
@@ -69,7 +70,8 @@ abbrev pub readTold : Read → Outcome (Value × ℕ)
 readTold (Got value next) = ok (value, next)
 readTold (Refused r) = refused r
 
--- ---- why the bytes at the head of s are no value: they end early, or a part is out of range
-pub data Fails (sh : Shape) (s : List ℕ) : ℕ → Type 0 where
-  short : length s < need sh s → Fails sh s 9
-  range : need sh s ≤ length s → (fault sh (take (need sh s) s) ≡ 0 → ⊥) → Fails sh s 10
+-- ---- why the bytes at the head of s are no value, and how it is told at a place p: they end early, or a part is out of range, the first
+-- of which is named
+pub data Fails (sh : Shape) (s : List ℕ) (p : ℕ) : Refusal → Type 0 where
+  short : length s < need sh s → Fails sh s p (why 9 p)
+  range : need sh s ≤ length s → (fault sh (take (need sh s) s) ≡ 0 → ⊥) → Fails sh s p (outOf p (fault sh (take (need sh s) s)))

@@ -1,9 +1,9 @@
 -- What number a list of bytes is, and what bytes a number is, at any width. Assumes nothing.
 use Prim.Native.Nat.{ℕ, zero, suc, _+_, _*_, _/_, _%_, _<_}
-use mathlib.Core.Bool.{Bool, true, _&&_}
+use mathlib.Core.Bool.{Bool, true, false, _&&_, _||_}
 use mathlib.Core.List.{List, [], _∷_, reverse}
 use lib.ListN.{getD}
-use lib.Dec.{ltb}
+use lib.Dec.{ltb, eqb}
 
 -- every element is a byte
 abbrev pub Bytes : List ℕ → Type 0
@@ -13,6 +13,11 @@ Bytes l = (i : ℕ) → getD l i 0 < 256
 unfoldable pub areBytes : List ℕ → Bool
 areBytes [] = true
 areBytes (b ∷ l) = ltb b 256 && areBytes l
+
+-- whether a number stands in a list
+unfoldable pub isAmong : ℕ → List ℕ → Bool
+isAmong n [] = false
+isAmong n (m ∷ ms) = eqb n m || isAmong n ms
 
 -- the number of bytes, the least significant first
 unfoldable pub leValue : List ℕ → ℕ

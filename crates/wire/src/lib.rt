@@ -27,6 +27,7 @@ pub use part::part_of;
 pub use part::within;
 pub use refusal::Refusal;
 pub use refusal::refuse;
+pub use refusal::refuse_part;
 pub use signed::in_halves;
 pub use signed::signed_of;
 pub use signed::top_of;

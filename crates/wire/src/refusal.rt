@@ -1,6 +1,6 @@
-// Why a call gives no answer: a number of document 01's table and a place.
+// Why a call gives no answer: a number of document 01's table, a place, and of a temporal the part that is out of its range.
 ghost use mathlib.Core.Path.{_≡_};
-ghost use Rattle.wire.specs.Outcome.{why};
+ghost use Rattle.wire.specs.Outcome.{why, outOf};
 
 // Bytes end in an event part, an optional field, or an integer or a string of a list.
 pub const SHORT: u8 = 1;
@@ -50,14 +50,48 @@ pub const BAD_EXTRA: u8 = 15;
 // A rows event of another code, another table or another number of columns.
 pub const OTHER_EVENT: u8 = 16;
 
+// The parts of a temporal, in the order in which they are tested, but for the last, which comes first: a datetime below zero.
+pub const YEAR: u8 = 1;
+
+pub const MONTH: u8 = 2;
+
+pub const DAY: u8 = 3;
+
+pub const HOUR: u8 = 4;
+
+pub const MINUTE: u8 = 5;
+
+pub const SECOND: u8 = 6;
+
+pub const FRACTION: u8 = 7;
+
+pub const BELOW_ZERO: u8 = 8;
+
+// The part is 0 but for refusal 10.
 pub struct Refusal {
     pub number: u8,
     pub place: usize,
+    pub part: u8,
 }
 
-// The one place where a refusal is made.
+// A refusal that names no part.
 pub fn refuse(number: u8, place: usize) -> Refusal
     ensures { λ r. ⌜ r ≡ why number place ⌝ }
 {
-    Refusal { number, place }
+    Refusal {
+        number,
+        place,
+        part: 0,
+    }
+}
+
+// Refusal 10 for this part of a temporal.
+pub fn refuse_part(place: usize, part: u8) -> Refusal
+    ensures { λ r. ⌜ r ≡ outOf place part ⌝ }
+{
+    Refusal {
+        number: OUT_OF_RANGE,
+        place,
+        part,
+    }
 }

@@ -4,7 +4,7 @@
 use Prim.Native.Nat.{ℕ, suc, _+_, _-_, _≤_, _<_}
 use mathlib.Core.Path.{_≡_, refl, sym, ap, subst, _∙_}
 use mathlib.Core.Bool.{true, true≢false}
-use mathlib.Core.Logic.{dite, _⊎_, inl, inr}
+use mathlib.Core.Logic.{dite}
 use mathlib.Core.List.{List, [], _∷_, _++_}
 use native.Mathlib.Nat.{zero-add}
 use native.Mathlib.Decide.{decLe}
@@ -19,14 +19,16 @@ use Rattle.wire.specs.Bits.{bytesFor, bitLsb0}
 use Rattle.wire.proofs.Inverse.{bytes-drop}
 use Rattle.wire.proofs.Outcomes.{same-refused, ok-not-refused, both-true}
 use Rattle.value.specs.declared.shape.Shape.{Shape}
+use Rattle.value.specs.Shapes.{need, fault}
 use Rattle.value.specs.Reading.{Fails, short as cut, range}
+use Rattle.value.proofs.Laws.{fault-most}
 use Rattle.record.specs.Records.{countOf, recordValid}
 use Rattle.image.specs.declared.cursor.Cursor.{Cursor}
 use Rattle.image.specs.Present.{Present, countBits, presentFrom, present}
 use Rattle.image.specs.Split.{Slot, slots, slotsAt, cursor, slotsLeft, firstCursor}
 use Rattle.image.specs.Walk.{RowWalked, readSlots, walkFrom, walkImage}
 use Rattle.image.specs.Rows.{Row, inDomains, rowBytes, answersOf, Marks, Says, read, short, broken, Among, WalkRefusal, in-nulls}
-use Rattle.image.specs.Rows.{at-column}
+use Rattle.image.specs.Rows.{ends-early, out-of-range}
 use Rattle.image.proofs.CursorLaws.Heads.{Over, nullBytes, head-is}
 use Rattle.image.proofs.StepLaws.Slots.{inCell}
 use Rattle.image.proofs.StepLaws.Splits.{Split, through, stops, Each, each-at, read-split, split-back}
@@ -125,9 +127,12 @@ pub every-row : (r p nulls rest : List ℕ) (ds : Row) → recordValid r ≡ tru
 every-row r p nulls rest ds v b d m l =
     only-says r p _ _ v b (read nulls rest ds (l ∙ ap bytesFor (row-length (present r p) ds d)) d m refl)
 
-fails-number : {sh : Shape} {s : List ℕ} {n : ℕ} → Fails sh s n → (n ≡ 9) ⊎ (n ≡ 10)
-fails-number (cut l) = inl refl
-fails-number (range h e) = inr refl
+-- what a value that fails is told as
+fails-told : {r p im s : List ℕ} {sh : Shape} {j : ℕ} {w : Refusal} → Fails sh s j w → Among r p j → WalkRefusal r p im w
+fails-told {j = j} (cut l) a = ends-early j a
+fails-told {s = s} {sh = sh} {j = j} (range h e) a =
+    let l = fault-most sh (take (need sh s) s) in
+    out-of-range j (fault sh (take (need sh s) s)) (omega (arith, e)) l a
 
 pub no-other : (r p im : List ℕ) (v : Refusal) → recordValid r ≡ true → length p ≡ bytesFor (countOf r) → Bytes im
     → walkImage r p im .how ≡ refused v → WalkRefusal r p im v
@@ -138,7 +143,7 @@ no-other r p im v h b y e = go (every-image r p im h b y) e
     go (short l) e = subst (WalkRefusal r p im) (same-refused e) (in-nulls l)
     go (broken nulls rest before c behind ds n x l d m k q f) e =
         let a = each-at (λ c. Among r p (c .column)) before c behind (subst (Each (λ c. Among r p (c .column))) x (among-present r p)) in
-        subst (WalkRefusal r p im) (same-refused e) (at-column n (c .column) (fails-number f) a)
+        subst (WalkRefusal r p im) (same-refused e) (fails-told f a)
 
 -- ---- spare bits are ignored: those of the presence bits, and those of the null bits
 pub spare-presence : (r p q im : List ℕ) → recordValid r ≡ true → length p ≡ bytesFor (countOf r) → length q ≡ length p

@@ -8,7 +8,7 @@ use native.Mathlib.Omega.{arith}
 use borrow.Author.Tests.{eqb-true}
 use lib.ListN.{length, take}
 use Rattle.wire.specs.declared.refusal.Refusal.{Refusal}
-use Rattle.wire.specs.Outcome.{ok, refused, refuse}
+use Rattle.wire.specs.Outcome.{ok, refused}
 use Rattle.wire.specs.Number.{Bytes}
 use Rattle.wire.proofs.Outcomes.{same-ok, ok-not-refused}
 use Rattle.value.specs.declared.shape.Shape.{Shape}
@@ -97,18 +97,16 @@ slot-sound i s d n z h e = go (i .null) refl
 
 -- a refusal is for bytes that are no value
 pub slot-fails : (i : Slot) (s : List ℕ) (w : Refusal) → isTaken (i .present .shape) ≡ true → readSlot i s ≡ refused w
-    → (i .null ≡ false) × (w .place ≡ i .present .column) × Fails (i .present .shape) s (w .number)
+    → (i .null ≡ false) × Fails (i .present .shape) s (i .present .column) w
 unfolding readSlot
 slot-fails i s w t e = go (i .null) refl
   where
-    go : (b : Bool) → i .null ≡ b → (i .null ≡ false) × (w .place ≡ i .present .column) × Fails (i .present .shape) s (w .number)
+    go : (b : Bool) → i .null ≡ b → (i .null ≡ false) × Fails (i .present .shape) s (i .present .column) w
     go true m = absurd (ok-not-refused (rw m at e))
-    go false m =
-        let f = fails (i .present .shape) (i .present .column) s w t (rw m at e) in
-        (m, f .0, f .1)
+    go false m = (m, fails (i .present .shape) (i .present .column) s w t (rw m at e))
 
 -- and such bytes are refused
-pub slot-fails-back : (i : Slot) (s : List ℕ) (n : ℕ) → isTaken (i .present .shape) ≡ true → i .null ≡ false → Fails (i .present .shape) s n
-    → readSlot i s ≡ refuse n (i .present .column)
+pub slot-fails-back : (i : Slot) (s : List ℕ) (w : Refusal) → isTaken (i .present .shape) ≡ true → i .null ≡ false
+    → Fails (i .present .shape) s (i .present .column) w → readSlot i s ≡ refused w
 unfolding readSlot
-slot-fails-back i s n t e f = rw e (fails-back (i .present .shape) (i .present .column) s n t f)
+slot-fails-back i s w t e f = rw e (fails-back (i .present .shape) (i .present .column) s w t f)

@@ -8,7 +8,8 @@ use native.Mathlib.Nat.{add-zero, add-assoc}
 use native.Mathlib.Omega.{arith}
 use lib.ListN.{length, take, drop, length-append, take-append-drop}
 use lib.Seq.{length-take-le, drop-append-seam}
-use Rattle.wire.specs.Outcome.{Outcome, ok, refused, refuse}
+use Rattle.wire.specs.declared.refusal.Refusal.{Refusal}
+use Rattle.wire.specs.Outcome.{Outcome, ok, refused}
 use Rattle.wire.specs.Number.{Bytes}
 use Rattle.wire.specs.Bits.{bitLsb0}
 use Rattle.wire.proofs.Inverse.{bytes-drop}
@@ -28,10 +29,11 @@ use Rattle.image.proofs.StepLaws.Slots.{inCell, cell, slot-back, Held, 
 pub data Split (cs : List Present) (k : ℕ) (nulls s : List ℕ) (o : ℕ) : RowWalked → Type 0 where
   through : (ds : Row) (rest : List ℕ) → inDomains cs ds ≡ true → Marks nulls k ds → s ≡ rowBytes cs ds ++ rest
       → Split cs k nulls s o (record { answers = answersOf cs ds; how = ok (o + length (rowBytes cs ds)) })
-  stops : (before : List Present) (c : Present) (behind : List Present) (ds : Row) (rest : List ℕ) (n : ℕ) → cs ≡ before ++ (c ∷ behind)
+  stops : (before : List Present) (c : Present) (behind : List Present) (ds : Row) (rest : List ℕ) (w : Refusal)
+      → cs ≡ before ++ (c ∷ behind)
       → inDomains before ds ≡ true → Marks nulls k ds → bitLsb0 nulls (k + length before) ≡ false → s ≡ rowBytes before ds ++ rest
-      → Fails (c .shape) rest n
-      → Split cs k nulls s o (record { answers = answersOf before ds; how = refuse n (c .column) })
+      → Fails (c .shape) rest (c .column) w
+      → Split cs k nulls s o (record { answers = answersOf before ds; how = refused w })
 
 -- what holds of each present column
 unfoldable pub Each : (Present → Type 0) → List Present → Type 0
@@ -69,10 +71,10 @@ split-more c cs k nulls s o d n _ h (stops before c′ behind ds rest m e g mark
     stops (c ∷ before) c′ behind (d ∷ ds) rest m (ap (λ (l : List Present). c ∷ l) e) (rw (h .inside) g) (h .marked, marks) (rw j at v)
     (joined (cell c d) s (rowBytes before ds) rest n (h .bytes) q) z
 
-split-stops : (c : Present) (cs : List Present) (k : ℕ) (nulls s : List ℕ) (o n : ℕ) → bitLsb0 nulls k ≡ false → Fails (c .shape) s n
-    → Split (c ∷ cs) k nulls s o (rowStopped (refuse n (c .column)))
+split-stops : (c : Present) (cs : List Present) (k : ℕ) (nulls s : List ℕ) (o : ℕ) (w : Refusal) → bitLsb0 nulls k ≡ false
+    → Fails (c .shape) s (c .column) w → Split (c ∷ cs) k nulls s o (rowStopped (refused w))
 unfolding inDomains rowBytes answersOf Marks
-split-stops c cs k nulls s o n e z = stops [] c cs [] s n refl refl tt (rw add-zero e) refl z
+split-stops c cs k nulls s o w e z = stops [] c cs [] s w refl refl tt (rw add-zero e) refl z
 
 pub read-split : (cs : List Present) (k : ℕ) (nulls s : List ℕ) (o : ℕ) → Each Good cs → Bytes s
     → Split cs k nulls s o (readSlots (slots cs k nulls) s o)
@@ -89,8 +91,7 @@ read-split (c ∷ cs) k nulls s o g h = go (λ n. read-split cs (suc k) nulls (d
     go f (ok x) e = split-more c cs k nulls s o (x .0) (x .1) _ (slot-sound i s (x .0) (x .1) (g .0 .sized) h e) (f (x .1))
     go f (refused w) e =
         let v = slot-fails i s w (g .0 .taken) e in
-        subst (λ (p : ℕ). Split (c ∷ cs) k nulls s o (rowStopped (refuse (w .number) p))) (sym (v .1))
-        (split-stops c cs k nulls s o (w .number) (v .0) (v .2))
+        split-stops c cs k nulls s o w (v .0) (v .1)
 
 -- ---- and the other way
 -- answers, and behind them those of a walk
@@ -127,10 +128,10 @@ split-back cs k nulls s o _ g (through ds rest h m q) =
     ∙ ap (λ (l : List ℕ). readSlots (slots (cs ++ []) k nulls) l o) q
     ∙ read-row cs [] ds k nulls rest o h m
     ∙ ap (λ (a : List (ℕ × Datum)). record { answers = a; how = ok (o + length (rowBytes cs ds)) }) (append-nil (answersOf cs ds))
-split-back cs k nulls s o _ g (stops before c behind ds rest n e h m v q z) =
+split-back cs k nulls s o _ g (stops before c behind ds rest w e h m v q z) =
     let t = each-at Good before c behind (subst (Each Good) e g) .taken in
     ap (λ (l : List Present). readSlots (slots l k nulls) s o) e
     ∙ ap (λ (l : List ℕ). readSlots (slots (before ++ (c ∷ behind)) k nulls) l o) q
     ∙ read-row before (c ∷ behind) ds k nulls rest o h m
-    ∙ rw (slot-fails-back (record { present = c; null = bitLsb0 nulls (k + length before) }) rest n t v z)
-    (ap (λ (a : List (ℕ × Datum)). record { answers = a; how = refuse n (c .column) }) (append-nil (answersOf before ds)))
+    ∙ rw (slot-fails-back (record { present = c; null = bitLsb0 nulls (k + length before) }) rest w t v z)
+    (ap (λ (a : List (ℕ × Datum)). record { answers = a; how = refused w }) (append-nil (answersOf before ds)))

@@ -1,6 +1,6 @@
 -- Demand 1 for the calls of `feed_abi`: each refuses as the call of the library that it stands over, or before it; and what a caller is
 -- left with. Assumes nothing.
-use Prim.Native.Nat.{ℕ, zero, suc, _+_, _≤_}
+use Prim.Native.Nat.{ℕ, zero, suc, _+_, _-_, _/_, _≤_}
 use mathlib.Core.Path.{_≡_, refl, sym, ap, subst, _∙_}
 use mathlib.Core.Bool.{Bool, true, false, true≢false, cond}
 use mathlib.Core.List.{List, [], _∷_}
@@ -10,6 +10,7 @@ use borrow.Author.Tests.{le-leb, lt-leb, leb-true}
 use lib.ListN.{length, getD, take}
 use lib.Dec.{leb, ltb, eqb}
 use Rattle.wire.specs.declared.refusal.Refusal.{Refusal}
+use Rattle.wire.specs.Number.{isAmong}
 use Rattle.wire.specs.Outcome.{Outcome, ok, refused, refuse, after, why}
 use Rattle.wire.specs.Stored.{stored, store, answerOf, leftOf}
 use Rattle.wire.proofs.Stores.{stored-part}
@@ -19,7 +20,7 @@ use Rattle.value.specs.declared.datum.Value.the-variants.{Null}
 use Rattle.value_parts.specs.Parts.{sortOf, partsOf, padded, valueOf}
 use Rattle.wire.specs.Parts.{part}
 use Rattle.table_map.specs.Events.{readEvent}
-use Rattle.record.specs.Records.{readRecord}
+use Rattle.record.specs.Records.{entryAt, readRecord}
 use Rattle.map_check.specs.Ranks.{tablePlace}
 use Rattle.map_check.specs.Names.{columnName, namesField}
 use Rattle.map_check.specs.Check.{check}
@@ -29,17 +30,18 @@ use Rattle.image.specs.Puts.{startImage, putFrom}
 use Rattle.rows_event.specs.Events.{readRows}
 use Rattle.rows_event.specs.Images.{ImageStepped as Told₁, imageMet, end as end₁, nextImage}
 use Rattle.feed_abi.specs.Answers.{answerNumber, answerNumbers, statusOf, numbersLeft, bytesLeft}
-use Rattle.feed_abi.specs.Calls.{said, saidWith, lengthNumbers, partNumbers, mapNumbers, namesGiven, givenNumbers, cursorNumbers}
+use Rattle.feed_abi.specs.Calls.{said, saidWith, recordNumbers, partNumbers, mapNumbers, namesGiven, givenNumbers, cursorNumbers}
 use Rattle.feed_abi.specs.Calls.{stepNumbers, toldNumbers, rowsNumbers, imageNumbers, dialectOf, secondAsked, setsAsked, imagesAt, feedMap}
 use Rattle.feed_abi.specs.Calls.{feedCheck, feedColumn, feedNames, feedName, feedFirst, feedStep, feedStart, feedPut, feedRows, feedImage}
 use Rattle.feed_abi.proofs.Tells.{names-asked}
 use Rattle.feed_abi.proofs.Backs.{told-back, null-back}
-use Rattle.promises.specs.Refusals.{Line, OneOf, just, later, refusalNumbers, isAmong, inTable, Only, checkLines, namesLines}
+use Rattle.promises.specs.Refusals.{Line, OneOf, just, later, refusalNumbers, inTable, Only, checkLines, namesLines}
 use Rattle.promises.specs.Buffers.{Touched}
 use Rattle.promises.specs.Abi.{Answered, Counts, AbiCalls}
 use Rattle.promises.proofs.Demand1.Only.{Listed, done, stop, chain, test}
 use Rattle.promises.proofs.Demand2.Values.{value-made}
 use Rattle.promises.proofs.Demand1.Rows.{record-read}
+use Rattle.promises.proofs.Demand3.Checks.{checks}
 use Rattle.promises.proofs.Demand3.Images.{step-held}
 use Rattle.promises.proofs.Demand1.Buffers.{stores}
 use Rattle.promises.proofs.Demand1.Refusals.{only, second, refusals}
@@ -109,11 +111,11 @@ all-told k out ns n l =
     (stores out 0 ns (0 + length ns) (stored ns out 0) (rw (le-leb (0 + length ns) (length out) (omega arith))))
 
 -- what is left of them and of the bytes after a refusal, t being whether there is room for the numbers
-numbers-left : (t : Bool) (out : List ℕ) (answer : Outcome (List ℕ)) → (t ≡ true → 1 ≤ length out)
+numbers-left : (t : Bool) (out : List ℕ) (answer : Outcome (List ℕ)) → (t ≡ true → 2 ≤ length out)
     → (cond t (answerNumber answer) 8 ≡ 0 → ⊥)
-    → Touched out 0 1 (cond t (stored (answerNumbers answer) out 0) out)
+    → Touched out 0 2 (cond t (stored (answerNumbers answer) out 0) out)
 numbers-left true out (ok ns) l h = absurd (h refl)
-numbers-left true out (refused w) l h = all-told 1 out (w .place ∷ []) refl (l refl)
+numbers-left true out (refused w) l h = all-told 2 out (w .place ∷ w .part ∷ []) refl (l refl)
 numbers-left false out answer l h = record { size = refl; before = refl; behind = refl }
 
 bytes-left : (t : Bool) (buf : List ℕ) (rule : Outcome (List ℕ × List ℕ)) → (cond t (answerNumber (answerOf rule)) 8 ≡ 0 → ⊥)
@@ -179,9 +181,13 @@ numbers-there : (k : ℕ) (out : List ℕ) (answer : Outcome (List ℕ)) (ns : L
 unfolding numbersLeft
 numbers-there k out answer ns l e = rw (le-leb k (length out) l, e) (stored-part out 0 ns (omega arith))
 
-place-there : (out : List ℕ) (p : ℕ) → getD (stored (p ∷ []) out 0) 0 0 ≡ p
+two-there : (out : List ℕ) (p q : ℕ) → (getD (stored (p ∷ q ∷ []) out 0) 0 0 ≡ p) × (getD (stored (p ∷ q ∷ []) out 0) 1 0 ≡ q)
 unfolding stored
-place-there out p = refl
+two-there out p q = (refl, refl)
+
+-- a record of n columns
+columns-told : (n : ℕ) → (entryAt n - 6) / 6 ≡ n
+columns-told n = omega arith
 
 pub abi : AbiCalls
 unfolding feedMap feedCheck feedNames feedName feedFirst feedStep feedStart feedPut feedRows feedImage statusOf numbersLeft bytesLeft
@@ -191,8 +197,8 @@ abi = record {
   feed-check = λ event postHeader dialect buf d e.
       only refl
       (answered _ (subst (λ (o : Outcome Dialect). Listed (checkLines d event postHeader)
-      (after o (λ d. saidWith lengthNumbers (check d event postHeader buf)))) (sym e)
-      (left-too lengthNumbers (check d event postHeader buf) (refusals .check-map d event postHeader buf))));
+      (after o (λ d. saidWith recordNumbers (check d event postHeader buf)))) (sym e)
+      (left-too recordNumbers (check d event postHeader buf) (refusals .check-map d event postHeader buf))));
   check-no-dialect = λ event postHeader dialect buf w e. rw (no-dialect dialect w e);
   feed-column = λ r column. only refl (column-told r column just (second just));
   feed-names = λ event postHeader dialect d e.
@@ -220,20 +226,23 @@ abi = record {
   feed-image = λ r s firstStart firstLength hasSecond secondStart secondLength offset second.
       let w = setsAsked (part firstStart firstLength) (secondAsked hasSecond secondStart secondLength) in
       only refl (in-numbers imageNumbers (nextImage r w s (imagesAt offset second)) (refusals .next-image r w s (imagesAt offset second)));
+  check-told = λ event postHeader dialect buf d es q e l.
+      rw (q, checks .accepted-written d event postHeader buf es e l)
+      (ap (λ (n : ℕ). ok (entryAt (length es) ∷ n ∷ [])) (columns-told (length es)));
   names-there = λ event postHeader dialect d p e f. names-asked event postHeader dialect d (ok (some p)) e f;
   names-none = λ event postHeader dialect d e f. names-asked event postHeader dialect d (ok none) e f;
   status-zero = λ k out answer ls h. (zero-answered k out answer ls h, answered-zero k out answer);
   status-table = λ k out answer ls h z. status-in-table (leb k (length out)) answer ls h z;
-  status-told = λ k out answer w l m e. rw (le-leb k (length out) m, e) (refl, place-there out (w .place));
+  status-told = λ k out answer w l m e. let x = two-there out (w .place) (w .part) in rw (le-leb k (length out) m, e) (refl, x .0, x .1);
   no-numbers = λ k out answer l. rw (lt-leb k (length out) l) (refl, refl);
   numbers-told = numbers-there;
   bytes-told = λ k out buf rule ns left l e. rw (le-leb k (length out) l, e);
   numbers-kept = λ k out answer l h. numbers-left (leb k (length out)) out answer (λ u. let n = leb-true k (length out) u in omega arith) h;
   bytes-kept = λ k out buf rule h. bytes-left (leb k (length out)) buf rule h;
   map-six = λ event postHeader. said-counts 6 mapNumbers (readEvent event postHeader) (λ e. refl);
-  check-one =
-      λ event postHeader dialect buf. then-counts 1 (dialectOf dialect) _
-      (λ d. left-counts 1 lengthNumbers (check d event postHeader buf) (λ n. refl));
+  check-two =
+      λ event postHeader dialect buf. then-counts 2 (dialectOf dialect) _
+      (λ d. left-counts 2 recordNumbers (check d event postHeader buf) (λ n. refl));
   column-five = column-counts;
   names-three =
       λ event postHeader dialect. then-said 3 (dialectOf dialect) _ (λ d. said-counts 3 _ (namesField d event postHeader) (λ f. refl));

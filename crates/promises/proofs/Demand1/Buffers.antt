@@ -30,7 +30,7 @@ use Rattle.image.specs.Puts.{filled, headNulls, startImage, slotBytes, putOver,
 use Rattle.image.proofs.PutLaws.Fills.{fill-length}
 use Rattle.image.proofs.CursorLaws.Heads.{nulls-tested}
 use Rattle.image.proofs.PutLaws.Puts.{nulls-size}
-use Rattle.feed_abi.specs.Calls.{saidWith, lengthNumbers, cursorNumbers, dialectOf, feedCheck, feedStart, feedPut}
+use Rattle.feed_abi.specs.Calls.{saidWith, recordNumbers, cursorNumbers, dialectOf, feedCheck, feedStart, feedPut}
 use Rattle.promises.specs.Buffers.{Touched, Buffers}
 
 -- a store that went well: where it ended
@@ -136,7 +136,7 @@ feed-checks : (event : List ℕ) (postHeader dialect : ℕ) (buf ns left : List 
 unfolding feedCheck
 feed-checks event postHeader dialect buf ns left e =
     let d = after-is-ok (dialectOf dialect) _ (ns, left) e in
-    let x = in-numbers lengthNumbers (check (d .0) event postHeader buf) ns left (d .2) in
+    let x = in-numbers recordNumbers (check (d .0) event postHeader buf) ns left (d .2) in
     subst (λ (y : List ℕ). Touched buf 0 (getD y 0 0) left) (x .2) (maps (d .0) event postHeader buf (x .0) left (x .1))
 
 feed-starts : (r p nulls im ns left : List ℕ) → feedStart r p nulls im ≡ ok (ns, left) → Touched im 0 (getD ns 1 0) left

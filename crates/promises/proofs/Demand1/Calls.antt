@@ -14,6 +14,7 @@ use Rattle.wire.proofs.write_packed.Met.{met as of-write-packed}
 use Rattle.wire.proofs.part_of.Met.{met as of-part-of}
 use Rattle.wire.proofs.within.Met.{met as of-within}
 use Rattle.wire.proofs.refuse.Met.{met as of-refuse}
+use Rattle.wire.proofs.refuse_part.Met.{met as of-refuse-part}
 use Rattle.wire.proofs.in_halves.Met.{met as of-in-halves}
 use Rattle.wire.proofs.signed_of.Met.{met as of-signed-of}
 use Rattle.wire.proofs.top_of.Met.{met as of-top-of}
@@ -116,6 +117,7 @@ calls = record {
   part-of = λ M. of-part-of {M = M};
   within = λ M. of-within {M = M};
   refuse = λ M. of-refuse {M = M};
+  refuse-part = λ M. of-refuse-part {M = M};
   in-halves = λ M. of-in-halves {M = M};
   signed-of = λ M. of-signed-of {M = M};
   top-of = λ M. of-top-of {M = M};

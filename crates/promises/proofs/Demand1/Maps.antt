@@ -45,7 +45,7 @@ use Rattle.map_check.specs.Places.{BeforeNames, before-names}
 use Rattle.map_check.proofs.MapLaws.Places.{column-taken}
 use Rattle.map_check.proofs.MapLaws.Refused.{names-refuses, many-told, type-refused, metadata-refused, fields-told, fields-refuse}
 use Rattle.map_check.proofs.MapLaws.Refused.{keys-told, keys-refuse}
-use Rattle.promises.specs.Refusals.{Line, OneOf, just, under, such, later, mapLines}
+use Rattle.promises.specs.Refusals.{Line, OneOf, just, under, such, just-part, under-part, later, mapLines}
 use Rattle.promises.proofs.Demand1.Only.{Listed, done, stop, hand, chain, test, bytes-there, long-part, Told, then-told, count-told}
 use Rattle.promises.proofs.Demand1.Only.{bytes-laid, named-laid, integer-laid, string-laid, count-laid, room}
 
@@ -288,6 +288,8 @@ no-line : {ls : List Line} {w : Refusal} → OneOf ls w → ls ≡ [] → ⊥
 no-line just e = let z = ap length e in omega arith
 no-line (under h) e = let z = ap length e in omega arith
 no-line (such h) e = let z = ap length e in omega arith
+no-line (just-part l m) e = let z = ap length e in omega arith
+no-line (under-part h l m) e = let z = ap length e in omega arith
 no-line (later o) e = let z = ap length e in omega arith
 
 pub map-refused : (d : Dialect) (s : List ℕ) (postHeader : ℕ) (buf : List ℕ) (w : Refusal) → Bytes s → OneOf (mapLines d s postHeader) w

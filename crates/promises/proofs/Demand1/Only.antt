@@ -1,15 +1,16 @@
 -- How a refusal is one of those listed: along a chain, over a test. And the refusals of parts, of integers, of what is laid out, and of
 -- stores. Assumes nothing.
-use Prim.Native.Nat.{ℕ, _+_, _<_}
+use Prim.Native.Nat.{ℕ, _+_, _≤_, _<_}
 use mathlib.Core.Path.{_≡_, refl, sym, subst}
 use mathlib.Core.Bool.{Bool, true, false, cond}
 use mathlib.Core.Logic.{⊎-elim}
 use mathlib.Core.List.{List}
-use borrow.Author.Tests.{leb-false}
+use native.Mathlib.Omega.{arith}
+use borrow.Author.Tests.{leb-false, eqb-false}
 use lib.ListN.{length}
-use lib.Dec.{leb}
+use lib.Dec.{leb, eqb}
 use Rattle.wire.specs.declared.refusal.Refusal.{Refusal}
-use Rattle.wire.specs.Outcome.{Outcome, ok, refused, refuse, after, why}
+use Rattle.wire.specs.Outcome.{Outcome, ok, refused, refuse, after, why, outOf}
 use Rattle.wire.specs.Packed.{readFixed, readPacked}
 use Rattle.wire.specs.Parts.{within}
 use Rattle.wire.specs.Layouts.{IntegerCut, IntegerRefused, PartForm, bytes, named, integer, string, Whole, Cut, few-bytes, few-integer}
@@ -31,6 +32,16 @@ done a w e = absurd (ok-not-refused e)
 
 pub stop : {A : Type 0} {ls : List Line} {n p : ℕ} → OneOf ls (why n p) → Listed {A = A} ls (refuse n p)
 stop {A} {ls} h w e = subst (OneOf ls) (same-refused e) h
+
+-- refusal 10 at a place, whatever its part
+abbrev pub Tens : List Line → ℕ → Type 1
+Tens ls place = (part : ℕ) → 1 ≤ part → part ≤ 8 → OneOf ls (outOf place part)
+
+pub stop-part : {A : Type 0} {ls : List Line} {place part : ℕ} → Tens ls place → eqb part 0 ≡ false → part ≤ 8
+    → Listed {A = A} ls (refused (outOf place part))
+stop-part {A} {ls} {place} {part} ten z m w e =
+    let n = eqb-false part 0 z in
+    subst (OneOf ls) (same-refused e) (ten part (omega (arith, n)) m)
 
 -- a refusal that is handed on
 pub hand : {A B : Type 0} {ls : List Line} (o : Outcome A) (w : Refusal) → Listed ls o → o ≡ refused w → Listed {A = B} ls (refused w)

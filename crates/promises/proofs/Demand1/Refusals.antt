@@ -1,10 +1,12 @@
 -- Demand 1: every call refuses as it is listed, with a number of the table, and a refusal leaves the buffer. Assumes nothing.
 use Prim.Native.Nat.{ℕ}
 use mathlib.Core.Path.{_≡_, refl}
-use mathlib.Core.Bool.{true}
+use mathlib.Core.Bool.{Bool, true, false, _||_, or-true}
 use mathlib.Core.List.{List, _∷_}
 use native.Mathlib.Omega.{arith}
+use lib.Dec.{eqb}
 use Rattle.wire.specs.declared.refusal.Refusal.{Refusal}
+use Rattle.wire.specs.Number.{isAmong}
 use Rattle.wire.specs.Outcome.{Outcome, ok, refused}
 use Rattle.wire.specs.Stored.{answerOf, leftOf}
 use Rattle.wire.specs.Layouts.{no-byte, few-integer, Layout, here, count, CutShort, cut-at, NotPacked}
@@ -14,8 +16,8 @@ use Rattle.value.proofs.Tables.{four-or-five}
 use Rattle.table_map.specs.Lists.{integerItem, pairItem, stringItem, groupItem}
 use Rattle.table_map.specs.Layouts.{eventLayout, pairLayout, groupLayout}
 use Rattle.map_check.specs.Names.{listOf, columnName}
-use Rattle.promises.specs.Refusals.{Line, _at_, _below_, _wherever_, OneOf, just, under, such, later, numberOf, refusalNumbers}
-use Rattle.promises.specs.Refusals.{isAmong, inTable, Only, EveryCall}
+use Rattle.promises.specs.Refusals.{Line, _at_, _below_, _wherever_, part-at, part-below, OneOf, just, under, such, just-part}
+use Rattle.promises.specs.Refusals.{under-part, later, refusalNumbers, withoutPart, Parted, no-part, a-part, inTable, Only, EveryCall}
 use Rattle.promises.proofs.Demand1.Only.{Listed, bytes-there, fixed, packed, long-part, Told, room}
 use Rattle.promises.proofs.Demand2.Values.{temporal-read, temporal-written, column-taken, value-read, value-written, value-sized}
 use Rattle.promises.proofs.Demand2.Values.{value-made}
@@ -25,20 +27,43 @@ use Rattle.promises.proofs.RowsEvents.{rows-read, image-met}
 use Rattle.promises.proofs.Demand1.Rows.{record-read, head-read, first-read, image-stepped, walk-ended, image-started, image-put}
 use Rattle.promises.proofs.Demand1.Rows.{past-refused, null-refused}
 
--- a refusal that is listed has a listed number, and those are in the table
-line-number : (l : Line) (ls : List Line) → inTable (l ∷ ls) ≡ true → isAmong (numberOf l) refusalNumbers ≡ true
+-- a refusal that is listed names a part, or has one of the numbers that do not
+parted : (ls : List Line) (w : Refusal) → inTable ls ≡ true → OneOf ls w → Parted w
 unfolding inTable
-line-number l ls t = both-true (isAmong (numberOf l) refusalNumbers) (inTable ls) t .0
+parted (n at p ∷ ls) w t just = no-part (both-true (isAmong n withoutPart) (inTable ls) t .0)
+parted (n below q ∷ ls) w t (under h) = no-part (both-true (isAmong n withoutPart) (inTable ls) t .0)
+parted (n wherever P ∷ ls) w t (such h) = no-part (both-true (isAmong n withoutPart) (inTable ls) t .0)
+parted (part-at p ∷ ls) w t (just-part l m) = a-part l m
+parted (part-below q ∷ ls) w t (under-part h l m) = a-part l m
+parted (n at p ∷ ls) w t (later o) = parted ls w (both-true (isAmong n withoutPart) (inTable ls) t .1) o
+parted (n below q ∷ ls) w t (later o) = parted ls w (both-true (isAmong n withoutPart) (inTable ls) t .1) o
+parted (n wherever P ∷ ls) w t (later o) = parted ls w (both-true (isAmong n withoutPart) (inTable ls) t .1) o
+parted (part-at p ∷ ls) w t (later o) = parted ls w t o
+parted (part-below q ∷ ls) w t (later o) = parted ls w t o
 
-lines-after : (l : Line) (ls : List Line) → inTable (l ∷ ls) ≡ true → inTable ls ≡ true
-unfolding inTable
-lines-after l ls t = both-true (isAmong (numberOf l) refusalNumbers) (inTable ls) t .1
+-- and so a number of the table
+plain-number : (n : ℕ) → isAmong n withoutPart ≡ true → isAmong n refusalNumbers ≡ true
+unfolding isAmong
+plain-number n e =
+    go (eqb n 1) (eqb n 2) (eqb n 3) (eqb n 4) (eqb n 5) (eqb n 6) (eqb n 7) (eqb n 8) (eqb n 9) (eqb n 10) _ e
+  where
+    go : (a b c d f g h i j k rest : Bool) → (a || (b || (c || (d || (f || (g || (h || (i || (j || rest))))))))) ≡ true
+        → (a || (b || (c || (d || (f || (g || (h || (i || (j || (k || rest)))))))))) ≡ true
+    go true b c d f g h i j k rest e = refl
+    go false true c d f g h i j k rest e = refl
+    go false false true d f g h i j k rest e = refl
+    go false false false true f g h i j k rest e = refl
+    go false false false false true g h i j k rest e = refl
+    go false false false false false true h i j k rest e = refl
+    go false false false false false false true i j k rest e = refl
+    go false false false false false false false true j k rest e = refl
+    go false false false false false false false false true k rest e = refl
+    go false false false false false false false false false k rest e = rw e (or-true k)
 
-in-table : (ls : List Line) (w : Refusal) → inTable ls ≡ true → OneOf ls w → isAmong (w .number) refusalNumbers ≡ true
-in-table (n at p ∷ ls) w t just = line-number (n at p) ls t
-in-table (n below q ∷ ls) w t (under h) = line-number (n below q) ls t
-in-table (n wherever P ∷ ls) w t (such h) = line-number (n wherever P) ls t
-in-table (l ∷ ls) w t (later o) = in-table ls w (lines-after l ls t) o
+in-table : {w : Refusal} → Parted w → isAmong (w .number) refusalNumbers ≡ true
+unfolding isAmong
+in-table (no-part {n} h) = plain-number n h
+in-table (a-part l m) = refl
 
 -- a writer's answer is that of its rule
 refused-keeps : {A : Type 0} (buf : List ℕ) (rule : Outcome (A × List ℕ)) (w : Refusal) → answerOf rule ≡ refused w
@@ -92,10 +117,10 @@ refusals = record {
   read-fixed = λ k s o. only refl (fixed k s o (λ h. just));
   read-packed = λ s o. only refl (packed s o (λ c. just) (λ c. second just));
   write-bytes = λ buf o bytes. only refl (room buf o bytes just);
-  read-temporal = λ k place s o. only refl (temporal-read k place s o just (second just));
+  read-temporal = λ k place s o. only refl (temporal-read k place s o just (λ part l m. second (just-part l m)));
   write-temporal = λ k place buf o t. only refl (temporal-written k place buf o t just (second just));
-  read-value =
-      λ c place s o. only refl (value-read (shapeOf c) place s o (column-taken c place just (second just)) (third just) (fourth just));
+  read-value = λ c place s o. only refl (value-read (shapeOf c) place s o (column-taken c place just (second just)) (third just)
+      (λ part l m. fourth (just-part l m)));
   write-value =
       λ c place lent v buf o. only refl
       (value-written (shapeOf c) place lent v buf o (column-taken c place just (second just)) (third just) (fourth just));
@@ -137,9 +162,10 @@ refusals = record {
   first-cursor = λ r p. only refl (first-read just (second just) r p);
   step-image = λ r p im c.
       only refl (image-stepped r p im c just (second just) (third just) (fourth just) (fifth just) (λ j h. sixth (under h))
-      (λ j h. seventh (under h)));
+      (λ j h part l m. seventh (under-part h l m)));
   past-told = past-refused;
-  walk-end = λ r p im. only refl (walk-ended r p im just (second just) (third just) (λ j h. fourth (under h)) (λ j h. fifth (under h)));
+  walk-end = λ r p im. only refl (walk-ended r p im just (second just) (third just) (λ j h. fourth (under h))
+      (λ j h part l m. fifth (under-part h l m)));
   start-image = λ r p nulls buf. only refl (image-started r p nulls buf just (second just) (third just));
   put-value =
       λ r p nulls c lent v buf. only refl
@@ -149,7 +175,9 @@ refusals = record {
       only refl
       (rows-read code r id s just (second just) (third just) (λ p x. fourth (such x))
       (record { cut = λ q x. fifth (such x); unpacked = λ q x. sixth (such x) }));
-  next-image = λ r w s c. only refl (image-met r w s c just (second just) (third just) (λ j h. fourth (under h)) (λ j h. fifth (under h)));
-  numbered = λ answer ls w o e. in-table ls w (o .table) (o .listed w e);
+  next-image = λ r w s c. only refl (image-met r w s c just (second just) (third just) (λ j h. fourth (under h))
+      (λ j h part l m. fifth (under-part h l m)));
+  parted = λ answer ls w o e. parted ls w (o .table) (o .listed w e);
+  numbered = λ answer ls w o e. in-table (parted ls w (o .table) (o .listed w e));
   buffer-kept = refused-keeps;
 }

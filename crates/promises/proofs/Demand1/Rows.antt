@@ -29,7 +29,7 @@ use Rattle.image.proofs.StepLaws.Steps.{left-stands}
 use Rattle.image.proofs.StepLaws.Splits.{Each}
 use Rattle.image.proofs.PresenceLaws.Presents.{each-from}
 use Rattle.promises.specs.Refusals.{Line, OneOf}
-use Rattle.promises.proofs.Demand1.Only.{Listed, done, stop, hand, chain, test, room}
+use Rattle.promises.proofs.Demand1.Only.{Listed, done, stop, hand, chain, test, room, Tens}
 use Rattle.promises.proofs.Demand2.Values.{there-taken, datum-read, value-read, value-stored}
 
 -- ---- the tests before a call goes on
@@ -72,7 +72,7 @@ slots-fine r p nulls j v h =
     (each-from (Fine r) (countOf r - j) r p j (λ i a b. record { column = omega arith; there = valid-column r i v (omega arith) }))
 
 -- ---- a step
-step-over : {ls : List Line} (r : List ℕ) → ((j : ℕ) → j < countOf r → OneOf ls (why 9 j)) → ((j : ℕ) → j < countOf r → OneOf ls (why 10 j))
+step-over : {ls : List Line} (r : List ℕ) → ((j : ℕ) → j < countOf r → OneOf ls (why 9 j)) → ((j : ℕ) → j < countOf r → Tens ls j)
     → (is : List Slot) (im : List ℕ) (o : ℕ) → EachSlot (Fine r) is → Listed ls (stepOver is im o)
 unfolding stepOver EachSlot
 step-over r nine ten [] im o f = done _
@@ -104,7 +104,7 @@ left-fine r p im c is e =
 
 pub image-stepped : {ls : List Line} (r p im : List ℕ) (c : Cursor) → OneOf ls (why 11 0) → OneOf ls (why 12 0)
     → OneOf ls (why 14 (c .column)) → OneOf ls (why 9 0)
-    → OneOf ls (why 9 (c .column)) → ((j : ℕ) → j < countOf r → OneOf ls (why 9 j)) → ((j : ℕ) → j < countOf r → OneOf ls (why 10 j))
+    → OneOf ls (why 9 (c .column)) → ((j : ℕ) → j < countOf r → OneOf ls (why 9 j)) → ((j : ℕ) → j < countOf r → Tens ls j)
     → Listed ls (stepFrom r p im c)
 unfolding stepFrom
 image-stepped r p im c eleven twelve fourteen none past nine ten =
@@ -117,8 +117,7 @@ walk-read : {A : Type 0} {ls : List Line} (o : Outcome A) (f : A → RowWalked) 
 walk-read (ok a) f h k = k a refl
 walk-read (refused w) f h k = hand (refused w) w h refl
 
-slots-read : {ls : List Line} (r : List ℕ) → ((j : ℕ) → j < countOf r → OneOf ls (why 9 j))
-    → ((j : ℕ) → j < countOf r → OneOf ls (why 10 j))
+slots-read : {ls : List Line} (r : List ℕ) → ((j : ℕ) → j < countOf r → OneOf ls (why 9 j)) → ((j : ℕ) → j < countOf r → Tens ls j)
     → (is : List Slot) (s : List ℕ) (o : ℕ) → EachSlot (Fine r) is → Listed ls (readSlots is s o .how)
 unfolding readSlots readSlot EachSlot
 slots-read r nine ten [] s o f = done _
@@ -132,7 +131,7 @@ slots-read r nine ten (i ∷ is) s o f =
 
 pub walk-ended : {ls : List Line} (r p im : List ℕ) → OneOf ls (why 11 0) → OneOf ls (why 12 0) → OneOf ls (why 9 0)
     → ((j : ℕ) → j < countOf r → OneOf ls (why 9 j))
-    → ((j : ℕ) → j < countOf r → OneOf ls (why 10 j)) → Listed ls (walkImage r p im .how)
+    → ((j : ℕ) → j < countOf r → Tens ls j) → Listed ls (walkImage r p im .how)
 unfolding walkImage walkFrom firstCursor
 walk-ended {ls} r p im eleven twelve none nine ten =
     walk-read (firstCursor r p) (walkFrom r p im) (first-read eleven twelve r p) (λ c e.

@@ -13,7 +13,7 @@ use lib.Dec.{leb, eqb}
 use lib.Seq.{length-take-le, drop-append-seam}
 use Rattle.wire.specs.declared.refusal.Refusal.{Refusal}
 use Rattle.wire.specs.declared.part.Part.{Part}
-use Rattle.wire.specs.Outcome.{Outcome, ok, refused, refuse, why, after}
+use Rattle.wire.specs.Outcome.{Outcome, ok, refused, refuse, why, after, outOf}
 use Rattle.wire.specs.Number.{Bytes}
 use Rattle.wire.specs.Parts.{part}
 use Rattle.wire.specs.Stored.{stored, store}
@@ -38,22 +38,24 @@ use Rattle.value.specs.Shapes.{bytesOf, need, decode, fault}
 use Rattle.value.specs.Reading.{taken, cut, judged, readDatum, readValue, placed, datumOf, Fails, short, range}
 use Rattle.value.specs.Storing.{bytesAt, isLent, isIn, storedBytes, sizeOf, writeValue}
 use Rattle.value.proofs.Facts.{fault-bytes, taken-domain, whole, need-take}
-use Rattle.value.proofs.Laws.{back, sound, took, said-read, fails, fails-back, taken-at, taken-same}
+use Rattle.value.proofs.Laws.{back, sound, took, said-read, fails, fails-back, taken-at, taken-same, fault-most}
+use Rattle.temporal.proofs.Firsts.{fault-most as timed-most}
 use Rattle.value.proofs.Tables.{sized, some-bytes, refused-number}
 use Rattle.value.proofs.Writers.{is-in, writes-in, writes-out}
 use Rattle.value_parts.specs.Parts.{topOfBits, valueOf, makesValue, isHeld}
 use Rattle.value_parts.proofs.Inside.{held-in}
 use Rattle.promises.specs.Refusals.{Line, OneOf}
 use Rattle.promises.specs.Values.{NoValue, Within, Takes, storedAs, Values}
-use Rattle.promises.proofs.Demand1.Only.{Listed, done, stop, chain, test, room}
+use Rattle.promises.proofs.Demand1.Only.{Listed, done, stop, chain, test, room, Tens, stop-part}
 
 -- ---- temporals
-pub temporal-read : {ls : List Line} (k : Storage) (place : ℕ) (s : List ℕ) (o : ℕ) → OneOf ls (why 9 place) → OneOf ls (why 10 place)
+pub temporal-read : {ls : List Line} (k : Storage) (place : ℕ) (s : List ℕ) (o : ℕ) → OneOf ls (why 9 place) → Tens ls place
     → Listed ls (readTemporal k place s o)
 unfolding readTemporal
 temporal-read k place s o nine ten =
     test (leb (o + temporalSize k) (length s))
-    (λ u. test (eqb (temporalFault k (take (temporalSize k) (drop o s))) 0) (λ u. done _) (λ u. stop ten))
+    (λ u. test (eqb (temporalFault k (take (temporalSize k) (drop o s))) 0) (λ u. done _)
+    (λ u. stop-part ten u (timed-most k (take (temporalSize k) (drop o s)))))
     (λ u. stop nine)
 
 pub temporal-written : {ls : List Line} (k : Storage) (place : ℕ) (buf : List ℕ) (o : ℕ) (t : Temporal) → OneOf ls (why 13 place)
@@ -77,15 +79,15 @@ there-taken sh place h = rw (taken-at sh place h) (done sh)
 
 -- ---- then bytes and ranges, or the domain and room
 pub datum-read : {ls : List Line} (sh : Shape) (place : ℕ) (s : List ℕ) → Listed ls (taken sh place) → OneOf ls (why 9 place)
-    → OneOf ls (why 10 place) → Listed ls (readDatum sh place s)
+    → Tens ls place → Listed ls (readDatum sh place s)
 unfolding readDatum cut judged
 datum-read sh place s h nine ten =
     chain (taken sh place) _ h (λ sh e.
     chain (cut sh place s) _ (test (leb (need sh s) (length s)) (λ u. done _) (λ u. stop nine)) (λ b e.
-    chain (judged sh place b) _ (test (eqb (fault sh b) 0) (λ u. done _) (λ u. stop ten)) (λ d e. done _)))
+    chain (judged sh place b) _ (test (eqb (fault sh b) 0) (λ u. done _) (λ u. stop-part ten u (fault-most sh b))) (λ d e. done _)))
 
 pub value-read : {ls : List Line} (sh : Shape) (place : ℕ) (s : List ℕ) (o : ℕ) → Listed ls (taken sh place) → OneOf ls (why 9 place)
-    → OneOf ls (why 10 place)
+    → Tens ls place
     → Listed ls (readValue sh place s o)
 unfolding readValue
 value-read sh place s o h nine ten = chain (readDatum sh place (drop o s)) _ (datum-read sh place (drop o s) h nine ten) (λ x e. done _)
@@ -209,7 +211,7 @@ read-held c p s at v next h l e =
 
 -- the refusals of a value are those of the datum
 read-refuses : (c : Column) (p : ℕ) (s : List ℕ) (at : ℕ) (w : Refusal) → isTaken (shapeOf c) ≡ true
-    → readValue (shapeOf c) p s at ≡ refused w → (w .place ≡ p) × Fails (shapeOf c) (drop at s) (w .number)
+    → readValue (shapeOf c) p s at ≡ refused w → Fails (shapeOf c) (drop at s) p w
 unfolding readValue
 read-refuses c p s at w t e =
     ⊎-elim
@@ -217,17 +219,18 @@ read-refuses c p s at w t e =
     (λ x. absurd (ok-not-refused (x .2)))
     (after-refuses (readDatum (shapeOf c) p (drop at s)) _ w e)
 
-read-fails : (c : Column) (p : ℕ) (s : List ℕ) (at n : ℕ) → isTaken (shapeOf c) ≡ true → Fails (shapeOf c) (drop at s) n
-    → readValue (shapeOf c) p s at ≡ refuse n p
+read-fails : (c : Column) (p : ℕ) (s : List ℕ) (at : ℕ) (w : Refusal) → isTaken (shapeOf c) ≡ true → Fails (shapeOf c) (drop at s) p w
+    → readValue (shapeOf c) p s at ≡ refused w
 unfolding readValue
-read-fails c p s at n t f = rw (fails-back (shapeOf c) p (drop at s) n t f)
+read-fails c p s at w t f = rw (fails-back (shapeOf c) p (drop at s) w t f)
 
 -- which of the two it is
-fails-short : {sh : Shape} {s : List ℕ} {n : ℕ} → Fails sh s n → n ≡ 9 → length s < need sh s
+fails-short : {sh : Shape} {s : List ℕ} {p : ℕ} {w : Refusal} → Fails sh s p w → w .number ≡ 9 → length s < need sh s
 fails-short (short l) e = l
 fails-short (range l r) e = absurd (omega arith)
 
-fails-range : {sh : Shape} {s : List ℕ} {n : ℕ} → Fails sh s n → n ≡ 10 → (need sh s ≤ length s) × (fault sh (take (need sh s) s) ≡ 0 → ⊥)
+fails-range : {sh : Shape} {s : List ℕ} {p : ℕ} {w : Refusal} → Fails sh s p w → w .number ≡ 10
+    → (need sh s ≤ length s) × (fault sh (take (need sh s) s) ≡ 0 → ⊥)
 fails-range (short l) e = absurd (omega arith)
 fails-range (range l r) e = (l, r)
 
@@ -236,8 +239,9 @@ no-value : (c : Column) (t : List ℕ) → (need (shapeOf c) t ≤ length t) × 
     → NoValue c t
 no-value c t (l, r) = (l, λ d h e. r (ap (fault (shapeOf c)) (sym e) ∙ fault-bytes (shapeOf c) d h))
 
-value-not : (c : Column) (t : List ℕ) → isTaken (shapeOf c) ≡ true → Bytes t → NoValue c t → Fails (shapeOf c) t 10
-value-not c t u y (l, r) =
+value-not : (c : Column) (p : ℕ) (t : List ℕ) → isTaken (shapeOf c) ≡ true → Bytes t → NoValue c t
+    → Fails (shapeOf c) t p (outOf p (fault (shapeOf c) (take (need (shapeOf c) t) t)))
+value-not c p t u y (l, r) =
     let sh = shapeOf c in
     let b = take (need sh t) t in
     let m : need sh b ≡ length b = need-take sh t l ∙ sym (length-take-le (need sh t) t l) in
@@ -375,12 +379,16 @@ values = record {
   read-lent = read-lent;
   read-refuses = read-refuses;
   ends-early = λ c p s at t. (
-    λ e. fails-short (read-refuses c p s at (why 9 p) t e .1) refl,
-    λ l. read-fails c p s at 9 t (short l),
+    λ e. fails-short (read-refuses c p s at (why 9 p) t e) refl,
+    λ l. read-fails c p s at (why 9 p) t (short l),
   );
   out-of-range = λ c p s at t y. (
-    λ e. no-value c (drop at s) (fails-range (read-refuses c p s at (why 10 p) t e .1) refl),
-    λ n. read-fails c p s at 10 t (value-not c (drop at s) t (bytes-drop at s y) n),
+    λ part e. no-value c (drop at s) (fails-range (read-refuses c p s at (outOf p part) t e) refl),
+    λ n. (
+      fault (shapeOf c) (take (need (shapeOf c) (drop at s)) (drop at s)),
+      read-fails c p s at (outOf p (fault (shapeOf c) (take (need (shapeOf c) (drop at s)) (drop at s)))) t
+          (value-not c p (drop at s) t (bytes-drop at s y) n),
+    ),
   );
   written = λ c p lent v buf at h l. value-put c p lent v buf at h ∙ store-fits buf (storedAs c lent v) at l;
   not-taken = λ c p lent v buf at t. (

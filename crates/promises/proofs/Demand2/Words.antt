@@ -8,7 +8,7 @@ use borrow.Author.Tests.{le-leb}
 use lib.ListN.{length, take, drop, length-drop}
 use lib.Seq.{length-take-le}
 use lib.Dec.{eqb}
-use Rattle.wire.specs.Outcome.{ok, refuse, after}
+use Rattle.wire.specs.Outcome.{ok, after, refused, outOf}
 use Rattle.wire.specs.Number.{Bytes}
 use Rattle.wire.proofs.Inverse.{bytes-drop, bytes-take}
 use Rattle.temporal.specs.declared.parts.Time.{Time}
@@ -32,13 +32,14 @@ use Rattle.promises.specs.Tables.{column}
 use Rattle.promises.specs.Demand2.{inRange}
 
 -- a temporal whose bytes are all there: its parts are judged, and the place after it is told
-judged-so : (t : Bool) (v : Temporal) (n m o p : ℕ) → n ≡ m
-    → after {A = Datum × ℕ} {B = Value × ℕ} (after {A = Datum} {B = Datum × ℕ} (cond t (ok (temporal v)) (refuse 10 p)) (λ d. ok (d, n)))
+judged-so : (t : Bool) (v : Temporal) (n m o p q : ℕ) → n ≡ m
+    → after {A = Datum × ℕ} {B = Value × ℕ}
+    (after {A = Datum} {B = Datum × ℕ} (cond t (ok (temporal v)) (refused (outOf p q))) (λ d. ok (d, n)))
     (λ x. ok (placed (o + x .1) (x .0), o + x .1))
-    ≡ cond t (ok (Value.Temporal v, o + m)) (refuse 10 p)
+    ≡ cond t (ok (Value.Temporal v, o + m)) (refused (outOf p q))
 unfolding placed
-judged-so true v n m o p e = rw e
-judged-so false v n m o p e = refl
+judged-so true v n m o p q e = rw e
+judged-so false v n m o p q e = refl
 
 there : (n o : ℕ) (s : List ℕ) → o + n ≤ length s → n ≤ length (drop o s)
 there n o s h = let l = length-drop o s in omega arith
@@ -46,13 +47,15 @@ there n o s h = let l = length-drop o s in omega arith
 read-timed : (k : Storage) (p : ℕ) (s : List ℕ) (o : ℕ) → o + temporalSize k ≤ length s
     → readValue (Timed k) p s o
     ≡ cond (eqb (temporalFault k (take (temporalSize k) (drop o s))) 0)
-    (ok (Value.Temporal (temporalDecode k (take (temporalSize k) (drop o s))), o + temporalSize k)) (refuse 10 p)
+    (ok (Value.Temporal (temporalDecode k (take (temporalSize k) (drop o s))), o + temporalSize k))
+    (refused (outOf p (temporalFault k (take (temporalSize k) (drop o s)))))
 unfolding readValue
 read-timed k p s o h =
     let l = there (temporalSize k) o s h in
     let b = take (temporalSize k) (drop o s) in
     rw (le-leb (temporalSize k) (length (drop o s)) l)
-    (judged-so (eqb (temporalFault k b) 0) (temporalDecode k b) _ (temporalSize k) o p (length-take-le (temporalSize k) (drop o s) l))
+    (judged-so (eqb (temporalFault k b) 0) (temporalDecode k b) _ (temporalSize k) o p (temporalFault k b)
+    (length-take-le (temporalSize k) (drop o s) l))
 
 -- its parts and the first out of range are those of the words
 fault-worded : (m0 : ℕ) (b : List ℕ) → temporalDecode (Time2 m0) b ≡ Temporal.Time (worded m0 b)
@@ -61,7 +64,7 @@ unfolding temporalDecode temporalFault timeIn clockFault
 fault-worded m0 b e = ap (λ (t : Temporal). timeFault (timeIn t)) e
 
 in-words : (k : Storage) (t : Time) (p n : ℕ) (b : List ℕ) → temporalDecode k b ≡ Temporal.Time t → temporalFault k b ≡ timeFault t
-    → cond (eqb (temporalFault k b) 0) (ok (Value.Temporal (temporalDecode k b), n)) (refuse 10 p) ≡ inRange p n t
+    → cond (eqb (temporalFault k b) 0) (ok (Value.Temporal (temporalDecode k b), n)) (refused (outOf p (temporalFault k b))) ≡ inRange p n t
 in-words k t p n b d f = rw (d, f, clock-same 838 (t .hours) (t .minutes) (t .seconds) (t .micros))
 
 pub time2-worded : (m0 p : ℕ) (s : List ℕ) (o : ℕ) → Bytes s → m0 ≤ 6 → o + (3 + fractionBytes m0) ≤ length s

@@ -26,6 +26,7 @@ numbers =
     record {
       answered = (refl, refl);
       refused = (refl, refl);
+      part-told = (refl, refl);
       no-room = (refl, refl);
       bytes-left = (refl, refl, refl);
       map-numbers = refl;

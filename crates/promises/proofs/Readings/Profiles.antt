@@ -10,7 +10,7 @@ use borrow.Author.Tests.{le-leb, leb-true, lt-ltb, ltb-true, eq-eqb, ne-eqb, eqb
 use lib.Dec.{T, leb, ltb, eqb}
 use lib.ListN.{length, getD, take, drop}
 use lib.Seq.{getD-drop}
-use Rattle.wire.specs.Number.{Bytes, leValue}
+use Rattle.wire.specs.Number.{Bytes, leValue, isAmong}
 use Rattle.wire.proofs.Each.{each, below}
 use Rattle.wire.proofs.Outcomes.{both-true}
 use Rattle.value.specs.declared.shape.Shape.{Shape}
@@ -30,7 +30,6 @@ use Rattle.record.proofs.Looks.{entry-bytes}
 use Rattle.record.proofs.Valid.{valid-entry}
 use Rattle.map_check.specs.declared.declare.Declared.{Declared}
 use Rattle.map_check.specs.Columns.{isReal, isAccepted}
-use Rattle.promises.specs.Refusals.{isAmong}
 use Rattle.promises.specs.Profiles.{Accepted, none, float, double, fraction, blob, json, text, bit, decimal, enum, set, char}
 use Rattle.promises.specs.Profiles.{ValidColumn, byte, ValidRecord, ListedColumn, Profiles}
 

@@ -18,7 +18,7 @@ type18 : EachRow IsStored stored18
 unfolding stored18 shapeOf readValue writeValue clockFault dayFault
 type18 =
     refl and refl and refl and refl and refl and refl and refl and refl and refl and refl and refl and refl and refl and refl
-    and refl and refl and refl and refl and refl and refl and refl and refl and refl and done
+    and refl and refl and refl and refl and refl and refl and refl and refl and refl and refl and refl and done
 
 type19 : EachRow IsStored stored19
 unfolding stored19 shapeOf readValue writeValue clockFault dayFault
@@ -26,7 +26,7 @@ type19 =
     refl and refl and refl and refl and refl and refl and refl and refl and refl and refl and refl and refl and refl and refl
     and refl and refl and refl and refl and refl and refl and refl and refl and refl and refl and refl and refl and refl
     and refl and refl and refl and refl and refl and refl and refl and refl and refl and refl and refl and refl and refl
-    and done
+    and refl and done
 
 type14 : EachRow IsStored stored14
 unfolding stored14 shapeOf readValue writeValue clockFault dayFault
@@ -41,7 +41,8 @@ type11 =
 type12 : EachRow IsStored stored12
 unfolding stored12 shapeOf readValue writeValue clockFault dayFault
 type12 =
-    refl and refl and refl and refl and refl and refl and refl and refl and refl and refl and refl and refl and refl and done
+    refl and refl and refl and refl and refl and refl and refl and refl and refl and refl and refl and refl and refl and refl and refl and
+    refl and done
 
 type7 : EachRow IsStored stored7
 unfolding stored7 shapeOf readValue writeValue clockFault dayFault

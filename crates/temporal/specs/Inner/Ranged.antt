@@ -1,5 +1,4 @@
--- What the code's own functions answer: parts in range, or the number of the first that is not. Refusal 10 does not tell the number.
--- Assumes nothing.
+-- What the code's own functions answer: parts in range, or the number of the first that is not. Assumes nothing.
 use Prim.Native.Nat.{ℕ}
 use mathlib.Core.Bool.{cond}
 use lib.Dec.{eqb}

@@ -3,7 +3,7 @@ use mathlib.Core.Path.{sym, ap, _∙_}
 use native.Mathlib.Omega.{arith}
 use Rattle.wire.specs.Stored.{writtenTold}
 use Rattle.map_check.specs.Check.{check}
-use Rattle.feed_abi.specs.Calls.{lengthNumbers, feedCheck}
+use Rattle.feed_abi.specs.Calls.{recordNumbers, feedCheck}
 use Rattle.feed_abi.specs.Inner.Calls.{askedTold}
 use Rattle.feed_abi.proofs.Tells.{no-bytes, wrote-ok, wrote-refused, not-called}
 use borrow.Author.Needs.{needs}
@@ -11,14 +11,14 @@ use Rattle.feed_abi.proofs.maps.feed_check.Statement.{statement}
 use Rattle.feed_abi.proofs.maps.feed_check.Tie as tie
 use Rattle.feed_abi.proofs.maps.feed_check.Reads as reads
 use Rattle.feed_abi.proofs.maps.feed_check.Lts as lts
-use Rattle.feed_abi.proofs.answer.tell.Reads as tell-reads
 use Rattle.feed_abi.proofs.answer.tell_refusal.Reads as tell-refusal-reads
 use Rattle.feed_abi.proofs.maps.dialect_of.Reads as dialect-of-reads
+use Rattle.feed_abi.proofs.maps.tell_record.Reads as tell-record-reads
 use Rattle.map_check.proofs.check.Reads as check-reads
 
 returns : tie.Need-returns
 returns c = let a = c .before .before .before .before .args in
-    no-bytes 1 (a .out .now) (a .profile .now) _ (c .if1 .taken)
+    no-bytes 2 (a .out .now) (a .profile .now) _ (c .if1 .taken)
 
 dialect-of-requires : tie.Need-dialect-of-requires
 dialect-of-requires c κs = search needs
@@ -38,7 +38,7 @@ same-length c = search needs
 returns-2 : tie.Need-returns-2
 unfolding feedCheck
 returns-2 c = let a = c .before .before .before .before .before .before .before .before .before .before .before .before .args in
-    not-called 1 (a .out .now) (a .profile .now) (feedCheck (a .event .now) (a .post-header) (a .dialect) (a .profile .now)) _ _ _
+    not-called 2 (a .out .now) (a .profile .now) (feedCheck (a .event .now) (a .post-header) (a .dialect) (a .profile .now)) _ _ _
     (omega arith) (rw (sym (c .before .before .before .before .before .before .before .dialect-of .ensures)
     ∙ ap askedTold (c .before .before .before .before .before .r .given .1))) (c .before .before .tell-refusal .ensures .0)
     (c .before .before .tell-refusal .ensures .1)
@@ -49,11 +49,8 @@ check-requires c κs = search needs
 enum-known-next : tie.Need-enum-known-next
 enum-known-next c = search needs
 
-slice-aggregate-tell : tie.Need-slice-aggregate-tell
-slice-aggregate-tell c = search needs
-
-tell-requires : tie.Need-tell-requires
-tell-requires c κs = search needs
+tell-record-requires : tie.Need-tell-record-requires
+tell-record-requires c κs = search needs
 
 enum-known-r-2 : tie.Need-enum-known-r-2
 enum-known-r-2 c = search needs
@@ -72,16 +69,16 @@ unfolding feedCheck
 returns-3 c =
     let a =
     c .before .before .before .before .before .before .before .before .before .before .before .before .before .before .before .before
-    .before .before .before .before .args in
-    wrote-ok 1 (a .out .now) (a .profile .now) lengthNumbers (check _ (a .event .now) (a .post-header) (a .profile .now))
+    .before .before .before .args in
+    wrote-ok 2 (a .out .now) (a .profile .now) recordNumbers (check _ (a .event .now) (a .post-header) (a .profile .now))
     (feedCheck (a .event .now) (a .post-header) (a .dialect) (a .profile .now)) _ _ _ _ (omega arith)
-    (rw (sym (c .before .before .before .before .before .before .before .before .before .before .before .before .before .before .before
+    (rw (sym (c .before .before .before .before .before .before .before .before .before .before .before .before .before .before
     .dialect-of .ensures) ∙ ap askedTold
-    (c .before .before .before .before .before .before .before .before .before .before .before .before .before .asked .given .1)))
-    (sym (c .before .before .before .before .before .before .before .before .before .before .check .ensures .0)
-    ∙ ap writtenTold (c .before .before .before .before .before .before .next .given .1)) (c .before .before .tell .ensures .0)
-    (c .before .before .tell .ensures .1)
-    (c .before .before .before .before .before .before .before .before .before .before .check .ensures .1)
+    (c .before .before .before .before .before .before .before .before .before .before .before .before .asked .given .1)))
+    (sym (c .before .before .before .before .before .before .before .before .before .check .ensures .0)
+    ∙ ap writtenTold (c .before .before .before .before .before .next .given .1)) (c .before .before .tell-record .ensures .0)
+    (c .before .before .tell-record .ensures .1)
+    (c .before .before .before .before .before .before .before .before .before .check .ensures .1)
 
 same-length-4 : tie.Need-same-length-4
 same-length-4 c = search needs
@@ -95,7 +92,7 @@ returns-4 c =
     let a =
     c .before .before .before .before .before .before .before .before .before .before .before .before .before .before .before .before
     .before .before .before .args in
-    wrote-refused 1 (a .out .now) (a .profile .now) lengthNumbers (check _ (a .event .now) (a .post-header) (a .profile .now))
+    wrote-refused 2 (a .out .now) (a .profile .now) recordNumbers (check _ (a .event .now) (a .post-header) (a .profile .now))
     (feedCheck (a .event .now) (a .post-header) (a .dialect) (a .profile .now)) _ _ _ _ (omega arith)
     (rw (sym (c .before .before .before .before .before .before .before .before .before .before .before .before .before .before
     .dialect-of .ensures) ∙ ap askedTold
@@ -118,8 +115,7 @@ feed-check-spec =
     returns-2
     check-requires
     enum-known-next
-    slice-aggregate-tell
-    tell-requires
+    tell-record-requires
     enum-known-r-2
     tell-refusal-requires-2
     same-length-2

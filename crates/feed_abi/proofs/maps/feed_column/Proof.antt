@@ -63,7 +63,7 @@ returns-3 c = let a = c .before .before .before .before .before .before .before 
     (c .before .before .before .before .before .if2 .taken))
     (c .before .before .tell-refusal2 .ensures .0 ∙ ap (λ (w : Refusal). w .number) (c .before .before .before .refuse .ensures))
     (c .before .before .tell-refusal2 .ensures .1
-    ∙ ap (λ (w : Refusal). stored (w .place ∷ []) (a .out .now) 0) (c .before .before .before .refuse .ensures))
+    ∙ ap (λ (w : Refusal). stored (w .place ∷ w .part ∷ []) (a .out .now) 0) (c .before .before .before .refuse .ensures))
 
 entry-in-requires : tie.Need-entry-in-requires
 entry-in-requires c κs = search needs

@@ -19,6 +19,7 @@ use Rattle.temporal.proofs.read.fraction_at.Reads as fraction-at-reads
 use Rattle.temporal.proofs.read.judge.Reads as judge-reads
 use Rattle.temporal.proofs.read.whole_at.Reads as whole-at-reads
 use Rattle.wire.proofs.refuse.Reads as refuse-reads
+use Rattle.wire.proofs.refuse_part.Reads as refuse-part-reads
 use Rattle.wire.proofs.has_room.Reads as has-room-reads
 
 temporal-size-requires : tie.Need-temporal-size-requires
@@ -58,11 +59,11 @@ judge-requires c κs = search needs
 enum-known-temporal : tie.Need-enum-known-temporal
 enum-known-temporal c = search needs
 
-enum-told : tie.Need-enum-told
-enum-told c = search needs
+enum-known-part : tie.Need-enum-known-part
+enum-known-part c = search needs
 
-refuse-requires-2 : tie.Need-refuse-requires-2
-refuse-requires-2 c κs = search needs
+refuse-part-requires : tie.Need-refuse-part-requires
+refuse-part-requires c κs = search needs
 
 returns-2 : tie.Need-returns-2
 returns-2 c = let a = c .before .before .before .before .before .before .before .before .before .before .args in
@@ -77,17 +78,18 @@ returns-2 c = let a = c .before .before .before .before .before .before .before 
     (c .before .before .before .before .fraction-at .ensures .0) _ j))
 
 returns-3 : tie.Need-returns-3
-returns-3 c = let a = c .before .before .before .before .before .before .before .before .before .before .args in
+returns-3 c = let a = c .before .before .before .before .before .before .before .before .before .before .before .args in
     let l =
-    room _ _ _ _ (c .before .before .before .before .before .before .before .has-room .ensures)
-    (not-false (c .before .before .before .before .before .before .before .has-room .result)
-    (c .before .before .before .before .before .before .if1 .left)) in
+    room _ _ _ _ (c .before .before .before .before .before .before .before .before .has-room .ensures)
+    (not-false (c .before .before .before .before .before .before .before .before .has-room .result)
+    (c .before .before .before .before .before .before .before .if1 .left)) in
     let r : a .at + temporalSize (a .storage) ≤ length (a .s .now) =
-    rw (← c .before .before .before .before .before .before .before .before .temporal-size .ensures) l in
-    let j = sym (c .before .before .before .judge .ensures) ∙ c .before .enum-told .given .1 in
-    ap refused (c .refuse2 .ensures)
-    ∙ sym (read-out (a .storage) (a .place) (a .s .now) (a .at) _ _ r (c .before .before .before .before .before .whole-at .ensures .0)
-    (c .before .before .before .before .fraction-at .ensures .0) _ j)
+    rw (← c .before .before .before .before .before .before .before .before .before .temporal-size .ensures) l in
+    let j = sym (c .before .before .before .before .judge .ensures) ∙ c .before .before .part .given .1 in
+    ap refused (c .refuse-part .ensures)
+    ∙ sym (read-out (a .storage) (a .place) (a .s .now) (a .at) _ _ r
+    (c .before .before .before .before .before .before .whole-at .ensures .0)
+    (c .before .before .before .before .before .fraction-at .ensures .0) _ j)
 
 pub read-temporal-spec : {M : Type 1} → statement M
 read-temporal-spec =
@@ -102,7 +104,7 @@ read-temporal-spec =
     add-next
     judge-requires
     enum-known-temporal
-    enum-told
-    refuse-requires-2
+    enum-known-part
+    refuse-part-requires
     returns-2
     returns-3)
