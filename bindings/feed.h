@@ -34,9 +34,10 @@ extern "C" {
 /* Numbers that are enough for the answer of any call. */
 #define FEED_OUT_NUMBERS 11
 
-/* Bytes of the record of a map with n columns, and of the longest record there is (255 columns). */
+/* The most columns that a map may have; bytes of the record of a map with n columns, and of the longest record there is. */
+#define FEED_COLUMNS_MOST 4096
 #define FEED_RECORD_BYTES(n) (6 + 6 * (size_t)(n))
-#define FEED_RECORD_MOST FEED_RECORD_BYTES(255)
+#define FEED_RECORD_MOST FEED_RECORD_BYTES(FEED_COLUMNS_MOST)
 
 /* Bytes that so many bits take: presence bits of n columns, null bits of p present columns. */
 #define FEED_BYTES_FOR(bits) (((size_t)(bits) + 7) / 8)
@@ -53,7 +54,7 @@ enum {
     FEED_OK = 0,
     FEED_SHORT = 1,            /* bytes end inside a part of the event, an optional field, or an item of a list; place: its first byte, or its length's */
     FEED_NOT_PACKED = 2,       /* first byte 251 or 255 of a packed integer; place: that byte */
-    FEED_TOO_MANY_COLUMNS = 3, /* more than 255 columns; place: 0 */
+    FEED_TOO_MANY_COLUMNS = 3, /* more than 4,096 columns; place: 0 */
     FEED_TYPE_NOT_TAKEN = 4,   /* a column type that is not taken; place: the column */
     FEED_BAD_METADATA = 5,     /* metadata short, not accepted, or left over; place: the column, or the number of columns if left over */
     FEED_UNKNOWN_FIELD = 6,    /* an optional field of unknown type; place: its type byte */
@@ -182,7 +183,8 @@ uint64_t feed_map(const uint8_t *event, size_t event_length, uint8_t post_header
 /*
  * Checks the body of a table map event (what follows the 19-byte event header, without a checksum) and writes the record that the
  * other calls read. post_header is the event's post-header length from the format description event: 8, or 6 in very old logs.
- * Lend FEED_RECORD_MOST bytes to be sure of the room.
+ * Lend FEED_RECORD_MOST bytes to be sure of the room. Keys are compared each with each: the most that a map can have, 4,096, cost 8.4
+ * million comparisons.
  * Answer, 2 numbers: the length of the record, which stands at the start of profile, and how many columns there are.
  */
 uint64_t feed_check(const uint8_t *event, size_t event_length, uint8_t post_header, uint8_t dialect,
@@ -203,6 +205,8 @@ uint64_t feed_first(const uint8_t *profile, size_t profile_length, const uint8_t
  * Reads the first present column at or behind the cursor (column, offset). image may be longer than the row: bytes behind it are not read.
  * Answer, 11 numbers: kind, column, next column, next offset, and seven parts of the value. At the end the kind is FEED_END,
  * column and next column are 0, and next offset is the number of bytes that the row took.
+ * Each step tests the whole record anew, so a walk over p present columns of n costs p times n: a row of 900 columns took 6 milliseconds,
+ * and one of 4,096 took 120. Where an image ends, feed_image tells in a tenth of a millisecond.
  */
 uint64_t feed_step(const uint8_t *profile, size_t profile_length, const uint8_t *presence, size_t presence_length,
                    const uint8_t *image, size_t image_length, size_t column, size_t offset, uint64_t *out, size_t out_length);

@@ -7,6 +7,8 @@ from listed import BLOBS, FRACTION_BYTES, NO_METADATA, packed_at, shortest, unhe
 
 HOSTILE = (0, 1, 5, 7, 8, 59, 60, 99, 100, 127, 128, 250, 251, 252, 253, 254, 255)
 SERVERS = ("mysql", "mariadb")
+# bytes of the longest record, of 4,096 columns
+RECORD_MOST = 6 + 6 * 4096
 
 
 def word(b):
@@ -251,14 +253,15 @@ def lists(rng, folder):
 def check(rng, folder):
     for server in SERVERS:
         for m in captured_maps(folder, (server,)):
-            yield "check-as %s 8 %s 1536" % (server, word(m))
+            yield "check-as %s 8 %s %d" % (server, word(m), RECORD_MOST)
             for _ in range(100):
-                yield "check-as %s 8 %s 1536" % (server, word(damaged(rng, m)))
+                yield "check-as %s 8 %s %d" % (server, word(damaged(rng, m)), RECORD_MOST)
 
 
 def image(folder):
     for server in SERVERS:
         yield from captured(folder, server, "image")
+        yield from captured(folder, server, "image6")
 
 
 # ---- the stored list of `cases`, as far as the Rust can be asked; it has the inputs of docs/DIFFERENCES.md too

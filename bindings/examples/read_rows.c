@@ -10,7 +10,7 @@
 #include <stdlib.h>
 #include <string.h>
 
-enum { LINE_MOST = 4096, COLUMNS_MOST = 255, PARTS = 7, POST_HEADER = 8 };
+enum { LINE_MOST = 4096, PARTS = 7, POST_HEADER = 8 };
 
 struct bytes {
     uint8_t at[LINE_MOST];
@@ -37,7 +37,7 @@ struct value {
 struct row {
     struct bytes presence;
     struct bytes image;
-    struct value values[COLUMNS_MOST];
+    struct value values[FEED_COLUMNS_MOST];
     size_t count;
 };
 
@@ -251,7 +251,7 @@ static void print_row(const struct table *table, const struct row *row)
 static size_t write_row(const struct table *table, const struct row *row, uint8_t *written, size_t room)
 {
     uint64_t out[FEED_OUT_NUMBERS];
-    uint8_t nulls[FEED_BYTES_FOR(COLUMNS_MOST)] = {0};
+    uint8_t nulls[FEED_BYTES_FOR(FEED_COLUMNS_MOST)] = {0};
     size_t nulls_length = FEED_BYTES_FOR(row->count);
     size_t i;
 

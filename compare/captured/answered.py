@@ -42,7 +42,6 @@ def check_line(server, of_map):
 
 # why the check turns down what the servers of the captures log, by the number of the refusal
 REFUSED_MAPS = {
-    "3": "of more than 255 columns, refused 3 until request 6",
     "4": "with a compressed column, refused 4",
     "5": "with a DECIMAL of more than 30 digits behind the point, refused 5",
 }

@@ -5,14 +5,16 @@ import re
 from program import answers
 
 from .answered import FIRST_EDITION, TOGETHER, answered, check_line, rows_line, why_refused
+from .lists import listed_images
 from .texts import hexed, true_word
 from .told import lines
-from .values import entry_of, hex_word, judge_values, present, unhex
+from .values import FEW_COLUMNS, columns_of, entry_of, hex_word, judge_values, present, unhex
 
 # bodies that hold no images as they stand
 UNREAD = {39: "rows events of code 39, partial updates, refused 16"}
 UNREAD.update((code, "rows events of codes 166 to 168, compressed, refused 16") for code in (166, 167, 168))
 OTHER_CODE = "refused 16 0 0"
+WIDE = "rows events of more than 255 columns"
 FRACTIONS = "rows events of old temporals with a fraction, which no map tells, left out"
 
 
@@ -25,8 +27,7 @@ def parts_told(true):
 
 def known_images(folder, server):
     """what the server told of an image, by its record, presence and bytes"""
-    base = os.path.join(folder, server + ".image")
-    return {tuple(case.split(" ")[1:]): true.split(" ")[:-2] for case, true in zip(lines(base + ".cases"), lines(base + ".truth"))}
+    return {tuple(case.split(" ")[1:]): true.split(" ")[:-2] for case, true in listed_images(folder, server)}
 
 
 def judge_listed(told, line, got, true, known):
@@ -59,7 +60,9 @@ def listed(folder, server, told):
         if records[at].startswith("refused"):
             told["rows events of maps " + why_refused(told, maps[at], records[at])] += 1
         else:
-            asked.append(rows_line(int(code), bytes.fromhex(records[at][3:]), maps[at], bytes.fromhex(body)))
+            record = bytes.fromhex(records[at][3:])
+            told[WIDE] += columns_of(record) > FEW_COLUMNS
+            asked.append(rows_line(int(code), record, maps[at], bytes.fromhex(body)))
             trues.append(true)
     known = known_images(folder, server)
     for line, got, true in zip(asked, answers(asked), trues):
@@ -140,7 +143,9 @@ def phase_events(folder, server, name, told):
         elif own.partition(".")[2] in phase.fractions:
             told[FRACTIONS] += 1
         else:
-            asked.append((case, rows_line(int(code), bytes.fromhex(records[own][3:]), phase.maps[own], bytes.fromhex(body))))
+            record = bytes.fromhex(records[own][3:])
+            told[WIDE] += columns_of(record) > FEW_COLUMNS
+            asked.append((case, rows_line(int(code), record, phase.maps[own], bytes.fromhex(body))))
     for (case, line), got in zip(asked, answers([line for _, line in asked])):
         code = int(line.split(" ")[1])
         if code in TOGETHER:

@@ -1,12 +1,11 @@
-"""The lists of maps and of single images, S.check.* and S.image.* for a server S."""
+"""The lists of maps and of single images, S.check.* and S.image.* for a server S, and S.image6.* for images of more than 255 columns."""
 import os
 
 from program import answers
 
 from .told import lines
-from .values import hex_word, judge_values, unhex
+from .values import FEW_COLUMNS, columns_of, hex_word, judge_values, unhex
 
-MOST_COLUMNS = 255
 # what the servers of the captures log and document 01 turns down, by its answer
 REFUSED_MAPS = {"refused 4 1 0": "a compressed column, refused 4", "refused 5 0 0": "a DECIMAL of more than 30 digits behind the point, refused 5"}
 
@@ -27,9 +26,7 @@ def maps(folder, server, told):
         told["maps"] += 1
         if wanted in REFUSED_MAPS:
             told["maps with " + REFUSED_MAPS[wanted]] += 1
-        if int(name.split("\t")[1]) > MOST_COLUMNS:
-            wanted = "refused 3 0 0"
-            told["maps of more than 255 columns, refused 3 until request 6"] += 1
+        told["maps of more than 255 columns"] += int(name.split("\t")[1]) > FEW_COLUMNS
         if got != wanted:
             told.differ("map " + name.split("\t")[0], case, got, wanted)
 
@@ -62,13 +59,20 @@ def row_of(told, case, got):
     return line, "ok " + hex_word(image)
 
 
+def listed_images(folder, server):
+    """the lines of all images, and what the server told of each"""
+    for name in (server + ".image", server + ".image6"):
+        base = os.path.join(folder, name)
+        yield from zip(lines(base + ".cases"), lines(base + ".truth"))
+
+
 def images(folder, server, told):
     """every image: read, and written again"""
-    base = os.path.join(folder, server + ".image")
-    cases, trues = lines(base + ".cases"), lines(base + ".truth")
+    cases, trues = zip(*listed_images(folder, server))
     rows, wanted = [], []
     for case, got, true in zip(cases, answers(cases), trues):
         told["images"] += 1
+        told["images of more than 255 columns"] += columns_of(unhex(case.split(" ")[1])) > FEW_COLUMNS
         if judge_image(told, case, got, true):
             line, image = row_of(told, case, got)
             rows.append(line)

@@ -3,7 +3,7 @@ import re
 
 from .answered import UPDATES, WRITES
 from .texts import plain, true_word
-from .values import HOUR, OLD_TIME, columns_of, entry_of, how_value, present
+from .values import FEW_COLUMNS, HOUR, OLD_TIME, columns_of, entry_of, how_value, present
 
 NO_VALUE = "values absent from the log, as an insert may leave them out"
 # statements that change rows and log none of them
@@ -46,6 +46,7 @@ class Tables(dict):
             table.lost = "that differ"
         else:
             told["rows events read to their end"] += 1
+            told["rows events of more than 255 columns"] += columns_of(change.record) > FEW_COLUMNS
             told["images"] += len(got.images)
             places = [present(change.record, bits) for bits in got.sets]
             images = [dict(zip(places[rank % len(places)], values)) for rank, (_, values) in enumerate(got.images)]

@@ -6,6 +6,8 @@ OLD_TIME, CHAR = 11, 254
 # the part that a negative old TIME has out of range (Q4.4)
 HOUR = "4"
 SIGN_KNOWN = 4
+# as many columns as a record of kind 1 can have
+FEW_COLUMNS = 255
 EQUAL = "values equal to the server's"
 
 

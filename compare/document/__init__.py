@@ -2,6 +2,6 @@
 from the code.
 
 Each module is a chapter: packed, lists, columns, temporal, values, event, fields, check, record, image, and rows for request 1; request 4 is in refusal
-and temporal. Sentences of the documents stand in quotation marks where the rule is. `lines` reads a line of the program `cases` (docs/CASES.md) and
+and temporal, request 6 in record. Sentences of the documents stand in quotation marks where the rule is. `lines` reads a line of the program `cases` (docs/CASES.md) and
 answers it.
 """

@@ -165,6 +165,7 @@ def flags_of(place, event, kept, classed):
 def check(dialect, post_header, s):
     """the record of a map"""
     event = read_event(post_header, s)
+    # "refusal 3 now begins at 4,097", "before any column is looked at" (Q6.3)
     if len(event.types) > MOST_COLUMNS:
         raise Refused(3, 0)
     columns = read_columns(event.types, event.metadata)

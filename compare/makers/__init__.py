@@ -2,7 +2,7 @@
 maps, valid records, images that are nearly right.
 
 `numbers`, `values`, `lists`, `events`, `fields`, `checks`, `rows` and `rows_events` have a maker for each kind, `malformed` makes lines that are `bad`; `some`,
-`columns` and `maps` are what they share.
+`columns` and `maps` are what they share. `wide` has the rules of all kinds for more than 255 columns.
 """
 from .some import MAKERS
 from . import numbers, values, lists, events, fields, checks, rows, rows_events, malformed  # noqa: F401

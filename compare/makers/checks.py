@@ -7,6 +7,7 @@ from .columns import TURNS, TYPES, rule_columns
 from .maps import (POST_HEADERS, RULED_METADATA, RULED_TYPES, Map, edge_events, event_of, event_rules, field_bytes, packs, ruled_classes, some_event,
                    some_spoilt_map)
 from .some import DIALECTS, chance, damaged, line, maker, some_room
+from .wide import check_as_lines, check_lines, names_lines
 
 
 # ---- rules
@@ -108,7 +109,7 @@ def edge_columns():
 
 def edge_sizes():
     """around so many columns as fill a byte of bits, and as are taken"""
-    for n in (0, 1, 8, 9, 254, 255, 256, 257):
+    for n in (0, 1, 8, 9, 254, 255, 256, 257, 4095, 4096, 4097):
         bits = b"\xa5" * bytes_for(n)
         for optional in (b"", field_bytes(12, bits), field_bytes(1, bits)):
             yield event_of(b"\x03" * n, b"", optional), n
@@ -149,7 +150,7 @@ def edge_checks(rng):
 def check_as_edges(rng):
     for dialect, post_header, s, n in edge_checks(rng):
         yield line("check-as", dialect, post_header, s, rng.choice((6 + 6 * n, 1536)))
-    for n in (0, 1, 5, 255):
+    for n in (0, 1, 5, 255, 256):
         for room in (0, 5, 6, 6 + 6 * n - 1, 6 + 6 * n, 6 + 6 * n + 1, 262144):
             yield line("check-as", "mysql", 8, event_of(b"\x03" * n, b""), room)
 
@@ -157,7 +158,8 @@ def check_as_edges(rng):
 def check_as_rules(rng):
     for dialect in DIALECTS:
         for s in rule_checks(dialect):
-            yield line("check-as", dialect, 8, s, rng.choice((1536, 1536, 1536, 6)))
+            yield line("check-as", dialect, 8, s, rng.choice((1548, 1548, 1548, 6)))
+    yield from check_as_lines()
 
 
 @maker("check-as", check_as_edges, check_as_rules)
@@ -181,7 +183,8 @@ def check_rules(rng):
     for post_header, s in event_rules():
         yield line("check", post_header, s, 24)
     for s in (*rule_checks("document"), *rule_metadata()):
-        yield line("check", 8, s, 1536)
+        yield line("check", 8, s, 1548)
+    yield from check_lines()
 
 
 @maker("check", check_edges, check_rules)
@@ -213,6 +216,7 @@ def names_rules(rng):
             yield line("names", dialect, 8, s + b"\x04\x02\x01\x61")
     for post_header, s in event_rules():
         yield line("names", "document", post_header, s)
+    yield from names_lines()
 
 
 @maker("names", names_edges, names_rules)

@@ -150,7 +150,7 @@ def some_charset(rng):
 
 
 def some_columns_count(rng):
-    return rng.randrange(12) if not chance(rng, 25) else rng.choice((0, 16, 17, 64, 250, 251, 254, 255, 256, 257, 300))
+    return rng.randrange(12) if not chance(rng, 25) else rng.choice((0, 16, 17, 64, 250, 251, 254, 255, 256, 257, 300, 900))
 
 
 def some_map(rng, dialect=None):

@@ -8,6 +8,7 @@ from document.record import record as record_of
 from .columns import (edge_columns, edge_values_of, loosely, parted, rule_columns, rule_values, some_bad_column, some_bad_value, some_column,
                       some_stored, some_value)
 from .some import MOST_ROOM, NUMBERS, changes, chance, cuts, damaged, line, maker, near, some_bytes, some_room
+from .wide import first_lines, image_lines, put_lines, row_lines, start_lines, step_lines, wide_records
 
 
 # ---- records
@@ -21,7 +22,7 @@ def some_entry(rng, column):
 
 
 def some_columns(rng):
-    n = rng.randrange(1, 12) if not chance(rng, 30) else rng.choice((0, 16, 17, 100, 254, 255))
+    n = rng.randrange(1, 12) if not chance(rng, 30) else rng.choice((0, 16, 17, 100, 254, 255, 256, 300))
     return [some_column(rng) for _ in range(n)]
 
 
@@ -68,9 +69,6 @@ def edge_records(rng):
         for length in (6 + 6 * n - 1, 6 + 6 * n, 6 + 6 * n + 1, 65535):
             for kind in (0, 1, 2, 257):
                 yield (length % 65536).to_bytes(2, "little") + kind.to_bytes(2, "little") + bytes([n, 0]) + entry * n
-    yield (6 + 6 * 256).to_bytes(2, "little") + bytes([1, 0, 0, 0]) + entry * 256
-    yield (6 + 6 * 256).to_bytes(2, "little") + bytes([1, 0, 0, 1]) + entry * 256
-    yield (6 + 6 * 256).to_bytes(2, "little") + bytes([2, 0, 0, 1]) + entry * 256
 
 
 def record_edges(rng):
@@ -96,7 +94,7 @@ def rule_records():
 
 
 def record_rules(rng):
-    for s in rule_records():
+    for s in (*rule_records(), *wide_records()):
         yield line("record", s)
 
 
@@ -170,7 +168,7 @@ def some_head(rng, row):
 
 def edge_heads(rng):
     """records and presence bits, each wrong and both"""
-    for n in (0, 1, 7, 8, 9, 16, 17, 255):
+    for n in (0, 1, 7, 8, 9, 16, 17, 255, 256):
         good = some_record(rng, [some_column(rng) for _ in range(n)])
         bad = good[:-1] if n % 2 else good + b"\x00"
         for size in (bytes_for(n), bytes_for(n) + 1, max(0, bytes_for(n) - 1), 0):
@@ -188,6 +186,7 @@ def first_edges(rng):
 
 def first_kinds(rng):
     yield from first_rules(rng)
+    yield from first_lines()
     yield from (line("first", s, b"\xff") for s in rule_records())
 
 
@@ -239,6 +238,7 @@ def step_rules(rng):
     for given in two_temporals():
         for cursor in ((0, 1), (1, 2), (2, 2), (2, 5), (3, 2)):
             yield line("step", *given, *cursor)
+    yield from step_lines()
     for record in RECORDS:
         for presence in PRESENCES:
             for image in (b"\xfc\x01\x21\x00\x00", b"\xfe\x01\xff\xff\xff", b"\x00\x01\x21", b"\x00", b""):
@@ -248,6 +248,7 @@ def step_rules(rng):
 
 
 def start_rules(rng):
+    yield from start_lines()
     for record in RECORDS:
         for presence in PRESENCES:
             for nulls in (b"\x00", b"", b"\x00\x00"):
@@ -256,6 +257,7 @@ def start_rules(rng):
 
 
 def put_rules(rng):
+    yield from put_lines()
     for record in RECORDS[:2]:
         for presence in PRESENCES[:2]:
             for nulls in (b"\x00", b"\x01", b""):
@@ -266,6 +268,7 @@ def put_rules(rng):
 
 
 def row_rules(rng):
+    yield from row_lines()
     for record in RECORDS[:2]:
         for presence in PRESENCES[:2]:
             for nulls in (b"\x00", b"\x02", b""):
@@ -316,6 +319,7 @@ def image_rules(rng):
             yield line("image", row, b"\x06", b"\xfc\x05" + values.stored_value(column, given, 0))
     for given in (*parted_images((0, 2, 3, 6)), *parted_images((0, 2, 6), 1, 1), *two_temporals()):
         yield line("image", *given)
+    yield from image_lines()
 
 
 def image_edges(rng):

@@ -8,6 +8,7 @@ from document.rows import FORMS
 from .columns import parted, some_column
 from .rows import Row, rule_records, some_columns, some_presence, spoilt_record
 from .some import NUMBERS, TWO64, changes, chance, cuts, damaged, line, longer, maker, near, some_bytes, some_number, some_pack
+from .wide import rows_lines
 
 WRITE, UPDATE, WRITE2, UPDATE2 = 23, 24, 30, 31
 # codes that are none of the six: around them, partial updates (39), MariaDB's compressed ones, and some that agree with one in their low bytes
@@ -164,7 +165,7 @@ def rule_parts():
 
 
 def rows_rules(rng):
-    for rules in (rule_codes, rule_lengths, rule_cuts, rule_ids, rule_counts, rule_orders, rule_sets, rule_images, rule_parts):
+    for rules in (rule_codes, rule_lengths, rule_cuts, rule_ids, rule_counts, rule_orders, rule_sets, rule_images, rule_parts, rows_lines):
         yield from rules()
 
 
@@ -269,7 +270,7 @@ def edge_sets():
         yield event.line(event.body(sets=bytes([byte, 7])))
         yield event.line(event.body(sets=bytes([7, byte])))
         yield event.line(event.body(images=bytes([byte]) * 9))
-    for n in (0, 1, 7, 8, 9, 64, 250, 251, 255):
+    for n in (0, 1, 7, 8, 9, 64, 250, 251, 255, 256, 257):
         for code in (WRITE, UPDATE2):
             event = event_of(code, [TINY] * n, [])
             for count in longer(n):

@@ -30,7 +30,7 @@ pub mod refusal {
     pub const SHORT: u64 = 1;
     /// First byte 251 or 255 of a packed integer. Place: that byte.
     pub const NOT_PACKED: u64 = 2;
-    /// More than 255 columns. Place: 0.
+    /// More than 4,096 columns. Place: 0.
     pub const TOO_MANY_COLUMNS: u64 = 3;
     /// A column type that is not taken. Place: the column.
     pub const TYPE_NOT_TAKEN: u64 = 4;
@@ -152,8 +152,8 @@ impl Dialect {
     }
 }
 
-/// Bytes of the longest record there is.
-const RECORD_MOST: usize = 6 + 6 * 255;
+/// Bytes of the longest record there is, of 4,096 columns.
+const RECORD_MOST: usize = 6 + 6 * 4096;
 
 /// What an accepted map says of its columns, as bytes that may be stored and taken up again.
 #[derive(Clone, Debug, PartialEq, Eq)]

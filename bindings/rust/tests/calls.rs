@@ -406,6 +406,62 @@ fn an_image_cut_in_its_event_is_refused_once() {
     assert!(rows.next().is_none());
 }
 
+// a map of so many TINYINTs
+fn wide_map(columns: u16) -> Vec<u8> {
+    let count = [&[252], &columns.to_le_bytes()[..]].concat();
+    let columns = usize::from(columns);
+    [
+        &EVENT[..14],
+        &count,
+        &vec![1; columns],
+        &[0],
+        &vec![0; columns.div_ceil(8)],
+    ]
+    .concat()
+}
+
+#[test]
+fn a_map_of_many_columns_gives_a_record_of_kind_2() {
+    let head =
+        |columns| check(&wide_map(columns), 8, Dialect::Mysql).map(|r| r.as_bytes()[..6].to_vec());
+    // length, kind, and how many columns
+    assert_eq!(head(255), Ok(vec![0, 6, 1, 0, 255, 0]));
+    assert_eq!(head(256), Ok(vec![6, 6, 2, 0, 0, 1]));
+    assert_eq!(head(4096), Ok(vec![6, 0x60, 2, 0, 0, 16]));
+    assert_eq!(head(4097), refused(refusal::TOO_MANY_COLUMNS, 0));
+    let record = check(&wide_map(900), 8, Dialect::Mysql).unwrap();
+    assert_eq!(record.columns(), 900);
+    assert_eq!(record.column(899).unwrap().real_type, 1);
+    assert_eq!(record.column(900), refused(refusal::NO_COLUMN, 900));
+    assert_eq!(Record::from_bytes(record.as_bytes().to_vec()), Ok(record));
+    // a kind 2 of so few columns is no record
+    let mut few = RECORD.to_vec();
+    few[2] = 2;
+    assert_eq!(Record::from_bytes(few), refused(refusal::BAD_RECORD, 0));
+}
+
+#[test]
+fn a_row_of_many_columns_goes_there_and_back() {
+    let record = check(&wide_map(300), 8, Dialect::Mysql).unwrap();
+    let mut presence = [0xff; 38];
+    presence[32] = 0;
+    let values: Vec<_> = (0..292).map(|n| Value::Int(n % 128)).collect();
+    let image = record.write_row(&presence, &values).unwrap();
+    assert_eq!(image.len(), 37 + 292);
+    let row: Result<Vec<_>, _> = record.row(&presence, &image).unwrap().collect();
+    let row = row.unwrap();
+    assert_eq!(row[255], (255, Value::Int(127)));
+    assert_eq!(row[256], (264, Value::Int(0)));
+    assert_eq!(row.last(), Some(&(299, Value::Int(35))));
+    // in an event the columns are counted by a packed integer
+    let head = [0x2a, 0, 0, 0, 0, 0, 1, 0, 2, 0, 252, 44, 1];
+    let body = [&head[..], &presence, &image, &image].concat();
+    let event = record.rows_event(code::WRITE_ROWS, TABLE, &body).unwrap();
+    let rows: Vec<_> = event.rows().map(|row| row.unwrap().after).collect();
+    assert_eq!(rows.len(), 2);
+    assert_eq!(values_of(rows[1]), row);
+}
+
 // the only value of an image of one column, or why there is none
 fn lone(real_type: u8, m0: u8, stored: &[u8]) -> Result<(), Refusal> {
     let image = [&[0], stored].concat();

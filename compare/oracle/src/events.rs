@@ -298,15 +298,24 @@ fn entry(
     Some([kind as u8, flags, byte(0), byte(1), low, high])
 }
 
+// A map of more has no record.
+const MOST_COLUMNS: u16 = 4096;
+
 fn record_of(event: &TableMapEvent<'_>) -> Option<Vec<u8>> {
-    let n = u8::try_from(event.columns_count()).ok()?;
+    let n = u16::try_from(event.columns_count()).ok()?;
+    if n > MOST_COLUMNS {
+        return None;
+    }
     let real: Option<Vec<ColumnType>> = (0..n as usize)
         .map(|j| event.get_column_type(j).ok().flatten())
         .collect();
     let real = real?;
     let columns = columns_of(event, &real).ok()?;
-    let [low, high] = (6 + 6 * n as u16).to_le_bytes();
-    let mut record = vec![low, high, 1, 0, n, 0];
+    let kind = if n <= u8::MAX.into() { 1 } else { 2 };
+    let mut record: Vec<u8> = [6 + 6 * n, kind, n]
+        .iter()
+        .flat_map(|number| number.to_le_bytes())
+        .collect();
     let mut ranks = Ranks::default();
     for (j, kind) in real.into_iter().enumerate() {
         record.extend_from_slice(&entry(event, &columns, &ranks, j, kind)?);

@@ -1,5 +1,5 @@
 -- The check of a map: "After event reading, in order: n at most 255; each column's type then metadata; no metadata left over; optional
--- fields one by one, contents in full; a repeated key index; room." Assumes nothing.
+-- fields one by one, contents in full; a repeated key index; room." Request 6: "raise the check to 4,096". Assumes nothing.
 use Prim.Native.Nat.{ℕ}
 use mathlib.Core.Bool.{cond}
 use mathlib.Core.List.{List}
@@ -21,7 +21,7 @@ use Rattle.map_check.specs.Fields.{fieldsAt, keepSteps, keepFields}
 use Rattle.map_check.specs.Keys.{keysHold}
 use Rattle.map_check.specs.Profile.{factsOf, entriesFrom}
 
--- "n at most 255": 3 at 0
+-- "refusal 3 now begins at 4,097": at 0
 unfoldable pub fewEnough : List ℕ → Outcome (Unit {0})
 fewEnough types = cond (leb (length types) mostColumns) (ok tt) (refuse 3 0)
 

@@ -1,7 +1,7 @@
--- When the check refuses a map, and where it tells it, in the words of document 01's table and in the order of its list: 3 for "n over 255
--- in the check" at 0; 4 for a "column type not taken" and 5 for "metadata short, left over (place n) or not accepted" at the column; 1 and
--- 2 at the length of an optional field, 6 and 7 at its type byte; "a key repeated is 7, placed at the earliest item that repeats one". Each
--- stands here with what was passed before it, so that no two are given of one map. Assumes nothing.
+-- When the check refuses a map, and where it tells it, in the words of document 01's table and in the order of its list: 3 for "n over
+-- 255 in the check", by request 6 over 4,096, at 0; 4 for a "column type not taken" and 5 for "metadata short, left over (place n) or not
+-- accepted" at the column; 1 and 2 at the length of an optional field, 6 and 7 at its type byte; "a key repeated is 7, placed at the
+-- earliest item that repeats one". Each stands here with what was passed before it, so that no two are given of one map. Assumes nothing.
 use Prim.Native.Nat.{ℕ, suc, _+_, _≤_, _<_}
 use mathlib.Core.Path.{_≡_}
 use mathlib.Core.Bool.{Bool, true, false, cond}

@@ -242,7 +242,7 @@ pub(crate) fn write_record(
     if buf.len() < size {
         return Written::Refused(wire::refuse(NO_ROOM, 0));
     }
-    record::write_head(types.len() as u8, buf);
+    record::write_head(types.len() as u16, buf);
     write_entries(dialect, event, types, metadata, facts, buf);
     Written::Done { next: size }
 }

@@ -16,7 +16,8 @@ use wire::refusal::NO_ROOM;
 // The longest input that is taken. The buffer for it has a byte more, so that a longer one is told.
 const MOST_INPUT: usize = 65536;
 
-// The longest output: a line for each column, of six numbers of up to three digits, or five for the charset.
+// More than the longest output: a line for each column, of six numbers of up to three digits, four for the
+// place and five for the charset, with a byte behind each.
 const MOST_OUTPUT: usize = 32 * record::MOST_COLUMNS;
 
 const POST_HEADER: u8 = 8;

@@ -6,4 +6,5 @@ pub mod Demand2
 pub mod Demand3
 pub mod Readings
 pub mod FirstParts
+pub mod Records
 pub mod Port

@@ -6,6 +6,7 @@ use Rattle.promises.proofs.Demand3.{demand3}
 use Rattle.promises.proofs.Readings.{readings}
 use Rattle.promises.proofs.RowsEvents.{rows-events}
 use Rattle.promises.proofs.FirstParts.{first-parts}
+use Rattle.promises.proofs.Records.{records}
 
 pub port : Port
 port = record {
@@ -15,4 +16,5 @@ port = record {
   readings = readings;
   rows-events = rows-events;
   first-parts = first-parts;
+  records = records;
 }

@@ -25,6 +25,7 @@ use Rattle.promises.specs.Readings.{RowsRefused, rowsRefusals}
 use Rattle.promises.proofs.Readings.Temporals.{temporals}
 use Rattle.promises.proofs.Readings.Metadata.{metadata}
 use Rattle.promises.proofs.Readings.Classes.{classes}
+use Rattle.promises.specs.WorkedMaps.{intEntries}
 use Rattle.promises.proofs.Readings.WorkedMaps.{worked-maps}
 use Rattle.promises.proofs.Readings.Profiles.{profiles}
 use Rattle.promises.proofs.Readings.Numbers.{numbers}
@@ -43,8 +44,8 @@ unfolding otherForms readPacked
 other-forms = refl and refl and refl and refl and refl and refl and refl and done
 
 images : EachRow Holds imageTable
-unfolding imageTable walkImage
-images = refl and refl and refl and done
+unfolding imageTable intEntries walkImage
+images = refl and refl and refl and refl and done
 
 rows-refused : EachRow RowsRefused rowsRefusals
 unfolding rowsRefusals readRows

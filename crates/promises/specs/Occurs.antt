@@ -68,9 +68,9 @@ eventWith types meta bits optional = zeros 12 ++ (length types ∷ (types ++ (le
 abbrev pub oneTiny : List ℕ → List ℕ
 oneTiny optional = eventWith (1 ∷ []) [] (0 ∷ []) optional
 
--- of 256 of them
+-- of 4,097 of them
 abbrev pub manyColumns : List ℕ
-manyColumns = zeros 12 ++ (252 ∷ (0 ∷ (1 ∷ (zeros 256 ++ (0 ∷ zeros 32)))))
+manyColumns = zeros 12 ++ (252 ∷ (1 ∷ (16 ∷ (zeros 4097 ++ (0 ∷ zeros 513)))))
 
 -- what reading tells of its first so many bytes, for each of these numbers
 abbrev pub readFirst : List ℕ → List (Outcome Event)

@@ -5,6 +5,7 @@ use Rattle.promises.specs.Demand3.{Demand3}
 use Rattle.promises.specs.Readings.{Readings}
 use Rattle.promises.specs.RowsEvents.{RowsEvents}
 use Rattle.promises.specs.FirstParts.{FirstParts}
+use Rattle.promises.specs.Records.{Records}
 
 pub record Port : Type 2 where
   -- the user's three demands
@@ -18,3 +19,5 @@ pub record Port : Type 2 where
   pub rows-events : RowsEvents
   -- request 4: which part was out of range
   pub first-parts : FirstParts
+  -- request 6: more than 255 columns
+  pub records : Records

@@ -1,5 +1,5 @@
--- The profile record: it is valid exactly if its bytes are as document 01 has them, told byte by byte and in numbers. `profiles` in
--- proofs/Readings/Profiles.antt proves it. Assumes nothing.
+-- The profile record: it is valid exactly if its bytes are as document 01 and request 6 have them, told byte by byte and in numbers.
+-- `profiles` in proofs/Readings/Profiles.antt proves it. Assumes nothing.
 use Prim.Native.Nat.{ℕ, _+_, _*_, _/_, _%_, _≤_, _<_}
 use mathlib.Core.Path.{_≡_}
 use mathlib.Core.Bool.{true, false}
@@ -41,18 +41,24 @@ pub record ValidColumn (real flags m0 m1 charset : ℕ) : Type 0 where
 abbrev pub byte : List ℕ → ℕ → ℕ
 byte profile i = getD profile i 0
 
+-- of two bytes, little-endian
+abbrev pub number : List ℕ → ℕ → ℕ
+number profile i = byte profile i + 256 * byte profile (i + 1)
+
+-- a kind, and how many columns a record of it has: request 6. In kind 1 the count's second byte is document 01's zero
+pub data KindOf : ℕ → ℕ → Type 0 where
+  few : (n : ℕ) → n ≤ 255 → KindOf 1 n
+  many : (n : ℕ) → 255 < n → n ≤ 4096 → KindOf 2 n
+
 pub record ValidRecord (profile : List ℕ) : Type 0 where
   -- length of the whole record, which has nothing after it
-  pub said : byte profile 0 + 256 * byte profile 1 ≡ length profile
-  -- kind 1
-  pub kind-low : byte profile 2 ≡ 1
-  pub kind-high : byte profile 3 ≡ 0
-  -- n, zero, and 6 bytes a column
-  pub zero : byte profile 5 ≡ 0
-  pub whole : length profile ≡ 6 + 6 * byte profile 4
-  pub columns : (j : ℕ) → j < byte profile 4
+  pub said : number profile 0 ≡ length profile
+  -- kind, n, and 6 bytes a column
+  pub kind : KindOf (number profile 2) (number profile 4)
+  pub whole : length profile ≡ 6 + 6 * number profile 4
+  pub columns : (j : ℕ) → j < number profile 4
       → ValidColumn (byte profile (6 + 6 * j)) (byte profile (7 + 6 * j)) (byte profile (8 + 6 * j)) (byte profile (9 + 6 * j))
-      (byte profile (10 + 6 * j) + 256 * byte profile (11 + 6 * j))
+      (number profile (10 + 6 * j))
 
 -- a column of a map is accepted exactly if its real type, m0 and m1 are so listed; of 254, "247, 248 as above, or 254"
 abbrev pub ListedColumn : Declared → Type 0

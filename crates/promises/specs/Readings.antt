@@ -3,10 +3,10 @@
 -- proofs/Readings.antt proves all of it. Assumes nothing.
 use Prim.Native.Nat.{ℕ}
 use mathlib.Core.Bool.{Bool, true, false}
-use mathlib.Core.List.{List, [], _∷_}
+use mathlib.Core.List.{List, [], _∷_, _++_}
 use mathlib.Core.Path.{_≡_}
-use lib.IntN.{negsuc}
-use lib.ListN.{length}
+use lib.IntN.{pos, negsuc}
+use lib.ListN.{length, replicate}
 use Rattle.wire.specs.Outcome.{Outcome, ok, refused, refuse, after, outOf}
 use Rattle.wire.specs.Bits.{bitLsb0, bitMsb0}
 use Rattle.wire.specs.Packed.{readPacked, packedBytes}
@@ -34,7 +34,7 @@ use Rattle.promises.specs.Tables.{EachRow, both, column, worked, workedE
 use Rattle.promises.specs.Temporals.{Temporals}
 use Rattle.promises.specs.Metadata.{Metadata}
 use Rattle.promises.specs.Classes.{Classes}
-use Rattle.promises.specs.WorkedMaps.{WorkedMaps}
+use Rattle.promises.specs.WorkedMaps.{intEntries, WorkedMaps}
 use Rattle.promises.specs.Profiles.{Profiles}
 use Rattle.promises.specs.Numbers.{Numbers}
 
@@ -118,6 +118,9 @@ imageTable =
     -- the first absent, and spare bits of presence set
     ∷ walked worked (0xfe ∷ []) (0x01 ∷ 0xc8 ∷ []) ((1, null) ∷ (2, uint 200) ∷ []) 2
     ∷ walked worked (0xf8 ∷ []) [] [] 0
+    -- a record of kind 2, of 300 INT columns: the first and the last present
+    ∷ walked (0x0e ∷ 0x07 ∷ 0x02 ∷ 0x00 ∷ 0x2c ∷ 0x01 ∷ intEntries 300) (0x01 ∷ replicate 36 0 ++ (0x08 ∷ []))
+    (0xfc ∷ 0x05 ∷ 0x00 ∷ 0x00 ∷ 0x00 ∷ 0xfe ∷ 0xff ∷ 0xff ∷ 0xff ∷ []) ((0, int (pos 5)) ∷ (299, int (negsuc 1)) ∷ []) 9
     ∷ []
 
 -- ---- rows events

@@ -1,6 +1,6 @@
 -- Maps: worked events with every optional field and their records, in each dialect; and worked refusals of the check, one at least for each
 -- rule, each with its place. `worked-maps` in proofs/Readings/WorkedMaps.antt proves all of it. Assumes nothing.
-use Prim.Native.Nat.{ℕ, _+_}
+use Prim.Native.Nat.{ℕ, zero, suc, _+_}
 use mathlib.Core.Path.{_≡_}
 use mathlib.Core.List.{List, [], _∷_, _++_}
 use lib.Dec.{eqb}
@@ -212,8 +212,8 @@ IsAccepted event = check Document event 8 [] ≡ refuse 8 0
 
 unfoldable pub refusalTable : List MapRefusal
 refusalTable =
-    -- 3: 256 columns, of a type that is not taken
-    refusal (tableR (0xfc ∷ 0x00 ∷ 0x01 ∷ replicate 256 6 ++ (0x00 ∷ replicate 32 0))) 3 0
+    -- 3: 4,097 columns, of a type that is not taken
+    refusal (tableR (0xfc ∷ 0x01 ∷ 0x10 ∷ replicate 4097 6 ++ (0x00 ∷ replicate 513 0))) 3 0
     -- 4: column 1 is of type 6
     ∷ refusal (tableR (0x02 ∷ 0x03 ∷ 0x06 ∷ 0x00 ∷ 0x00 ∷ [])) 4 1
     -- 5: metadata of column 1 short, not accepted, and left over, at 2
@@ -343,8 +343,9 @@ takenTable =
     ∷ tableR (0x01 ∷ 0xf7 ∷ 0x02 ∷ 0xf7 ∷ 0x01 ∷ 0x00 ∷ 0x05 ∷ 0x00 ∷ 0x06 ∷ 0x01 ∷ 0x00 ∷ 0x07 ∷ 0x00 ∷ 0x0d ∷ 0x00 ∷ [])
     ∷ tableR (0x01 ∷ 0xff ∷ 0x01 ∷ 0x04 ∷ 0x00 ∷ 0x05 ∷ 0x00 ∷ 0x06 ∷ 0x00 ∷ 0x07 ∷ 0x01 ∷ 0x00 ∷ 0x0d ∷ 0x00 ∷ [])
     ∷ tableR (0x01 ∷ 0xf2 ∷ 0x01 ∷ 0x04 ∷ 0x00 ∷ 0x05 ∷ 0x00 ∷ 0x06 ∷ 0x00 ∷ 0x07 ∷ 0x00 ∷ 0x0d ∷ 0x01 ∷ 0x00 ∷ [])
-    -- 255 columns
+    -- 255 columns, and 4,096
     ∷ tableR (0xfc ∷ 0xff ∷ 0x00 ∷ replicate 255 3 ++ (0x00 ∷ replicate 32 0))
+    ∷ tableR (0xfc ∷ 0x00 ∷ 0x10 ∷ replicate 4096 3 ++ (0x00 ∷ replicate 512 0))
     ∷ []
 
 -- document 01's event cut short anywhere: how many bytes are left, and the place of the 1
@@ -366,8 +367,42 @@ workedParts =
 abbrev pub bare : ℕ → ℕ → ℕ → List ℕ → EventParts
 bare id database table bits = eventParts id 0 (replicate database 0x61) (replicate table 0x61) [] [] bits []
 
+-- request 6: a map of INT columns, counted in these two bytes, whose bits take so many bytes; its record begins so
+pub record WideMap : Type 0 where
+  pub columns : ℕ
+  pub low : ℕ
+  pub high : ℕ
+  pub bits : ℕ
+  pub head : List ℕ
+
+abbrev pub wide : ℕ → ℕ → ℕ → ℕ → List ℕ → WideMap
+wide columns low high bits head = record { columns = columns; low = low; high = high; bits = bits; head = head }
+
+-- six bytes for each: the type, visible, and nothing else
+unfoldable pub intEntries : ℕ → List ℕ
+intEntries zero = []
+intEntries (suc n) = 0x03 ∷ 0x08 ∷ 0x00 ∷ 0x00 ∷ 0x00 ∷ 0x00 ∷ intEntries n
+
+abbrev pub WideHolds : WideMap → Type 0
+WideHolds x =
+    MapHolds (record {
+      dialect = Document;
+      postHeader = 8;
+      event = tableR (0xfc ∷ x .low ∷ x .high ∷ replicate (x .columns) 3 ++ (0x00 ∷ replicate (x .bits) 0));
+      profile = x .head ++ intEntries (x .columns);
+    })
+
+-- the longest record of kind 1, the shortest of kind 2, and one of 300 columns
+abbrev pub wideTable : List WideMap
+wideTable =
+    wide 255 0xff 0x00 32 (0x00 ∷ 0x06 ∷ 0x01 ∷ 0x00 ∷ 0xff ∷ 0x00 ∷ [])
+    ∷ wide 256 0x00 0x01 32 (0x06 ∷ 0x06 ∷ 0x02 ∷ 0x00 ∷ 0x00 ∷ 0x01 ∷ [])
+    ∷ wide 300 0x2c 0x01 38 (0x0e ∷ 0x07 ∷ 0x02 ∷ 0x00 ∷ 0x2c ∷ 0x01 ∷ [])
+    ∷ []
+
 pub record WorkedMaps : Type 0 where
   pub accepted : EachRow MapHolds mapTable
+  pub accepted-wide : EachRow WideHolds wideTable
   pub refused : EachRow IsRefused refusalTable
   pub taken : EachRow IsAccepted takenTable
   pub cut-short : EachRow IsCut cutPlaces

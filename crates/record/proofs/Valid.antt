@@ -4,13 +4,38 @@ use mathlib.Core.Path.{_≡_, sym, subst}
 use mathlib.Core.Bool.{true}
 use mathlib.Core.List.{List}
 use native.Mathlib.Omega.{arith}
+use borrow.Author.Tests.{leb-true, eqb-true}
+use lib.ListN.{length, take, drop}
+use lib.Dec.{leb, eqb}
 use Rattle.wire.specs.Outcome.{ok, why}
-use Rattle.wire.specs.Number.{Bytes}
+use Rattle.wire.specs.Number.{leValue}
 use Rattle.wire.proofs.Outcomes.{test-is-ok, both-true}
 use Rattle.value.specs.Columns.{shapeOf, isTaken}
 use Rattle.record.specs.Entries.{columnOf, entryHolds}
-use Rattle.record.specs.Records.{mostColumns, countOf, entryIn, entriesHold, headHolds, recordValid, readRecord}
+use Rattle.record.specs.Records.{mostColumns, kindFor, countOf, entryAt, entryIn, entriesHold, headHolds, recordValid, readRecord}
 
+-- ---- what its head says
+pub record Head (r : List ℕ) : Type 0 where
+  pub announced : leValue (take 2 r) ≡ length r
+  pub kind : leValue (take 2 (drop 2 r)) ≡ kindFor (countOf r)
+  pub few : countOf r ≤ mostColumns
+  pub whole : length r ≡ entryAt (countOf r)
+
+pub valid-head : (r : List ℕ) → recordValid r ≡ true → Head r
+unfolding recordValid headHolds
+valid-head r v =
+    let a = both-true (leb 6 (length r)) _ (both-true (headHolds r) _ v .0) in
+    let b = both-true (eqb (leValue (take 2 r)) (length r)) _ (a .1) in
+    let c = both-true (eqb (leValue (take 2 (drop 2 r))) (kindFor (countOf r))) _ (b .1) in
+    let d = both-true (leb (countOf r) mostColumns) _ (c .1) in
+    record {
+      announced = eqb-true (leValue (take 2 r)) (length r) (b .0);
+      kind = eqb-true (leValue (take 2 (drop 2 r))) (kindFor (countOf r)) (c .0);
+      few = leb-true (countOf r) mostColumns (d .0);
+      whole = eqb-true (length r) (entryAt (countOf r)) (d .1);
+    }
+
+-- ---- and its entries
 -- each of the entries from j on may be there
 holds-at : (m : ℕ) (r : List ℕ) (j i : ℕ) → entriesHold m r j ≡ true → i < m → entryHolds (entryIn r (j + i)) ≡ true
 unfolding entriesHold
@@ -36,8 +61,8 @@ unfolding entryHolds
 valid-column r j v h = both-true (isTaken (shapeOf (columnOf (entryIn r j)))) _ (valid-entry r j v h) .0
 
 -- a valid record has no more columns than it may have
-pub valid-few : (r : List ℕ) → Bytes r → recordValid r ≡ true → countOf r ≤ mostColumns
-valid-few r b v = omega (arith, b 4)
+pub valid-few : (r : List ℕ) → recordValid r ≡ true → countOf r ≤ mostColumns
+valid-few r v = valid-head r v .few
 
 -- a record that is read is valid, and its columns are counted
 pub read-valid : (r : List ℕ) (n : ℕ) → readRecord r ≡ ok n → (recordValid r ≡ true) × (n ≡ countOf r)

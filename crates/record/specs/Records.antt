@@ -1,9 +1,11 @@
 -- The record: "Length of the whole record (2 bytes), kind 1 (2), both little-endian, n (1), zero (1), then 6 bytes a column"; "a record
--- with nothing after it is valid if it obeys this". Assumes nothing.
+-- with nothing after it is valid if it obeys this". Kind 2, of more columns than a byte counts: "length (2), kind 2 (2), count (2),
+-- entries as before". Both are one layout, as kind 1's count and zero are a number of two bytes: length, kind, count, entries. The count
+-- tells the kind, so each map has one record. Assumes nothing.
 use Prim.Native.Nat.{ℕ, zero, suc, _+_, _-_, _*_, _^_}
 use mathlib.Core.Bool.{Bool, true, cond, _&&_}
 use mathlib.Core.List.{List, [], _∷_, _++_}
-use lib.ListN.{length, getD, take, drop}
+use lib.ListN.{length, take, drop}
 use lib.Dec.{leb, ltb, eqb}
 use Rattle.wire.specs.Outcome.{Outcome, ok, refused, refuse}
 use Rattle.wire.specs.Number.{leValue, leBytes}
@@ -12,13 +14,18 @@ use Rattle.record.specs.declared.profile.RecordRead.{RecordRead}
 use Rattle.record.specs.declared.profile.RecordRead.the-variants.{Valid, Refused}
 use Rattle.record.specs.Entries.{entryHolds, entryOf, entryBytes}
 
--- how many columns it may have: as many as a byte counts
+-- how many columns it may have: as many as a table of MySQL
 abbrev pub mostColumns : ℕ
-mostColumns = 255
+mostColumns = 4096
+
+-- the kind of a record of n columns: 1 up to what a byte counts
+unfoldable pub kindFor : ℕ → ℕ
+kindFor n = cond (leb n 255) 1 2
 
 -- how many it says it has, and where the entry of column j stands
-abbrev pub countOf : List ℕ → ℕ
-countOf profile = getD profile 4 0
+unfoldable pub countOf : List ℕ → ℕ
+unfolding leValue
+countOf profile = leValue (take 2 (drop 4 profile))
 
 abbrev pub entryAt : ℕ → ℕ
 entryAt j = 6 + 6 * j
@@ -32,33 +39,39 @@ unfoldable pub entryIn : List ℕ → ℕ → Entry
 unfolding entryOf
 entryIn profile j = entryOf (drop (entryAt j) profile)
 
--- the m columns from j on
+-- what it says of the m columns from j on
+unfoldable pub entriesIn : ℕ → List ℕ → ℕ → List Entry
+unfolding entryIn
+entriesIn zero profile j = []
+entriesIn (suc m) profile j = entryIn profile j ∷ entriesIn m profile (suc j)
+
+-- whether each of them may be there
 unfoldable pub entriesHold : ℕ → List ℕ → ℕ → Bool
 unfolding entryHolds entryIn
 entriesHold zero profile j = true
 entriesHold (suc m) profile j = entryHolds (entryIn profile j) && entriesHold m profile (suc j)
 
 unfoldable pub headHolds : List ℕ → Bool
-unfolding leValue
+unfolding leValue kindFor countOf
 headHolds profile =
     leb 6 (length profile)
     && (eqb (leValue (take 2 profile)) (length profile)
-    && (eqb (leValue (take 2 (drop 2 profile))) 1
-    && (eqb (getD profile 5 0) 0 && eqb (length profile) (entryAt (countOf profile)))))
+    && (eqb (leValue (take 2 (drop 2 profile))) (kindFor (countOf profile))
+    && (leb (countOf profile) mostColumns && eqb (length profile) (entryAt (countOf profile)))))
 
 unfoldable pub recordValid : List ℕ → Bool
-unfolding headHolds entriesHold
+unfolding countOf headHolds entriesHold
 recordValid profile = headHolds profile && entriesHold (countOf profile) profile 0
 
 -- the call: how many columns, or refusal 11
 unfoldable pub readRecord : List ℕ → Outcome ℕ
-unfolding recordValid
+unfolding countOf recordValid
 readRecord profile = cond (recordValid profile) (ok (countOf profile)) (refuse 11 0)
 
 -- the six bytes before the entries of n columns
 unfoldable pub headBytes : ℕ → List ℕ
-unfolding leBytes
-headBytes n = leBytes 2 (entryAt n) ++ (leBytes 2 1 ++ (n ∷ (0 ∷ [])))
+unfolding leBytes kindFor
+headBytes n = leBytes 2 (entryAt n) ++ (leBytes 2 (kindFor n) ++ leBytes 2 n)
 
 -- the record of columns: the head, and their entries one behind the other
 unfoldable pub entriesBytes : List Entry → List ℕ

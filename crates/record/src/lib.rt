@@ -1,4 +1,4 @@
-// The profile record, kind 1: what a row reader needs of an accepted map. Added by document 01; the Rust has no such thing.
+// The profile record, of both kinds: what a row reader needs of an accepted map. Added by document 01; the Rust has no such thing.
 mod entry;
 mod profile;
 

@@ -7,10 +7,14 @@ use wire::refusal::BAD_RECORD;
 ghost use mathlib.Core.Path.{_≡_};
 ghost use lib.ListN.{getD};
 ghost use Rattle.wire.specs.Stored.{store, answerOf, leftOf, writtenTold};
-ghost use Rattle.record.specs.Records.{countOf, entryPlace, entryIn, entriesHold, headHolds, readRecord, recordTold, headBytes};
+ghost use Rattle.record.specs.Records.{kindFor, countOf, entryPlace, entryIn, entriesHold, headHolds, readRecord, recordTold};
+ghost use Rattle.record.specs.Records.{headBytes};
 
 // How many columns a record may have.
-pub const MOST_COLUMNS: usize = 255;
+pub const MOST_COLUMNS: usize = 4096;
+
+// How many a record of kind 1 may have: as many as a byte counts.
+const MOST_KIND_1: usize = 255;
 
 // The bytes before the entries, and those of an entry.
 const HEAD: usize = 6;
@@ -43,7 +47,17 @@ fn byte_at(s: &[u8], at: usize) -> u8
 fn count_in(profile: &[u8]) -> usize
     ensures { λ r. ⌜ r ≡ countOf (now (profile .entry)) ⌝ }
 {
-    byte_at(profile, 4) as usize
+    wire::read_le(profile, 4, 2) as usize
+}
+
+// The kind of a record of n columns.
+fn kind_for(n: usize) -> u8
+    ensures { λ r. ⌜ r ≡ kindFor n ⌝ }
+{
+    if n <= MOST_KIND_1 {
+        return 1;
+    }
+    2
 }
 
 // Where the entry of a column stands. A place that fits no machine number is told as the greatest one, where no slice has a byte either, so
@@ -105,13 +119,14 @@ fn head_holds(profile: &[u8]) -> bool
     if wire::read_le(profile, 0, 2) != profile.len() as u64 {
         return false;
     }
-    if wire::read_le(profile, 2, 2) != 1 {
+    let columns = count_in(profile);
+    if wire::read_le(profile, 2, 2) != wire::wide(kind_for(columns)) {
         return false;
     }
-    if byte_at(profile, 5) != 0 {
+    if MOST_COLUMNS < columns {
         return false;
     }
-    profile.len() == entry_at(count_in(profile))
+    profile.len() == entry_at(columns)
 }
 
 // How many columns the record has, if it is valid and nothing stands after it; in one pass over it.
@@ -129,13 +144,22 @@ pub fn read_record(profile: &[u8]) -> RecordRead
 }
 
 // Writes the six bytes before the columns, at the buffer's start.
-pub fn write_head(n: u8, buf: &mut [u8]) -> Written
+pub fn write_head(n: u16, buf: &mut [u8]) -> Written
     ensures { λ r. ⌜ writtenTold r ≡ answerOf (store (headBytes n) (now (buf .entry)) 0) ⌝ }
     ensures { λ _. ⌜ now (buf .exit) ≡ leftOf (now (buf .entry)) (store (headBytes n) (now (buf .entry)) 0) ⌝ }
 {
     let size = entry_at(n as usize);
     let low = (size % 256) as u8;
     let high = (size / 256 % 256) as u8;
-    let bytes = [low, high, 1, 0, n, 0];
+    let columns_low = (n % 256) as u8;
+    let columns_high = (n / 256 % 256) as u8;
+    let bytes = [
+        low,
+        high,
+        kind_for(n as usize),
+        0,
+        columns_low,
+        columns_high,
+    ];
     wire::write_bytes(&bytes, buf, 0)
 }

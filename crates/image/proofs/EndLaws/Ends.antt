@@ -11,7 +11,6 @@ use borrow.Author.Tests.{le-ltb, lt-ltb}
 use lib.ListN.{length, drop, length-drop}
 use Rattle.wire.specs.declared.refusal.Refusal.{Refusal}
 use Rattle.wire.specs.Outcome.{Outcome, ok, refused, refuse, after}
-use Rattle.wire.specs.Number.{Bytes}
 use Rattle.wire.proofs.Outcomes.{after-is-ok, same-ok}
 use Rattle.value.specs.declared.datum.Value.{Value}
 use Rattle.value.specs.declared.shape.Shape.{Shape}
@@ -110,18 +109,16 @@ module _ (r p im : List ℕ) {h : Head} (e : headOf r p ≡ ok h) where
   walk-cut l = ap (λ (w : RowWalked). w .how) walk-begins ∙ rw (e, le-ltb (h .columns) 0 (omega arith), lt-ltb (length im) (h .nulls) l)
 
   module _ (l : h .nulls ≤ length im) where
-    pub going-first : Bytes r → Going r p im (h .columns) (record { column = 0; bit = record { 0 = 0 }; offset = h .nulls })
-    going-first b =
+    pub going-first : Going r p im (h .columns) (record { column = 0; bit = record { 0 = 0 }; offset = h .nulls })
+    going-first =
         let t = head-tested r p e in
         record {
-          placed =
-              record {
-                count =
-                    t .columns;
-                few = omega (arith, t .columns, valid-few r b (t .valid));
-                column = omega arith;
-                rank = sym (count-none p);
-              };
+          placed = record {
+            count = t .columns;
+            few = omega (arith, t .columns, valid-few r (t .valid));
+            column = omega arith;
+            rank = sym (count-none p);
+          };
           within = l;
           rest = ap (λ (w : RowWalked). w .how) walk-begins;
         }

@@ -1,5 +1,5 @@
 -- A valid record, byte by byte. What depends on a type byte alone is computed for each of the 256. Assumes nothing.
-use Prim.Native.Nat.{ℕ, zero, suc, _+_, _-_, _*_, _/_, _%_, _<_}
+use Prim.Native.Nat.{ℕ, zero, suc, _+_, _-_, _*_, _/_, _%_, _≤_, _<_}
 use mathlib.Core.Path.{_≡_, refl, sym, ap, subst, _∙_}
 use mathlib.Core.Bool.{Bool, true, false, cond, _&&_, _||_, true≢false, false≢true}
 use mathlib.Core.List.{List, [], _∷_}
@@ -8,7 +8,7 @@ use native.Mathlib.Omega.{arith}
 use native.Mathlib.Decide.{decLe}
 use borrow.Author.Tests.{le-leb, leb-true, lt-ltb, ltb-true, eq-eqb, ne-eqb, eqb-true, eqb-false}
 use lib.Dec.{T, leb, ltb, eqb}
-use lib.ListN.{length, getD, take, drop}
+use lib.ListN.{length, take, drop}
 use lib.Seq.{getD-drop}
 use Rattle.wire.specs.Number.{Bytes, leValue, isAmong}
 use Rattle.wire.proofs.Each.{each, below}
@@ -25,13 +25,14 @@ use Rattle.value.specs.Classes.{isCharacter, isEnumOrSet}
 use Rattle.value.proofs.Bits.{same, same-so}
 use Rattle.record.specs.declared.entry.Entry.{Entry}
 use Rattle.record.specs.Entries.{unsignedFlag, columnOf, flagsHold, charsetHolds, entryHolds}
-use Rattle.record.specs.Records.{countOf, entryAt, entryIn, entriesHold, headHolds, recordValid}
+use Rattle.record.specs.Records.{mostColumns, kindFor, countOf, entryAt, entryIn, entriesHold, headHolds, recordValid}
 use Rattle.record.proofs.Looks.{entry-bytes}
-use Rattle.record.proofs.Valid.{valid-entry}
+use Rattle.record.proofs.Heads.{kind-few, kind-many}
+use Rattle.record.proofs.Valid.{valid-head, valid-entry}
 use Rattle.map_check.specs.declared.declare.Declared.{Declared}
 use Rattle.map_check.specs.Columns.{isReal, isAccepted}
 use Rattle.promises.specs.Profiles.{Accepted, none, float, double, fraction, blob, json, text, bit, decimal, enum, set, char}
-use Rattle.promises.specs.Profiles.{ValidColumn, byte, ValidRecord, ListedColumn, Profiles}
+use Rattle.promises.specs.Profiles.{ValidColumn, byte, number, KindOf, few, many, ValidRecord, ListedColumn, Profiles}
 
 -- ---- facts of every byte
 -- either way
@@ -292,48 +293,55 @@ module _ (k f m0 m1 c : ℕ) (h : k < 256) (h₀ : m0 < 256) (h₁ : m1 < 256) w
       rw (t, lt-ltb f 16 (v .below-16), g, x)
 
 -- ---- the record
-two : (l : List ℕ) → leValue (take 2 l) ≡ getD l 0 0 + 256 * getD l 1 0
+two : (l : List ℕ) → leValue (take 2 l) ≡ number l 0
 unfolding leValue
 two [] = refl
 two (x ∷ []) = refl
 two (x ∷ y ∷ l) = omega arith
 
-two-from : (l : List ℕ) (o : ℕ) → leValue (take 2 (drop o l)) ≡ getD l o 0 + 256 * getD l (o + 1) 0
+pub two-from : (l : List ℕ) (o : ℕ) → leValue (take 2 (drop o l)) ≡ number l o
 two-from l o =
     let z : o + 0 ≡ o = omega arith in
     two (drop o l) ∙ rw (getD-drop o l 0 0, getD-drop o l 1 0, z)
 
+pub count-is : (r : List ℕ) → countOf r ≡ number r 4
+unfolding countOf
+count-is r = two-from r 4
+
 entry-is : (r : List ℕ) (j : ℕ)
     → entryIn r j
-    ≡ entryWith (byte r (6 + 6 * j)) (byte r (7 + 6 * j)) (byte r (8 + 6 * j)) (byte r (9 + 6 * j))
-    (byte r (10 + 6 * j) + 256 * byte r (11 + 6 * j))
+    ≡ entryWith (byte r (6 + 6 * j)) (byte r (7 + 6 * j)) (byte r (8 + 6 * j)) (byte r (9 + 6 * j)) (number r (10 + 6 * j))
 unfolding entryIn
 entry-is r j =
     let a : 6 + 6 * j + 1 ≡ 7 + 6 * j = omega arith in
     let b : 6 + 6 * j + 2 ≡ 8 + 6 * j = omega arith in
     let c : 6 + 6 * j + 3 ≡ 9 + 6 * j = omega arith in
     let d : 6 + 6 * j + 4 ≡ 10 + 6 * j = omega arith in
-    let e : 10 + 6 * j + 1 ≡ 11 + 6 * j = omega arith in
-    entry-bytes r (6 + 6 * j) ∙ rw (a, b, c, d, two-from r (10 + 6 * j), e)
+    entry-bytes r (6 + 6 * j) ∙ rw (a, b, c, d, two-from r (10 + 6 * j))
+
+-- the kind of a count, as the definition has it
+kind-so : (n : ℕ) → n ≤ mostColumns → KindOf (kindFor n) n
+kind-so n h =
+    dite (decLe n 255) (λ l. subst (λ (k : ℕ). KindOf k n) (sym (kind-few n l)) (few n l))
+    (λ l. subst (λ (k : ℕ). KindOf k n) (sym (kind-many n (omega arith))) (many n (omega arith) h))
+
+so-kind : (k n : ℕ) → KindOf k n → (k ≡ kindFor n) × (n ≤ mostColumns)
+so-kind _ _ (few n h) = (sym (kind-few n h), omega arith)
+so-kind _ _ (many n h l) = (sym (kind-many n h), l)
 
 valid-so : (r : List ℕ) → Bytes r → recordValid r ≡ true → ValidRecord r
-unfolding recordValid headHolds
 valid-so r h v =
-    let a = both-true (headHolds r) (entriesHold (countOf r) r 0) v .0 in
-    let b = both-true (leb 6 (length r)) _ a .1 in
-    let c = both-true (eqb (leValue (take 2 r)) (length r)) _ b in
-    let d = both-true (eqb (leValue (take 2 (drop 2 r))) 1) _ (c .1) in
-    let e = both-true (eqb (getD r 5 0) 0) (eqb (length r) (entryAt (countOf r))) (d .1) in
-    let k : byte r 2 + 256 * byte r 3 ≡ 1 = sym (two-from r 2) ∙ eqb-true (leValue (take 2 (drop 2 r))) 1 (d .0) in
+    let t = valid-head r v in
+    let n = count-is r in
     record {
-      said = sym (two r) ∙ eqb-true (leValue (take 2 r)) (length r) (c .0);
-      kind-low = omega arith;
-      kind-high = omega arith;
-      zero = eqb-true (getD r 5 0) 0 (e .0);
-      whole = eqb-true (length r) (entryAt (countOf r)) (e .1);
+      said = sym (two r) ∙ t .announced;
+      kind =
+          subst (λ (m : ℕ). KindOf (number r 2) m) n
+          (subst (λ (k : ℕ). KindOf k (countOf r)) (sym (t .kind) ∙ two-from r 2) (kind-so (countOf r) (t .few)));
+      whole = t .whole ∙ ap entryAt n;
       columns = λ j l.
           column-so _ _ _ _ _ (h (6 + 6 * j)) (h (8 + 6 * j)) (h (9 + 6 * j))
-          (subst (λ (x : Entry). entryHolds x ≡ true) (entry-is r j) (valid-entry r j v l));
+          (subst (λ (x : Entry). entryHolds x ≡ true) (entry-is r j) (valid-entry r j v (omega (arith, n, l))));
     }
 
 all-hold : (m : ℕ) (r : List ℕ) (j : ℕ) → ((i : ℕ) → i < m → entryHolds (entryIn r (j + i)) ≡ true) → entriesHold m r j ≡ true
@@ -348,15 +356,16 @@ all-hold (suc m) r j f =
 so-valid : (r : List ℕ) → Bytes r → ValidRecord r → recordValid r ≡ true
 unfolding recordValid headHolds
 so-valid r h v =
-    let l = v .whole in
-    let low = v .kind-low in
-    let high = v .kind-high in
-    let k : leValue (take 2 (drop 2 r)) ≡ 1 = two-from r 2 ∙ omega arith in
+    let n = count-is r in
+    let x = so-kind (number r 2) (number r 4) (v .kind) in
+    let l : length r ≡ entryAt (countOf r) = v .whole ∙ ap entryAt (sym n) in
+    let k : leValue (take 2 (drop 2 r)) ≡ kindFor (countOf r) = two-from r 2 ∙ x .0 ∙ ap kindFor (sym n) in
+    let m : countOf r ≤ mostColumns = omega (arith, n, x .1) in
     let a = all-hold (countOf r) r 0 (λ i g.
     let z : 0 + i ≡ i = omega arith in
-    rw z (subst (λ (x : Entry). entryHolds x ≡ true) (sym (entry-is r i))
-    (so-column _ _ _ _ _ (h (6 + 6 * i)) (h (8 + 6 * i)) (h (9 + 6 * i)) (v .columns i g)))) in
-    rw (le-leb 6 (length r) (omega arith), eq-eqb _ _ (two r ∙ v .said), eq-eqb _ 1 k, eq-eqb _ 0 (v .zero), eq-eqb _ _ l, a)
+    rw z (subst (λ (e : Entry). entryHolds e ≡ true) (sym (entry-is r i))
+    (so-column _ _ _ _ _ (h (6 + 6 * i)) (h (8 + 6 * i)) (h (9 + 6 * i)) (v .columns i (omega (arith, n, g)))))) in
+    rw (le-leb 6 (length r) (omega arith), eq-eqb _ _ (two r ∙ v .said), eq-eqb _ _ k, le-leb _ _ m, eq-eqb _ _ l, a)
 
 -- ---- the check's table
 or-none : (a b c : Bool) → (a || (b || (c || false))) ≡ (a || (b || c))

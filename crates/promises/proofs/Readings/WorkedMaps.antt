@@ -6,12 +6,17 @@ use Rattle.table_map.specs.Lists.{groupItem}
 use Rattle.table_map.specs.Fields.{countSignBits, fieldItem}
 use Rattle.map_check.specs.Check.{check}
 use Rattle.promises.specs.Tables.{EachRow, done, _and_}
-use Rattle.promises.specs.WorkedMaps.{MapHolds, mapTable, IsRefused, refusalTable, IsAccepted, takenTable, WorkedMaps}
+use Rattle.promises.specs.WorkedMaps.{MapHolds, mapTable, intEntries, WideHolds, wideTable, IsRefused, refusalTable, IsAccepted}
+use Rattle.promises.specs.WorkedMaps.{takenTable, WorkedMaps}
 
 accepted : EachRow MapHolds mapTable
 unfolding mapTable check countSignBits groupItem
 accepted =
     refl and refl and refl and refl and refl and refl and done
+
+accepted-wide : EachRow WideHolds wideTable
+unfolding intEntries check countSignBits groupItem
+accepted-wide = refl and refl and refl and done
 
 refused : EachRow IsRefused refusalTable
 unfolding refusalTable check countSignBits groupItem
@@ -28,13 +33,14 @@ taken : EachRow IsAccepted takenTable
 unfolding takenTable check countSignBits groupItem
 taken =
     refl and refl and refl and refl and refl and refl and refl and refl and refl and refl and refl and refl and refl and refl
-    and refl and refl and refl and refl and refl and refl and refl and refl and refl and refl and refl and refl and done
+    and refl and refl and refl and refl and refl and refl and refl and refl and refl and refl and refl and refl and refl and done
 
 pub worked-maps : WorkedMaps
 unfolding check countSignBits groupItem readEvent writeEvent eventSize fieldItem
 worked-maps =
     record {
       accepted = accepted;
+      accepted-wide = accepted-wide;
       refused = refused;
       taken = taken;
       cut-short =

@@ -44,7 +44,7 @@ loop-holds : tie.Need-loop-holds Inv-loop μ-loop
 loop-holds c =
     let h = c .before .before in
     let e = sym (h .before .before .read-head .ensures) ∙ ap headTold (h .head .given .1) in
-    going-first _ _ _ e (c .if1 .left) (λ i. omega (arith, h .before .before .before .before .before .shared-slice-known .given i))
+    going-first _ _ _ e (c .if1 .left)
 
 step-inner-requires : tie.Need-step-inner-requires Inv-loop μ-loop
 step-inner-requires c κs = c .loop .inv .placed

@@ -52,19 +52,8 @@ put-inner-requires c κs = let a = c .before .before .before .before .before .be
     ∙ ap headTold (c .before .before .before .before .head .given .1) in
     let t = head-tested (a .profile .now) (a .presence .now) (nulls-tested (a .profile .now) (a .presence .now) (a .nulls .now) q .0) in
     record {
-      count =
-          t .columns;
-      few =
-          omega (
-            arith,
-            t .columns,
-            valid-few (a .profile .now)
-                (λ i. omega (
-                  arith,
-                  c .before .before .before .before .before .before .before .before .before .before .before .shared-slice-known
-                      .given i,
-                )) (t .valid),
-          );
+      count = t .columns;
+      few = omega (arith, t .columns, valid-few (a .profile .now) (t .valid));
       column = omega arith;
       rank = c .before .count-bits .ensures;
     }

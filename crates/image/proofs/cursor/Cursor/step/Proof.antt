@@ -76,19 +76,8 @@ step-inner-requires c κs =
     (sym (c .before .before .before .before .before .before .before .before .read-head .ensures)
     ∙ ap headTold (c .before .before .before .before .before .before .head .given .1)) in
     record {
-      count =
-          t .columns;
-      few =
-          omega (
-            arith,
-            t .columns,
-            valid-few (a .profile .now)
-                (λ i. omega (
-                  arith,
-                  c .before .before .before .before .before .before .before .before .before .before .before .shared-slice-known
-                      .given i,
-                )) (t .valid),
-          );
+      count = t .columns;
+      few = omega (arith, t .columns, valid-few (a .profile .now) (t .valid));
       column = omega arith;
       rank = c .count-bits .ensures;
     }
