@@ -28,7 +28,7 @@ fn put_turns(
     while turns > 0 {
         turns -= 1;
         let turn = take_turn(kind, line, args, room, state);
-        now = put_turn(out, now, form, turn, line, args, room);
+        now = put_turn(form, turn, line, args, room, out, now);
         if turn.is_last {
             return now;
         }
@@ -52,7 +52,7 @@ fn answer_case(
     let lent = &mut room[0..size];
     fill(lent);
     let used = put_turns(kind, form, line, args, lent, out, used);
-    put_byte(out, used, b'\n')
+    put_byte(b'\n', out, used)
 }
 
 // What the table has for a line: the kind's number, where its name ends in the line, and where in the

@@ -19,7 +19,7 @@ fn with_room(out: &[u8], used: usize) -> usize {
 }
 
 // One byte. Only a buffer of no bytes at all would still have no room for it, and lose it.
-pub(crate) fn put_byte(out: &mut [u8], used: usize, b: u8) -> usize {
+pub(crate) fn put_byte(b: u8, out: &mut [u8], used: usize) -> usize {
     let at = with_room(out, used);
     if out.len() <= at {
         return at;
@@ -29,21 +29,21 @@ pub(crate) fn put_byte(out: &mut [u8], used: usize, b: u8) -> usize {
 }
 
 // The bytes as they are.
-pub(crate) fn put_text(out: &mut [u8], used: usize, text: &[u8]) -> usize {
+pub(crate) fn put_text(text: &[u8], out: &mut [u8], used: usize) -> usize {
     let mut now = used;
     let mut i: usize = 0;
     while i < text.len() {
-        now = put_byte(out, now, text[i]);
+        now = put_byte(text[i], out, now);
         i += 1;
     }
     now
 }
 
 // A number in decimal.
-pub(crate) fn put_number(out: &mut [u8], used: usize, n: u64) -> usize {
+pub(crate) fn put_number(n: u64, out: &mut [u8], used: usize) -> usize {
     let mut digits = [0u8; 20];
     let count = io::decimal(n, &mut digits);
-    put_text(out, used, &digits[..count])
+    put_text(&digits[..count], out, used)
 }
 
 fn hex_digit(n: u8) -> u8
@@ -55,20 +55,20 @@ fn hex_digit(n: u8) -> u8
     b'a' + (n - 10)
 }
 
-fn put_hex_byte(out: &mut [u8], used: usize, b: u8) -> usize {
-    let used = put_byte(out, used, hex_digit(b / 16));
-    put_byte(out, used, hex_digit(b % 16))
+fn put_hex_byte(b: u8, out: &mut [u8], used: usize) -> usize {
+    let used = put_byte(hex_digit(b / 16), out, used);
+    put_byte(hex_digit(b % 16), out, used)
 }
 
 // Bytes in hex, `-` where there are none.
-pub(crate) fn put_hex(out: &mut [u8], used: usize, s: &[u8]) -> usize {
+pub(crate) fn put_hex(s: &[u8], out: &mut [u8], used: usize) -> usize {
     if s.len() == 0 {
-        return put_byte(out, used, b'-');
+        return put_byte(b'-', out, used);
     }
     let mut now = used;
     let mut i: usize = 0;
     while i < s.len() {
-        now = put_hex_byte(out, now, s[i]);
+        now = put_hex_byte(s[i], out, now);
         i += 1;
     }
     now

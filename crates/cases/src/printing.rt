@@ -47,12 +47,12 @@ fn taken(letter: u8) -> usize {
     }
 }
 
-fn put_int(out: &mut [u8], used: usize, n: u64) -> usize {
+fn put_int(n: u64, out: &mut [u8], used: usize) -> usize {
     if n < FIRST_NEGATIVE {
-        return put_number(out, used, n);
+        return put_number(n, out, used);
     }
-    let used = put_byte(out, used, b'-');
-    put_number(out, used, u64::MAX - n + 1)
+    let used = put_byte(b'-', out, used);
+    put_number(u64::MAX - n + 1, out, used)
 }
 
 // The sign of a number that is 1 where it is negative.
@@ -74,35 +74,35 @@ fn bytes_of<'a>(letter: u8, first: u64, second: u64, line: &'a [u8], args: &[u64
 
 // One letter of a form, with the numbers that it may take.
 fn put_letter(
-    out: &mut [u8],
-    used: usize,
     letter: u8,
     first: u64,
     second: u64,
     line: &[u8],
     args: &[u64],
     room: &[u8],
+    out: &mut [u8],
+    used: usize,
 ) -> usize {
     match letter {
-        b'N' => put_number(out, used, first),
-        b'I' => put_int(out, used, first),
-        b'S' => put_byte(out, used, sign(first)),
-        b'W' => put_hex(out, used, part(room, first as usize, second as usize)),
-        b'H' | b'E' | b'L' => put_hex(out, used, bytes_of(letter, first, second, line, args)),
-        _ => put_byte(out, used, letter),
+        b'N' => put_number(first, out, used),
+        b'I' => put_int(first, out, used),
+        b'S' => put_byte(sign(first), out, used),
+        b'W' => put_hex(part(room, first as usize, second as usize), out, used),
+        b'H' | b'E' | b'L' => put_hex(bytes_of(letter, first, second, line, args), out, used),
+        _ => put_byte(letter, out, used),
     }
 }
 
 // A form without a star, and its numbers, the first of which stands at `from`.
 fn put_form(
-    out: &mut [u8],
-    used: usize,
     form: &[u8],
     numbers: &[u64],
     from: usize,
     line: &[u8],
     args: &[u64],
     room: &[u8],
+    out: &mut [u8],
+    used: usize,
 ) -> usize {
     let mut now = used;
     let mut at = from;
@@ -111,7 +111,7 @@ fn put_form(
         let letter = form[i];
         let first = nth(numbers, at);
         let second = nth(numbers, plus(at, 1));
-        now = put_letter(out, now, letter, first, second, line, args, room);
+        now = put_letter(letter, first, second, line, args, room, out, now);
         at = plus(at, taken(letter));
         i += 1;
     }
@@ -120,66 +120,66 @@ fn put_form(
 
 // A form without a star, and the turn's own numbers from `from` on.
 fn put_own(
-    out: &mut [u8],
-    used: usize,
     form: &[u8],
     turn: Turn,
     from: usize,
     line: &[u8],
     args: &[u64],
     room: &[u8],
+    out: &mut [u8],
+    used: usize,
 ) -> usize {
     let numbers = turn.numbers;
-    put_form(out, used, form, &numbers, from, line, args, room)
+    put_form(form, &numbers, from, line, args, room, out, used)
 }
 
 // The value or the item of a turn.
 fn put_inner(
-    out: &mut [u8],
-    used: usize,
     turn: Turn,
     line: &[u8],
     args: &[u64],
     room: &[u8],
+    out: &mut [u8],
+    used: usize,
 ) -> usize {
     let parts = turn.parts;
     let inner = row_text(&FORMS, turn.inner);
-    put_form(out, used, inner, &parts, 0, line, args, room)
+    put_form(inner, &parts, 0, line, args, room, out, used)
 }
 
 // A form that may have a star.
 fn put_around(
-    out: &mut [u8],
-    used: usize,
     form: &[u8],
     turn: Turn,
     line: &[u8],
     args: &[u64],
     room: &[u8],
+    out: &mut [u8],
+    used: usize,
 ) -> usize {
     let star = find(form, 0, b'*');
-    let used = put_own(out, used, part(form, 0, star), turn, 0, line, args, room);
+    let used = put_own(part(form, 0, star), turn, 0, line, args, room, out, used);
     if star == form.len() {
         return used;
     }
-    let used = put_inner(out, used, turn, line, args, room);
+    let used = put_inner(turn, line, args, room, out, used);
     let behind = part(form, plus(star, 1), form.len());
-    put_own(out, used, behind, turn, 1, line, args, room)
+    put_own(behind, turn, 1, line, args, room, out, used)
 }
 
 // What one turn says; `form` is the kind's own.
 pub(crate) fn put_turn(
-    out: &mut [u8],
-    used: usize,
     form: &[u8],
     turn: Turn,
     line: &[u8],
     args: &[u64],
     room: &[u8],
+    out: &mut [u8],
+    used: usize,
 ) -> usize {
     if turn.form == OWN {
-        return put_around(out, used, form, turn, line, args, room);
+        return put_around(form, turn, line, args, room, out, used);
     }
     let shared = row_text(&ANSWERS, turn.form);
-    put_own(out, used, shared, turn, 0, line, args, room)
+    put_own(shared, turn, 0, line, args, room, out, used)
 }

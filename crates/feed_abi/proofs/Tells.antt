@@ -26,11 +26,11 @@ use Rattle.feed_abi.specs.Calls.{feedColumn, feedNames}
 
 -- the status s and the numbers x that a call leaves
 abbrev pub Tells : ℕ → List ℕ → Outcome (List ℕ) → ℕ → List ℕ → Type 0
-Tells k out o s x = (s ≡ statusOf k out o) × (x ≡ numbersLeft k out o)
+Tells k out o s x = (s ≡ statusOf k o out) × (x ≡ numbersLeft k o out)
 
 -- and the bytes b that a writer leaves
 abbrev pub Leaves : ℕ → List ℕ → List ℕ → Outcome (List ℕ × List ℕ) → ℕ → List ℕ → List ℕ → Type 0
-Leaves k out buf o s x b = (s ≡ statusOf k out (answerOf o)) × ((x ≡ numbersLeft k out (answerOf o)) × (b ≡ bytesLeft k out buf o))
+Leaves k out buf o s x b = (s ≡ statusOf k (answerOf o) out) × ((x ≡ numbersLeft k (answerOf o) out) × (b ≡ bytesLeft k o out buf))
 
 -- ---- without room for the numbers
 pub no-numbers : (k : ℕ) (out : List ℕ) (o : Outcome (List ℕ)) → length out < k → Tells k out o 8 out
@@ -67,7 +67,7 @@ said-refused k out f o r s x h e p q = tells-refused k out (said f o) r s x h (r
 -- ---- a writer w, whose answer is said in numbers
 pub wrote-ok : {A : Type 0} (k : ℕ) (out buf : List ℕ) (f : A → List ℕ) (w : Outcome (A × List ℕ)) (o : Outcome (List ℕ × List ℕ)) (a : A)
     (s : ℕ) (x b : List ℕ) → k ≤ length out
-    → o ≡ saidWith f w → answerOf w ≡ ok a → s ≡ 0 → x ≡ stored (f a) out 0 → b ≡ leftOf buf w → Leaves k out buf o s x b
+    → o ≡ saidWith f w → answerOf w ≡ ok a → s ≡ 0 → x ≡ stored (f a) out 0 → b ≡ leftOf w buf → Leaves k out buf o s x b
 unfolding statusOf numbersLeft bytesLeft
 wrote-ok k out buf f (ok y) o a s x b h d e p q u =
     let z : y .0 ≡ a = same-ok e in
@@ -77,7 +77,7 @@ wrote-ok k out buf f (refused r) o a s x b h d e p q u = absurd (ok-not-refused 
 pub wrote-refused : {A : Type 0} (k : ℕ) (out buf : List ℕ) (f : A → List ℕ) (w : Outcome (A × List ℕ)) (o : Outcome (List ℕ × List ℕ))
     (r : Refusal) (s : ℕ) (x b : List ℕ)
     → k ≤ length out → o ≡ saidWith f w → answerOf w ≡ refused r → s ≡ r .number → x ≡ stored (r .place ∷ r .part ∷ []) out 0
-    → b ≡ leftOf buf w → Leaves k out buf o s x b
+    → b ≡ leftOf w buf → Leaves k out buf o s x b
 unfolding statusOf numbersLeft bytesLeft
 wrote-refused k out buf f (ok y) o r s x b h d e p q u = absurd (ok-not-refused e)
 wrote-refused k out buf f (refused v) o r s x b h d e p q u =
@@ -88,7 +88,7 @@ wrote-refused k out buf f (refused v) o r s x b h d e p q u =
 pub wrote-told : {A : Type 0} (k : ℕ) (out buf : List ℕ) (f : A → List ℕ) (w : Outcome (A × List ℕ)) (o : Outcome (List ℕ × List ℕ))
     (a : Outcome A) (s : ℕ) (x b : List ℕ)
     → k ≤ length out → o ≡ saidWith f w → a ≡ answerOf w → s ≡ answerNumber (said f a) → x ≡ stored (answerNumbers (said f a)) out 0
-    → b ≡ leftOf buf w → Leaves k out buf o s x b
+    → b ≡ leftOf w buf → Leaves k out buf o s x b
 wrote-told k out buf f w o (ok y) s x b h d e p q u = wrote-ok k out buf f w o y s x b h d (sym e) p q u
 wrote-told k out buf f w o (refused r) s x b h d e p q u = wrote-refused k out buf f w o r s x b h d (sym e) p q u
 
@@ -127,7 +127,7 @@ no-dialect event postHeader n r e = rw e
 
 -- ---- a step, which says too that a value told is one that the machine can hold
 abbrev Steps : List ℕ → Outcome ColumnStepped → ℕ → List ℕ → Type 0
-Steps out o s x = (s ≡ statusOf 11 out (said toldNumbers o)) × ((x ≡ numbersLeft 11 out (said toldNumbers o)) × (s ≡ 0 → Held o))
+Steps out o s x = (s ≡ statusOf 11 (said toldNumbers o) out) × ((x ≡ numbersLeft 11 (said toldNumbers o) out) × (s ≡ 0 → Held o))
 
 pub no-step : (out : List ℕ) (o : Outcome ColumnStepped) → length out < 11 → Steps out o 8 out
 no-step out o h =

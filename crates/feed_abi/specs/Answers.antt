@@ -18,13 +18,13 @@ answerNumbers (ok ns) = ns
 answerNumbers (refused r) = r .place ∷ r .part ∷ []
 
 -- ---- out is the buffer of numbers, and k how many the call's answer has: without room for them the status is 8 and nothing is changed
-unfoldable pub statusOf : ℕ → List ℕ → Outcome (List ℕ) → ℕ
-statusOf k out o = cond (leb k (length out)) (answerNumber o) 8
+unfoldable pub statusOf : ℕ → Outcome (List ℕ) → List ℕ → ℕ
+statusOf k o out = cond (leb k (length out)) (answerNumber o) 8
 
 -- the numbers told stand at its start, and all behind them is as it was
-unfoldable pub numbersLeft : ℕ → List ℕ → Outcome (List ℕ) → List ℕ
-numbersLeft k out o = cond (leb k (length out)) (stored (answerNumbers o) out 0) out
+unfoldable pub numbersLeft : ℕ → Outcome (List ℕ) → List ℕ → List ℕ
+numbersLeft k o out = cond (leb k (length out)) (stored (answerNumbers o) out 0) out
 
 -- what a writer leaves of the bytes lent to it, which a refusal leaves as they were
-unfoldable pub bytesLeft : ℕ → List ℕ → List ℕ → Outcome (List ℕ × List ℕ) → List ℕ
-bytesLeft k out buf o = cond (leb k (length out)) (leftOf buf o) buf
+unfoldable pub bytesLeft : ℕ → Outcome (List ℕ × List ℕ) → List ℕ → List ℕ → List ℕ
+bytesLeft k o out buf = cond (leb k (length out)) (leftOf o buf) buf

@@ -10,7 +10,7 @@ ghost use Rattle.wire.specs.Stored.{stored};
 pub(crate) const NO_NUMBERS: u64 = 8;
 
 // Puts the numbers into out, from at on.
-pub(crate) fn put_numbers(out: &mut [u64], at: usize, numbers: &[u64])
+pub(crate) fn put_numbers(numbers: &[u64], out: &mut [u64], at: usize)
     requires { ⌜ at + length (now numbers) ≤ length (now out) ⌝ }
     ensures { λ _. ⌜ now (out .exit) ≡ stored (now (numbers .entry)) (now (out .entry)) at ⌝ }
 {
@@ -22,22 +22,22 @@ pub(crate) fn put_numbers(out: &mut [u64], at: usize, numbers: &[u64])
 }
 
 // An answer.
-pub(crate) fn tell(out: &mut [u64], numbers: &[u64]) -> u64
+pub(crate) fn tell(numbers: &[u64], out: &mut [u64]) -> u64
     requires { ⌜ length (now numbers) ≤ length (now out) ⌝ }
     ensures { λ r. ⌜ r ≡ 0 ⌝ }
     ensures { λ _. ⌜ now (out .exit) ≡ stored (now (numbers .entry)) (now (out .entry)) 0 ⌝ }
 {
-    put_numbers(out, 0, numbers);
+    put_numbers(numbers, out, 0);
     0
 }
 
 // A refusal: its number is the status, and its place and its part are told.
-pub(crate) fn tell_refusal(out: &mut [u64], refusal: Refusal) -> u64
+pub(crate) fn tell_refusal(refusal: Refusal, out: &mut [u64]) -> u64
     requires { ⌜ 2 ≤ length (now out) ⌝ }
     ensures { λ r. ⌜ r ≡ refusal .number ⌝ }
     ensures { λ _. ⌜ now (out .exit) ≡ stored (refusal .place ∷ refusal .part ∷ []) (now (out .entry)) 0 ⌝ }
 {
     let numbers = [refusal.place as u64, refusal.part as u64];
-    put_numbers(out, 0, &numbers);
+    put_numbers(&numbers, out, 0);
     refusal.number as u64
 }

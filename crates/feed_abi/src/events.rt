@@ -59,7 +59,7 @@ fn second_given(second: Second) -> Given
     }
 }
 
-fn tell_rows(out: &mut [u64], rows: Rows) -> u64
+fn tell_rows(rows: Rows, out: &mut [u64]) -> u64
     requires { ⌜ 10 ≤ length (now out) ⌝ }
     ensures { λ r. ⌜ r ≡ 0 ⌝ }
     ensures { λ _. ⌜ now (out .exit) ≡ stored (rowsNumbers rows) (now (out .entry)) 0 ⌝ }
@@ -81,10 +81,10 @@ fn tell_rows(out: &mut [u64], rows: Rows) -> u64
         second.len,
         rows.images as u64,
     ];
-    tell(out, &numbers)
+    tell(&numbers, out)
 }
 
-fn tell_image(out: &mut [u64], part: Part, second: bool, next: Images) -> u64
+fn tell_image(part: Part, second: bool, next: Images, out: &mut [u64]) -> u64
     requires { ⌜ 6 ≤ length (now out) ⌝ }
     ensures { λ r. ⌜ r ≡ 0 ⌝ }
     ensures { λ _. ⌜ now (out .exit) ≡ stored (imageNumbers (imageMet part second next)) (now (out .entry)) 0 ⌝ }
@@ -97,7 +97,7 @@ fn tell_image(out: &mut [u64], part: Part, second: bool, next: Images) -> u64
         next.at as u64,
         next.second as u64,
     ];
-    tell(out, &numbers)
+    tell(&numbers, out)
 }
 
 fn tell_end(out: &mut [u64]) -> u64
@@ -106,7 +106,7 @@ fn tell_end(out: &mut [u64]) -> u64
     ensures { λ _. ⌜ now (out .exit) ≡ stored (imageNumbers end) (now (out .entry)) 0 ⌝ }
 {
     let numbers = [0, 0, 0, 0, 0, 0];
-    tell(out, &numbers)
+    tell(&numbers, out)
 }
 
 // The second set that numbers ask for: 0 is none, and any other number one.
@@ -142,16 +142,16 @@ pub extern "C" fn feed_rows(
     event: &[u8],
     out: &mut [u64],
 ) -> u64
-    ensures { λ r. ⌜ r ≡ statusOf 10 (now (out .entry)) (feedRows code (now (profile .entry)) table (now (event .entry))) ⌝ }
+    ensures { λ r. ⌜ r ≡ statusOf 10 (feedRows code (now (profile .entry)) table (now (event .entry))) (now (out .entry)) ⌝ }
     ensures { λ _. ⌜ now (out .exit)
-        ≡ numbersLeft 10 (now (out .entry)) (feedRows code (now (profile .entry)) table (now (event .entry))) ⌝ }
+        ≡ numbersLeft 10 (feedRows code (now (profile .entry)) table (now (event .entry))) (now (out .entry)) ⌝ }
 {
     if out.len() < 10 {
         return NO_NUMBERS;
     }
     match rows_event::read_rows(code, profile, table, event) {
-        RowsRead::Read(rows) => tell_rows(out, rows),
-        RowsRead::Refused(r) => tell_refusal(out, r),
+        RowsRead::Read(rows) => tell_rows(rows, out),
+        RowsRead::Refused(r) => tell_refusal(r, out),
     }
 }
 
@@ -170,13 +170,12 @@ pub extern "C" fn feed_image(
     second: u64,
     out: &mut [u64],
 ) -> u64
-    ensures { λ r. ⌜ r ≡ statusOf 6 (now (out .entry))
-        (feedImage (now (profile .entry)) (now (event .entry)) «first_start» «first_length» «has_second» «second_start» «second_length»
-        offset second) ⌝ }
+    ensures { λ r. ⌜ r
+        ≡ statusOf 6 (feedImage (now (profile .entry)) (now (event .entry)) «first_start» «first_length» «has_second» «second_start»
+        «second_length» offset second) (now (out .entry)) ⌝ }
     ensures { λ _. ⌜ now (out .exit)
-        ≡ numbersLeft 6 (now (out .entry))
-        (feedImage (now (profile .entry)) (now (event .entry)) «first_start» «first_length» «has_second» «second_start» «second_length»
-        offset second) ⌝ }
+        ≡ numbersLeft 6 (feedImage (now (profile .entry)) (now (event .entry)) «first_start» «first_length» «has_second» «second_start»
+        «second_length» offset second) (now (out .entry)) ⌝ }
 {
     if out.len() < 6 {
         return NO_NUMBERS;
@@ -198,8 +197,8 @@ pub extern "C" fn feed_image(
             image,
             second,
             next,
-        } => tell_image(out, image, second, next),
+        } => tell_image(image, second, next, out),
         ImageStep::End => tell_end(out),
-        ImageStep::Refused(r) => tell_refusal(out, r),
+        ImageStep::Refused(r) => tell_refusal(r, out),
     }
 }

@@ -24,17 +24,17 @@ ghost use Rattle.image.specs.Puts.{putTold};
 ghost use Rattle.feed_abi.specs.Answers.{answerNumber, answerNumbers, statusOf, numbersLeft, bytesLeft};
 ghost use Rattle.feed_abi.specs.Calls.{said, cursorNumbers, stepNumbers, Held, feedFirst, feedStep, feedStart, feedPut};
 
-fn tell_cursor(out: &mut [u64], at: Cursor) -> u64
+fn tell_cursor(at: Cursor, out: &mut [u64]) -> u64
     requires { ⌜ 2 ≤ length (now out) ⌝ }
     ensures { λ r. ⌜ r ≡ 0 ⌝ }
     ensures { λ _. ⌜ now (out .exit) ≡ stored (cursorNumbers at) (now (out .entry)) 0 ⌝ }
 {
     let numbers = [at.column as u64, at.offset as u64];
-    tell(out, &numbers)
+    tell(&numbers, out)
 }
 
 // A column's value, NULL too.
-fn tell_value(out: &mut [u64], column: usize, value: Value, next: Cursor) -> u64
+fn tell_value(column: usize, value: Value, next: Cursor, out: &mut [u64]) -> u64
     requires { ⌜ 11 ≤ length (now out) ⌝ }
     ensures { λ r. ⌜ r ≡ 0 ⌝ }
     ensures { λ _. ⌜ now (out .exit) ≡ stored (stepNumbers (sortOf value) column next (partsOf value)) (now (out .entry)) 0 ⌝ }
@@ -47,45 +47,45 @@ fn tell_value(out: &mut [u64], column: usize, value: Value, next: Cursor) -> u64
         next.offset as u64,
     ];
     let parts = parts_of(value);
-    put_numbers(out, 0, &head);
-    put_numbers(out, 4, &parts);
+    put_numbers(&head, out, 0);
+    put_numbers(&parts, out, 4);
     0
 }
 
 // The end of an image: no column, and the bytes used.
-fn tell_end(out: &mut [u64], used: usize) -> u64
+fn tell_end(used: usize, out: &mut [u64]) -> u64
     requires { ⌜ 11 ≤ length (now out) ⌝ }
     ensures { λ r. ⌜ r ≡ 0 ⌝ }
     ensures { λ _. ⌜ now (out .exit) ≡ stored (stepNumbers 0 0 (cursor 0 used) []) (now (out .entry)) 0 ⌝ }
 {
     let numbers = [0, 0, 0, used as u64, 0, 0, 0, 0, 0, 0, 0];
-    tell(out, &numbers)
+    tell(&numbers, out)
 }
 
 // What a writer of images answered.
-fn tell_put(out: &mut [u64], put: Put) -> u64
+fn tell_put(put: Put, out: &mut [u64]) -> u64
     requires { ⌜ 2 ≤ length (now out) ⌝ }
     ensures { λ r. ⌜ r ≡ answerNumber (said cursorNumbers (putTold put)) ⌝ }
     ensures { λ _. ⌜ now (out .exit) ≡ stored (answerNumbers (said cursorNumbers (putTold put))) (now (out .entry)) 0 ⌝ }
 {
     match put {
-        Put::Next(next) => tell_cursor(out, next),
-        Put::Refused(r) => tell_refusal(out, r),
+        Put::Next(next) => tell_cursor(next, out),
+        Put::Refused(r) => tell_refusal(r, out),
     }
 }
 
 // The cursor that a walk begins with: column and offset.
 #[no_mangle]
 pub extern "C" fn feed_first(profile: &[u8], presence: &[u8], out: &mut [u64]) -> u64
-    ensures { λ r. ⌜ r ≡ statusOf 2 (now (out .entry)) (feedFirst (now (profile .entry)) (now (presence .entry))) ⌝ }
-    ensures { λ _. ⌜ now (out .exit) ≡ numbersLeft 2 (now (out .entry)) (feedFirst (now (profile .entry)) (now (presence .entry))) ⌝ }
+    ensures { λ r. ⌜ r ≡ statusOf 2 (feedFirst (now (profile .entry)) (now (presence .entry))) (now (out .entry)) ⌝ }
+    ensures { λ _. ⌜ now (out .exit) ≡ numbersLeft 2 (feedFirst (now (profile .entry)) (now (presence .entry))) (now (out .entry)) ⌝ }
 {
     if out.len() < 2 {
         return NO_NUMBERS;
     }
     match image::first_cursor(profile, presence) {
-        First::At(at) => tell_cursor(out, at),
-        First::Refused(r) => tell_refusal(out, r),
+        First::At(at) => tell_cursor(at, out),
+        First::Refused(r) => tell_refusal(r, out),
     }
 }
 
@@ -99,10 +99,10 @@ pub extern "C" fn feed_step(
     offset: usize,
     out: &mut [u64],
 ) -> u64
-    ensures { λ r. ⌜ r ≡ statusOf 11 (now (out .entry))
-        (feedStep (now (profile .entry)) (now (presence .entry)) (now (image .entry)) column offset) ⌝ }
+    ensures { λ r. ⌜ r ≡ statusOf 11 (feedStep (now (profile .entry)) (now (presence .entry)) (now (image .entry)) column offset)
+        (now (out .entry)) ⌝ }
     ensures { λ _. ⌜ now (out .exit)
-        ≡ numbersLeft 11 (now (out .entry)) (feedStep (now (profile .entry)) (now (presence .entry)) (now (image .entry)) column offset) ⌝ }
+        ≡ numbersLeft 11 (feedStep (now (profile .entry)) (now (presence .entry)) (now (image .entry)) column offset) (now (out .entry)) ⌝ }
     ensures { λ r. ⌜ (r ≡ 0
         → Held (stepFrom (now (profile .entry)) (now (presence .entry)) (now (image .entry)) (cursor column offset))) ⌝ }
 {
@@ -111,14 +111,14 @@ pub extern "C" fn feed_step(
     }
     let at = Cursor { column, offset };
     match at.step(profile, presence, image) {
-        Step::Null { column, next } => tell_value(out, column, Value::Null, next),
+        Step::Null { column, next } => tell_value(column, Value::Null, next, out),
         Step::Value {
             column,
             value,
             next,
-        } => tell_value(out, column, value, next),
-        Step::End { used } => tell_end(out, used),
-        Step::Refused(r) => tell_refusal(out, r),
+        } => tell_value(column, value, next, out),
+        Step::End { used } => tell_end(used, out),
+        Step::Refused(r) => tell_refusal(r, out),
     }
 }
 
@@ -131,19 +131,20 @@ pub extern "C" fn feed_start(
     image: &mut [u8],
     out: &mut [u64],
 ) -> u64
-    ensures { λ r. ⌜ r ≡ statusOf 2 (now (out .entry))
-        (answerOf (feedStart (now (profile .entry)) (now (presence .entry)) (now (nulls .entry)) (now (image .entry)))) ⌝ }
+    ensures { λ r. ⌜ r
+        ≡ statusOf 2 (answerOf (feedStart (now (profile .entry)) (now (presence .entry)) (now (nulls .entry)) (now (image .entry))))
+        (now (out .entry)) ⌝ }
     ensures { λ _. ⌜ now (out .exit)
-        ≡ numbersLeft 2 (now (out .entry))
-        (answerOf (feedStart (now (profile .entry)) (now (presence .entry)) (now (nulls .entry)) (now (image .entry)))) ⌝ }
+        ≡ numbersLeft 2 (answerOf (feedStart (now (profile .entry)) (now (presence .entry)) (now (nulls .entry)) (now (image .entry))))
+        (now (out .entry)) ⌝ }
     ensures { λ _. ⌜ now (image .exit)
-        ≡ bytesLeft 2 (now (out .entry)) (now (image .entry))
-        (feedStart (now (profile .entry)) (now (presence .entry)) (now (nulls .entry)) (now (image .entry))) ⌝ }
+        ≡ bytesLeft 2 (feedStart (now (profile .entry)) (now (presence .entry)) (now (nulls .entry)) (now (image .entry)))
+        (now (out .entry)) (now (image .entry)) ⌝ }
 {
     if out.len() < 2 {
         return NO_NUMBERS;
     }
-    tell_put(out, image::start(profile, presence, nulls, image))
+    tell_put(image::start(profile, presence, nulls, image), out)
 }
 
 // Stores one value, or nothing for NULL, at a cursor: the cursor of the next.
@@ -160,25 +161,23 @@ pub extern "C" fn feed_put(
     image: &mut [u8],
     out: &mut [u64],
 ) -> u64
-    ensures { λ r. ⌜ r ≡ statusOf 2 (now (out .entry))
-        (answerOf (feedPut (now (profile .entry)) (now (presence .entry)) (now (nulls .entry)) column offset sort (now (parts .entry))
-        (now (lent .entry)) (now (image .entry)))) ⌝ }
+    ensures { λ r. ⌜ r
+        ≡ statusOf 2 (answerOf (feedPut (now (profile .entry)) (now (presence .entry)) (now (nulls .entry)) column offset sort
+        (now (parts .entry)) (now (lent .entry)) (now (image .entry)))) (now (out .entry)) ⌝ }
     ensures { λ _. ⌜ now (out .exit)
-        ≡ numbersLeft 2 (now (out .entry))
-        (answerOf (feedPut (now (profile .entry)) (now (presence .entry)) (now (nulls .entry)) column offset sort (now (parts .entry))
-        (now (lent .entry)) (now (image .entry)))) ⌝ }
+        ≡ numbersLeft 2 (answerOf (feedPut (now (profile .entry)) (now (presence .entry)) (now (nulls .entry)) column offset sort
+        (now (parts .entry)) (now (lent .entry)) (now (image .entry)))) (now (out .entry)) ⌝ }
     ensures { λ _. ⌜ now (image .exit)
-        ≡ bytesLeft 2 (now (out .entry)) (now (image .entry))
-        (feedPut (now (profile .entry)) (now (presence .entry)) (now (nulls .entry)) column offset sort (now (parts .entry))
-        (now (lent .entry)) (now (image .entry))) ⌝ }
+        ≡ bytesLeft 2 (feedPut (now (profile .entry)) (now (presence .entry)) (now (nulls .entry)) column offset sort
+        (now (parts .entry)) (now (lent .entry)) (now (image .entry))) (now (out .entry)) (now (image .entry)) ⌝ }
 {
     if out.len() < 2 {
         return NO_NUMBERS;
     }
     let value = match value_of(sort, parts) {
         Made::Value(value) => value,
-        Made::Refused(r) => return tell_refusal(out, r),
+        Made::Refused(r) => return tell_refusal(r, out),
     };
     let at = Cursor { column, offset };
-    tell_put(out, at.put(profile, presence, nulls, value, lent, image))
+    tell_put(at.put(profile, presence, nulls, value, lent, image), out)
 }

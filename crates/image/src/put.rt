@@ -51,7 +51,7 @@ pub fn start(profile: &[u8], presence: &[u8], nulls: &[u8], buf: &mut [u8]) -> P
     ensures { λ r. ⌜ putTold r
         ≡ answerOf (startImage (now (profile .entry)) (now (presence .entry)) (now (nulls .entry)) (now (buf .entry))) ⌝ }
     ensures { λ _. ⌜ now (buf .exit)
-        ≡ leftOf (now (buf .entry)) (startImage (now (profile .entry)) (now (presence .entry)) (now (nulls .entry)) (now (buf .entry))) ⌝ }
+        ≡ leftOf (startImage (now (profile .entry)) (now (presence .entry)) (now (nulls .entry)) (now (buf .entry))) (now (buf .entry)) ⌝ }
 {
     let head = match read_head_nulls(profile, presence, nulls) {
         HeadRead::Read(head) => head,
@@ -105,9 +105,9 @@ fn put_inner(
         ≡ answerOf (putOver (slotsAt (now (profile .entry)) (now (presence .entry)) (now (nulls .entry)) (at .column)) (cursorOf at)
         (now (lent .entry)) value (now (buf .entry))) ⌝ }
     ensures { λ _. ⌜ now (buf .exit)
-        ≡ leftOf (now (buf .entry))
-        (putOver (slotsAt (now (profile .entry)) (now (presence .entry)) (now (nulls .entry)) (at .column)) (cursorOf at)
-        (now (lent .entry)) value (now (buf .entry))) ⌝ }
+        ≡ leftOf (putOver (slotsAt (now (profile .entry)) (now (presence .entry)) (now (nulls .entry)) (at .column)) (cursorOf at)
+        (now (lent .entry)) value (now (buf .entry)))
+        (now (buf .entry)) ⌝ }
 {
     let column = first_set(presence, at.column, columns);
     if column == columns {
@@ -165,9 +165,9 @@ impl Cursor {
             ≡ answerOf (putFrom (now (profile .entry)) (now (presence .entry)) (now (nulls .entry)) self (now (lent .entry)) value
             (now (buf .entry))) ⌝ }
         ensures { λ _. ⌜ now (buf .exit)
-            ≡ leftOf (now (buf .entry))
-            (putFrom (now (profile .entry)) (now (presence .entry)) (now (nulls .entry)) self (now (lent .entry)) value
-            (now (buf .entry))) ⌝ }
+            ≡ leftOf (putFrom (now (profile .entry)) (now (presence .entry)) (now (nulls .entry)) self (now (lent .entry)) value
+            (now (buf .entry)))
+            (now (buf .entry)) ⌝ }
     {
         let column = self.column;
         let offset = self.offset;

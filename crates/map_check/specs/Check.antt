@@ -44,10 +44,10 @@ unfolding readEvent checkEvent
 checkMap d s postHeader = after (readEvent s postHeader) (λ e. checkEvent d s e)
 
 -- its record in a buffer: the record's length and the buffer with the record at its start, or 8 at 0 for room
-abbrev pub written : List ℕ → Outcome (List Entry) → Outcome (ℕ × List ℕ)
-written buf o = after o (λ es. store (recordBytes es) buf 0)
+abbrev pub written : Outcome (List Entry) → List ℕ → Outcome (ℕ × List ℕ)
+written o buf = after o (λ es. store (recordBytes es) buf 0)
 
 -- the call
 unfoldable pub check : Dialect → List ℕ → ℕ → List ℕ → Outcome (ℕ × List ℕ)
 unfolding checkMap recordBytes store
-check d s postHeader buf = written buf (checkMap d s postHeader)
+check d s postHeader buf = written (checkMap d s postHeader) buf

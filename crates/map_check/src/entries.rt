@@ -234,9 +234,9 @@ pub(crate) fn write_record(
         (entriesFrom dialect (now (event .entry)) facts (declareAll (now (types .entry)) (now (metadata .entry))) (tablePlace 0)
         noRanks)) (now (buf .entry)) 0) ⌝ }
     ensures { λ _. ⌜ now (buf .exit)
-        ≡ leftOf (now (buf .entry))
-        (store (recordBytes (entriesFrom dialect (now (event .entry)) facts (declareAll (now (types .entry)) (now (metadata .entry)))
-        (tablePlace 0) noRanks)) (now (buf .entry)) 0) ⌝ }
+        ≡ leftOf (store (recordBytes
+        (entriesFrom dialect (now (event .entry)) facts (declareAll (now (types .entry)) (now (metadata .entry))) (tablePlace 0)
+        noRanks)) (now (buf .entry)) 0) (now (buf .entry)) ⌝ }
 {
     let size = record::entry_at(types.len());
     if buf.len() < size {

@@ -20,9 +20,9 @@ ghost use Rattle.map_check.specs.Check.{checkEvent, written, check};
 
 // An event that was read: its columns, its fields, its keys, and room for its record.
 fn check_event(dialect: Dialect, event: &[u8], e: Event, buf: &mut [u8]) -> Written
-    ensures { λ r. ⌜ writtenTold r ≡ answerOf (written (now (buf .entry)) (checkEvent dialect (now (event .entry)) e)) ⌝ }
+    ensures { λ r. ⌜ writtenTold r ≡ answerOf (written (checkEvent dialect (now (event .entry)) e) (now (buf .entry))) ⌝ }
     ensures { λ _. ⌜ now (buf .exit)
-        ≡ leftOf (now (buf .entry)) (written (now (buf .entry)) (checkEvent dialect (now (event .entry)) e)) ⌝ }
+        ≡ leftOf (written (checkEvent dialect (now (event .entry)) e) (now (buf .entry))) (now (buf .entry)) ⌝ }
 {
     let types = part_of(event, e.types);
     let metadata = part_of(event, e.metadata);
@@ -53,7 +53,7 @@ fn check_event(dialect: Dialect, event: &[u8], e: Event, buf: &mut [u8]) -> Writ
 // `post_header` is the post-header length that the format description gives for table maps.
 pub fn check(event: &[u8], post_header: u8, dialect: Dialect, buf: &mut [u8]) -> Written
     ensures { λ r. ⌜ writtenTold r ≡ answerOf (check dialect (now (event .entry)) «post_header» (now (buf .entry))) ⌝ }
-    ensures { λ _. ⌜ now (buf .exit) ≡ leftOf (now (buf .entry)) (check dialect (now (event .entry)) «post_header» (now (buf .entry))) ⌝ }
+    ensures { λ _. ⌜ now (buf .exit) ≡ leftOf (check dialect (now (event .entry)) «post_header» (now (buf .entry))) (now (buf .entry)) ⌝ }
 {
     match table_map::read_event(event, post_header) {
         EventRead::Read(e) => check_event(dialect, event, e, buf),

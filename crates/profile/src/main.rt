@@ -70,58 +70,58 @@ fn word_asked() -> Asked {
     dialect_of(&word[..length])
 }
 
-fn put_refused(out: &mut [u8], used: usize, refusal: Refusal) -> usize {
-    let used = put_text(out, used, b"refused ");
-    let used = put_number(out, used, refusal.number as u64, b' ');
-    put_number(out, used, refusal.place as u64, b'\n')
+fn put_refused(refusal: Refusal, out: &mut [u8], used: usize) -> usize {
+    let used = put_text(b"refused ", out, used);
+    let used = put_number(refusal.number as u64, b' ', out, used);
+    put_number(refusal.place as u64, b'\n', out, used)
 }
 
 // Three numbers, and the byte behind the last.
-fn put_three(out: &mut [u8], used: usize, a: u64, b: u64, c: u64, behind: u8) -> usize {
-    let used = put_number(out, used, a, b' ');
-    let used = put_number(out, used, b, b' ');
-    put_number(out, used, c, behind)
+fn put_three(a: u64, b: u64, c: u64, behind: u8, out: &mut [u8], used: usize) -> usize {
+    let used = put_number(a, b' ', out, used);
+    let used = put_number(b, b' ', out, used);
+    put_number(c, behind, out, used)
 }
 
-fn put_column(out: &mut [u8], used: usize, place: usize, entry: Entry) -> usize {
+fn put_column(place: usize, entry: Entry, out: &mut [u8], used: usize) -> usize {
     let used = put_three(
-        out,
-        used,
         place as u64,
         entry.real as u64,
         entry.flags as u64,
         b' ',
-    );
-    put_three(
         out,
         used,
+    );
+    put_three(
         entry.m0 as u64,
         entry.m1 as u64,
         entry.charset as u64,
         b'\n',
+        out,
+        used,
     )
 }
 
 // A line for each column whose entry stands within a record of so many bytes.
-fn put_columns(out: &mut [u8], profile: &[u8], length: usize) -> usize {
+fn put_columns(profile: &[u8], length: usize, out: &mut [u8]) -> usize {
     let mut used: usize = 0;
     let mut j: usize = 0;
     while record::entry_at(j) < length {
-        used = put_column(out, used, j, record::entry_in(profile, j));
+        used = put_column(j, record::entry_in(profile, j), out, used);
         j += 1;
     }
     used
 }
 
 // The lines for an event.
-fn put_profile(out: &mut [u8], event: &[u8], dialect: Dialect) -> usize {
+fn put_profile(event: &[u8], dialect: Dialect, out: &mut [u8]) -> usize {
     if MOST_INPUT < event.len() {
-        return put_refused(out, 0, wire::refuse(NO_ROOM, 0));
+        return put_refused(wire::refuse(NO_ROOM, 0), out, 0);
     }
     let mut profile = [0u8; record::MOST_BYTES];
     match map_check::check(event, POST_HEADER, dialect, &mut profile) {
-        Written::Done { next } => put_columns(out, &profile, next),
-        Written::Refused(refusal) => put_refused(out, 0, refusal),
+        Written::Done { next } => put_columns(&profile, next, out),
+        Written::Refused(refusal) => put_refused(refusal, out, 0),
     }
 }
 
@@ -144,6 +144,6 @@ fn main() {
     let mut event = [0u8; MOST_INPUT + 1];
     let mut out = [0u8; MOST_OUTPUT];
     let length = io::read_full(STDIN_FILENO, &mut event);
-    let used = put_profile(&mut out, &event[..length], dialect);
+    let used = put_profile(&event[..length], dialect, &mut out);
     print(&out, used);
 }

@@ -1,7 +1,7 @@
 // What is printed, gathered in a buffer: `used` bytes of `out` wait, and each function returns the
 // new count. What has no room is left out; the buffer holds a line for each column that a record may have.
 
-fn put_byte(out: &mut [u8], used: usize, b: u8) -> usize {
+fn put_byte(b: u8, out: &mut [u8], used: usize) -> usize {
     if out.len() <= used {
         return used;
     }
@@ -10,20 +10,20 @@ fn put_byte(out: &mut [u8], used: usize, b: u8) -> usize {
 }
 
 // The bytes as they are.
-pub(crate) fn put_text(out: &mut [u8], used: usize, text: &[u8]) -> usize {
+pub(crate) fn put_text(text: &[u8], out: &mut [u8], used: usize) -> usize {
     let mut now = used;
     let mut i: usize = 0;
     while i < text.len() {
-        now = put_byte(out, now, text[i]);
+        now = put_byte(text[i], out, now);
         i += 1;
     }
     now
 }
 
 // A number in decimal, and the byte behind it.
-pub(crate) fn put_number(out: &mut [u8], used: usize, n: u64, behind: u8) -> usize {
+pub(crate) fn put_number(n: u64, behind: u8, out: &mut [u8], used: usize) -> usize {
     let mut digits = [0u8; 20];
     let count = io::decimal(n, &mut digits);
-    let used = put_text(out, used, &digits[..count]);
-    put_byte(out, used, behind)
+    let used = put_text(&digits[..count], out, used);
+    put_byte(behind, out, used)
 }

@@ -94,28 +94,28 @@ pub record AbiCalls : Type 1 where
   -- ---- all calls: out is the buffer of numbers, and k how many the call's answer has
   -- the status is 0 exactly if the answer is no refusal and there is room for its numbers
   pub status-zero : (k : ℕ) (out : List ℕ) (answer : Outcome (List ℕ)) (ls : List Line) → Only answer ls
-      → (statusOf k out answer ≡ 0 → Answered k out answer) × (Answered k out answer → statusOf k out answer ≡ 0)
+      → (statusOf k answer out ≡ 0 → Answered k out answer) × (Answered k out answer → statusOf k answer out ≡ 0)
   -- else it is a number of document 01's table
-  pub status-table : (k : ℕ) (out : List ℕ) (answer : Outcome (List ℕ)) (ls : List Line) → Only answer ls → (statusOf k out answer ≡ 0 → ⊥)
-      → isAmong (statusOf k out answer) refusalNumbers ≡ true
+  pub status-table : (k : ℕ) (out : List ℕ) (answer : Outcome (List ℕ)) (ls : List Line) → Only answer ls → (statusOf k answer out ≡ 0 → ⊥)
+      → isAmong (statusOf k answer out) refusalNumbers ≡ true
   -- that of the refusal, whose place and part are then the first two numbers; without room for the numbers it is 8, and they are as they
   -- were
   pub status-told : (k : ℕ) (out : List ℕ) (answer : Outcome (List ℕ)) (w : Refusal) → 2 ≤ k → k ≤ length out → answer ≡ refused w
-      → (statusOf k out answer ≡ w .number) × (getD (numbersLeft k out answer) 0 0 ≡ w .place)
-      × (getD (numbersLeft k out answer) 1 0 ≡ w .part)
+      → (statusOf k answer out ≡ w .number) × (getD (numbersLeft k answer out) 0 0 ≡ w .place)
+      × (getD (numbersLeft k answer out) 1 0 ≡ w .part)
   pub no-numbers : (k : ℕ) (out : List ℕ) (answer : Outcome (List ℕ)) → length out < k
-      → (statusOf k out answer ≡ 8) × (numbersLeft k out answer ≡ out)
+      → (statusOf k answer out ≡ 8) × (numbersLeft k answer out ≡ out)
   -- and then the numbers are as they were, but for those two
-  pub numbers-kept : (k : ℕ) (out : List ℕ) (answer : Outcome (List ℕ)) → 2 ≤ k → (statusOf k out answer ≡ 0 → ⊥)
-      → Touched out 0 2 (numbersLeft k out answer)
+  pub numbers-kept : (k : ℕ) (out : List ℕ) (answer : Outcome (List ℕ)) → 2 ≤ k → (statusOf k answer out ≡ 0 → ⊥)
+      → Touched out 0 2 (numbersLeft k answer out)
   -- and the bytes lent to a writer are as they were
-  pub bytes-kept : (k : ℕ) (out buf : List ℕ) (rule : Outcome (List ℕ × List ℕ)) → (statusOf k out (answerOf rule) ≡ 0 → ⊥)
-      → bytesLeft k out buf rule ≡ buf
+  pub bytes-kept : (k : ℕ) (out buf : List ℕ) (rule : Outcome (List ℕ × List ℕ)) → (statusOf k (answerOf rule) out ≡ 0 → ⊥)
+      → bytesLeft k rule out buf ≡ buf
   -- where there is an answer, and room for its numbers, they stand at the start; and the bytes lent to a writer are what its rule leaves
   pub numbers-told : (k : ℕ) (out : List ℕ) (answer : Outcome (List ℕ)) (ns : List ℕ) → k ≤ length out → answer ≡ ok ns
-      → take (length ns) (numbersLeft k out answer) ≡ ns
+      → take (length ns) (numbersLeft k answer out) ≡ ns
   pub bytes-told : (k : ℕ) (out buf : List ℕ) (rule : Outcome (List ℕ × List ℕ)) (ns left : List ℕ) → k ≤ length out → rule ≡ ok (ns, left)
-      → bytesLeft k out buf rule ≡ left
+      → bytesLeft k rule out buf ≡ left
   -- ---- how many numbers each answer has
   pub map-six : (event : List ℕ) (postHeader : ℕ) → Counts 6 (feedMap event postHeader)
   pub check-two : (event : List ℕ) (postHeader dialect : ℕ) (buf : List ℕ) → Counts 2 (answerOf (feedCheck event postHeader dialect buf))
@@ -132,7 +132,7 @@ pub record AbiCalls : Type 1 where
       → Counts 6 (feedImage profile s firstStart firstLength hasSecond secondStart secondLength offset second)
   -- so many are touched, and no others
   pub numbers-touched : (k : ℕ) (out : List ℕ) (answer : Outcome (List ℕ)) → Counts k answer → Answered k out answer
-      → Touched out 0 k (numbersLeft k out answer)
+      → Touched out 0 k (numbersLeft k answer out)
   -- ---- what `feed_step` tells of a value makes that value where it is put, whatever stands behind its numbers
   pub value-back : (column : ℕ) (v : Value) (next : Cursor) (rest : List ℕ) → isHeld v ≡ true
       → toldAgain (toldNumbers (value column v next) ++ rest) ≡ ok v

@@ -123,13 +123,13 @@ pub record Numbers : Type 0 where
   -- ---- every call
   -- status 0 and the numbers, or the refusal's number and its place; 8, and nothing changed, without room for the numbers. Bytes are left
   -- as the writer leaves them
-  pub answered : (statusOf 2 (7 ∷ 7 ∷ 7 ∷ []) (ok (5 ∷ 6 ∷ [])) ≡ 0) × (numbersLeft 2 (7 ∷ 7 ∷ 7 ∷ []) (ok (5 ∷ 6 ∷ [])) ≡ 5 ∷ 6 ∷ 7 ∷ [])
-  pub refused : (statusOf 2 (7 ∷ 7 ∷ 7 ∷ []) (refuse 14 9) ≡ 14) × (numbersLeft 2 (7 ∷ 7 ∷ 7 ∷ []) (refuse 14 9) ≡ 9 ∷ 0 ∷ 7 ∷ [])
-  pub part-told : (statusOf 2 (7 ∷ 7 ∷ 7 ∷ []) (refusedAs (outOf 9 2)) ≡ 10)
-      × (numbersLeft 2 (7 ∷ 7 ∷ 7 ∷ []) (refusedAs (outOf 9 2)) ≡ 9 ∷ 2 ∷ 7 ∷ [])
-  pub no-room : (statusOf 2 (7 ∷ []) (ok (5 ∷ 6 ∷ [])) ≡ 8) × (numbersLeft 2 (7 ∷ []) (ok (5 ∷ 6 ∷ [])) ≡ 7 ∷ [])
-  pub bytes-left : (bytesLeft 1 (7 ∷ []) (1 ∷ []) (ok (5 ∷ [], 2 ∷ [])) ≡ 2 ∷ [])
-      × (bytesLeft 1 (7 ∷ []) (1 ∷ []) (refuse 8 0) ≡ 1 ∷ []) × (bytesLeft 1 [] (1 ∷ []) (ok (5 ∷ [], 2 ∷ [])) ≡ 1 ∷ [])
+  pub answered : (statusOf 2 (ok (5 ∷ 6 ∷ [])) (7 ∷ 7 ∷ 7 ∷ []) ≡ 0) × (numbersLeft 2 (ok (5 ∷ 6 ∷ [])) (7 ∷ 7 ∷ 7 ∷ []) ≡ 5 ∷ 6 ∷ 7 ∷ [])
+  pub refused : (statusOf 2 (refuse 14 9) (7 ∷ 7 ∷ 7 ∷ []) ≡ 14) × (numbersLeft 2 (refuse 14 9) (7 ∷ 7 ∷ 7 ∷ []) ≡ 9 ∷ 0 ∷ 7 ∷ [])
+  pub part-told : (statusOf 2 (refusedAs (outOf 9 2)) (7 ∷ 7 ∷ 7 ∷ []) ≡ 10)
+      × (numbersLeft 2 (refusedAs (outOf 9 2)) (7 ∷ 7 ∷ 7 ∷ []) ≡ 9 ∷ 2 ∷ 7 ∷ [])
+  pub no-room : (statusOf 2 (ok (5 ∷ 6 ∷ [])) (7 ∷ []) ≡ 8) × (numbersLeft 2 (ok (5 ∷ 6 ∷ [])) (7 ∷ []) ≡ 7 ∷ [])
+  pub bytes-left : (bytesLeft 1 (ok (5 ∷ [], 2 ∷ [])) (7 ∷ []) (1 ∷ []) ≡ 2 ∷ [])
+      × (bytesLeft 1 (refuse 8 0) (7 ∷ []) (1 ∷ []) ≡ 1 ∷ []) × (bytesLeft 1 (ok (5 ∷ [], 2 ∷ [])) [] (1 ∷ []) ≡ 1 ∷ [])
   -- ---- maps
   -- table id, flags, start and length of the database's name and of the table's
   pub map-numbers : feedMap

@@ -272,4 +272,4 @@ pub record EveryCall : Type 1 where
       → isAmong (w .number) refusalNumbers ≡ true
   -- where a writer answers a refusal, that is its rule's, and the buffer that it leaves is the one that it was lent
   pub buffer-kept : {A : Type 0} (buf : List ℕ) (rule : Outcome (A × List ℕ)) (w : Refusal) → answerOf rule ≡ refused w
-      → (rule ≡ refused w) × (leftOf buf rule ≡ buf)
+      → (rule ≡ refused w) × (leftOf rule buf ≡ buf)

@@ -75,7 +75,7 @@ pub fn entry_holds(entry: Entry) -> bool
 // Writes the entry's six bytes from at on.
 pub fn write_entry(entry: Entry, buf: &mut [u8], at: usize) -> Written
     ensures { λ r. ⌜ writtenTold r ≡ answerOf (store (entryBytes entry) (now (buf .entry)) at) ⌝ }
-    ensures { λ _. ⌜ now (buf .exit) ≡ leftOf (now (buf .entry)) (store (entryBytes entry) (now (buf .entry)) at) ⌝ }
+    ensures { λ _. ⌜ now (buf .exit) ≡ leftOf (store (entryBytes entry) (now (buf .entry)) at) (now (buf .entry)) ⌝ }
 {
     let low = (entry.charset % 256) as u8;
     let high = (entry.charset / 256 % 256) as u8;

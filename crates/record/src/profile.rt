@@ -146,7 +146,7 @@ pub fn read_record(profile: &[u8]) -> RecordRead
 // Writes the six bytes before the columns, at the buffer's start.
 pub fn write_head(n: u16, buf: &mut [u8]) -> Written
     ensures { λ r. ⌜ writtenTold r ≡ answerOf (store (headBytes n) (now (buf .entry)) 0) ⌝ }
-    ensures { λ _. ⌜ now (buf .exit) ≡ leftOf (now (buf .entry)) (store (headBytes n) (now (buf .entry)) 0) ⌝ }
+    ensures { λ _. ⌜ now (buf .exit) ≡ leftOf (store (headBytes n) (now (buf .entry)) 0) (now (buf .entry)) ⌝ }
 {
     let size = entry_at(n as usize);
     let low = (size % 256) as u8;

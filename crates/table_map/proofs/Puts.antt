@@ -77,18 +77,18 @@ event-length p =
     ∙ omega (arith, head-length (p .id) (p .flags) (p .database) (p .table), column-length (p .types) (p .metadata) (p .bits) (p .optional))
 
 -- ---- writes
-pub put-stored : (d bs x : List ℕ) (at m next : ℕ) → length bs ≡ m → at + m ≤ length d → x ≡ leftOf d (store bs d at) → next ≡ at + m
+pub put-stored : (d bs x : List ℕ) (at m next : ℕ) → length bs ≡ m → at + m ≤ length d → x ≡ leftOf (store bs d at) d → next ≡ at + m
     → PutAt d at bs x next
 put-stored d bs x at m next l h e n =
     let s = store-fits d bs at (omega arith) in
     record { room = omega arith; left = e ∙ rw s; next-is = omega arith }
 
 -- a number of k bytes, by a writer that takes at most 8
-pub put-number : (d x : List ℕ) (at k v next : ℕ) → k ≤ 8 → at + k ≤ length d → x ≡ leftOf d (store (leBytes (min k 8) v) d at)
+pub put-number : (d x : List ℕ) (at k v next : ℕ) → k ≤ 8 → at + k ≤ length d → x ≡ leftOf (store (leBytes (min k 8) v) d at) d
     → next ≡ at + k → PutAt d at (leBytes k v) x next
 put-number d x at k v next w h e n =
     let m : min k 8 ≡ k = omega arith in
-    put-stored d (leBytes k v) x at k next (leBytes-length k v) h (e ∙ ap (λ (j : ℕ). leftOf d (store (leBytes j v) d at)) m) n
+    put-stored d (leBytes k v) x at k next (leBytes-length k v) h (e ∙ ap (λ (j : ℕ). leftOf (store (leBytes j v) d at) d) m) n
 
 -- where a write ended, and that the buffer has its length
 pub after-put : {d bs x : List ℕ} {at next : ℕ} → PutAt d at bs x next → (next ≡ at + length bs) × (length x ≡ length d)

@@ -88,9 +88,9 @@ pub fn write_event(
         ≡ answerOf (writeEvent (eventParts id flags (now (database .entry)) (now (table .entry)) (now (types .entry))
         (now (metadata .entry)) (now (bits .entry)) (now (optional .entry))) (now (buf .entry))) ⌝ }
     ensures { λ _. ⌜ now (buf .exit)
-        ≡ leftOf (now (buf .entry))
-        (writeEvent (eventParts id flags (now (database .entry)) (now (table .entry)) (now (types .entry)) (now (metadata .entry))
-        (now (bits .entry)) (now (optional .entry))) (now (buf .entry))) ⌝ }
+        ≡ leftOf (writeEvent (eventParts id flags (now (database .entry)) (now (table .entry)) (now (types .entry)) (now (metadata .entry))
+        (now (bits .entry)) (now (optional .entry))) (now (buf .entry)))
+        (now (buf .entry)) ⌝ }
 {
     let size = match event_size(id, flags, database, table, types, metadata, bits, optional) {
         Size::Takes(n) => n,

@@ -113,7 +113,7 @@ read-short storage place s at h = rw (lt-leb _ _ h)
 -- the answer r and the buffer x of a writer of a temporal
 abbrev pub Writes : Storage → ℕ → List ℕ → ℕ → Temporal → Written → List ℕ → Type 0
 Writes storage place d at t r x =
-    (writtenTold r ≡ answerOf (writeTemporal storage place t d at)) × (x ≡ leftOf d (writeTemporal storage place t d at))
+    (writtenTold r ≡ answerOf (writeTemporal storage place t d at)) × (x ≡ leftOf (writeTemporal storage place t d at) d)
 
 module _ (storage : Storage) (place : ℕ) (d : List ℕ) (at : ℕ) (t : Temporal) where
   -- two numbers, the most significant byte first

@@ -43,7 +43,7 @@ pub fn write_temporal(
     place: usize,
 ) -> Written
     ensures { λ r. ⌜ writtenTold r ≡ answerOf (writeTemporal storage place temporal (now (buf .entry)) at) ⌝ }
-    ensures { λ _. ⌜ now (buf .exit) ≡ leftOf (now (buf .entry)) (writeTemporal storage place temporal (now (buf .entry)) at) ⌝ }
+    ensures { λ _. ⌜ now (buf .exit) ≡ leftOf (writeTemporal storage place temporal (now (buf .entry)) at) (now (buf .entry)) ⌝ }
 {
     if !in_domain(storage, temporal) {
         return Written::Refused(refuse(NOT_TAKEN, place));
@@ -62,7 +62,7 @@ pub fn write_temporal(
 fn write_two(k: usize, whole: u64, w: usize, units: u64, buf: &mut [u8], at: usize) -> Written
     requires { ⌜ (k ≤ 8) × (w ≤ 3) ⌝ }
     ensures { λ r. ⌜ writtenTold r ≡ answerOf (store (beBytes k whole ++ beBytes w units) (now (buf .entry)) at) ⌝ }
-    ensures { λ _. ⌜ now (buf .exit) ≡ leftOf (now (buf .entry)) (store (beBytes k whole ++ beBytes w units) (now (buf .entry)) at) ⌝ }
+    ensures { λ _. ⌜ now (buf .exit) ≡ leftOf (store (beBytes k whole ++ beBytes w units) (now (buf .entry)) at) (now (buf .entry)) ⌝ }
 {
     let size = k + w;
     if !wire::has_room(buf.len(), at, size) {

@@ -57,7 +57,7 @@ pub fn write_value(
 ) -> Written
     ensures { λ r. ⌜ writtenTold r ≡ answerOf (writeValue (shapeOf column) place (now (lent .entry)) value (now (buf .entry)) at) ⌝ }
     ensures { λ _. ⌜ now (buf .exit)
-        ≡ leftOf (now (buf .entry)) (writeValue (shapeOf column) place (now (lent .entry)) value (now (buf .entry)) at) ⌝ }
+        ≡ leftOf (writeValue (shapeOf column) place (now (lent .entry)) value (now (buf .entry)) at) (now (buf .entry)) ⌝ }
 {
     write_shape(shape_of(column), value, lent, buf, at, place)
 }
@@ -80,7 +80,7 @@ pub fn read_lone(column: Column, s: &[u8]) -> Read
 pub fn write_lone(column: Column, value: Value, lent: &[u8], buf: &mut [u8]) -> Written
     ensures { λ r. ⌜ writtenTold r ≡ answerOf (writeValue (shapeOf column) 0 (now (lent .entry)) value (now (buf .entry)) 0) ⌝ }
     ensures { λ _. ⌜ now (buf .exit)
-        ≡ leftOf (now (buf .entry)) (writeValue (shapeOf column) 0 (now (lent .entry)) value (now (buf .entry)) 0) ⌝ }
+        ≡ leftOf (writeValue (shapeOf column) 0 (now (lent .entry)) value (now (buf .entry)) 0) (now (buf .entry)) ⌝ }
 {
     write_value(column, value, lent, buf, 0, 0)
 }

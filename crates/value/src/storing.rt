@@ -141,7 +141,7 @@ fn write_counted(k: usize, bytes: &[u8], buf: &mut [u8], at: usize) -> Written
     ensures { λ r. ⌜ writtenTold r
         ≡ answerOf (store (leBytes k (length (now (bytes .entry))) ++ now (bytes .entry)) (now (buf .entry)) at) ⌝ }
     ensures { λ _. ⌜ now (buf .exit)
-        ≡ leftOf (now (buf .entry)) (store (leBytes k (length (now (bytes .entry))) ++ now (bytes .entry)) (now (buf .entry)) at) ⌝ }
+        ≡ leftOf (store (leBytes k (length (now (bytes .entry))) ++ now (bytes .entry)) (now (buf .entry)) at) (now (buf .entry)) ⌝ }
 {
     let size = k + bytes.len();
     if wire::has_room(buf.len(), at, size) {
@@ -158,8 +158,8 @@ fn write_part(k: usize, value: Value, lent: &[u8], buf: &mut [u8], at: usize) ->
     ensures { λ r. ⌜ writtenTold r
         ≡ answerOf (store (leBytes k (bytesAt value .len) ++ partOf (now (lent .entry)) (bytesAt value)) (now (buf .entry)) at) ⌝ }
     ensures { λ _. ⌜ now (buf .exit)
-        ≡ leftOf (now (buf .entry))
-        (store (leBytes k (bytesAt value .len) ++ partOf (now (lent .entry)) (bytesAt value)) (now (buf .entry)) at) ⌝ }
+        ≡ leftOf (store (leBytes k (bytesAt value .len) ++ partOf (now (lent .entry)) (bytesAt value)) (now (buf .entry)) at)
+        (now (buf .entry)) ⌝ }
 {
     write_counted(k, wire::part_of(lent, bytes_at(value)), buf, at)
 }
@@ -175,7 +175,7 @@ pub(crate) fn store_shape(
     requires { ⌜ Sized shape × (isIn shape (now lent) value ≡ true) ⌝ }
     ensures { λ r. ⌜ writtenTold r ≡ answerOf (store (bytesOf shape (datumOf (now (lent .entry)) value)) (now (buf .entry)) at) ⌝ }
     ensures { λ _. ⌜ now (buf .exit)
-        ≡ leftOf (now (buf .entry)) (store (bytesOf shape (datumOf (now (lent .entry)) value)) (now (buf .entry)) at) ⌝ }
+        ≡ leftOf (store (bytesOf shape (datumOf (now (lent .entry)) value)) (now (buf .entry)) at) (now (buf .entry)) ⌝ }
 {
     match shape {
         Shape::Unsigned(k) => wire::write_le(k, number_in(value), buf, at),
@@ -203,7 +203,7 @@ pub(crate) fn write_shape(
     requires { ⌜ Sized shape ⌝ }
     ensures { λ r. ⌜ writtenTold r ≡ answerOf (writeValue shape place (now (lent .entry)) value (now (buf .entry)) at) ⌝ }
     ensures { λ _. ⌜ now (buf .exit)
-        ≡ leftOf (now (buf .entry)) (writeValue shape place (now (lent .entry)) value (now (buf .entry)) at) ⌝ }
+        ≡ leftOf (writeValue shape place (now (lent .entry)) value (now (buf .entry)) at) (now (buf .entry)) ⌝ }
 {
     if !is_taken(shape) {
         return Written::Refused(wire::refuse(refusal_of(shape), place));

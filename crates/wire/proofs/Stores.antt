@@ -103,7 +103,7 @@ store-full d bs at h = rw (lt-leb _ _ h)
 
 -- the answer r and the buffer x of a writer of bs: done, or refused
 abbrev pub Wrote : List ℕ → ℕ → List ℕ → Written → List ℕ → Type 0
-Wrote d at bs r x = (writtenTold r ≡ answerOf (store bs d at)) × (x ≡ leftOf d (store bs d at))
+Wrote d at bs r x = (writtenTold r ≡ answerOf (store bs d at)) × (x ≡ leftOf (store bs d at) d)
 
 -- for a writer that has written: its `returns`, from the length n that its code knows
 pub wrote : (d bs x : List ℕ) (at n next : ℕ) → length bs ≡ n → at + n ≤ length d → next ≡ at + n → x ≡ stored bs d at
@@ -143,7 +143,7 @@ not-wrote-number bytes size d at w k v t r e f h q =
 
 -- a write of a, m bytes long, in which there is room for b too, and then a write of b behind it: one write of both
 pub wrote-two : (d a b x₁ x : List ℕ) (at m : ℕ) (r : Written) → length a ≡ m → at + (m + length b) ≤ length d
-    → x₁ ≡ leftOf d (store a d at)
+    → x₁ ≡ leftOf (store a d at) d
     → Wrote x₁ (at + m) b r x → Wrote d at (a ++ b) r x
 wrote-two d a b x₁ x at m r e h p w =
     let s = store-fits d a at (omega arith) in

@@ -24,9 +24,9 @@ abbrev pub answerOf : {A : Type 0} → Outcome (A × List ℕ) → Outcome A
 answerOf (ok x) = ok (x .0)
 answerOf (refused w) = refused w
 
-abbrev pub leftOf : {A : Type 0} → List ℕ → Outcome (A × List ℕ) → List ℕ
-leftOf buf (ok x) = x .1
-leftOf buf (refused w) = buf
+abbrev pub leftOf : {A : Type 0} → Outcome (A × List ℕ) → List ℕ → List ℕ
+leftOf (ok x) buf = x .1
+leftOf (refused w) buf = buf
 
 -- what the answer of a writer says: the place after what it wrote
 abbrev pub writtenTold : Written → Outcome ℕ

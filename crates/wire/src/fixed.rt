@@ -80,7 +80,7 @@ fn be(s: &[u8], at: usize, k: usize) -> u64
 // Writes the k low bytes of v from at on, the least significant first.
 pub fn write_le(k: usize, v: u64, buf: &mut [u8], at: usize) -> Written
     ensures { λ r. ⌜ writtenTold r ≡ answerOf (store (leBytes (min k 8) v) (now (buf .entry)) at) ⌝ }
-    ensures { λ _. ⌜ now (buf .exit) ≡ leftOf (now (buf .entry)) (store (leBytes (min k 8) v) (now (buf .entry)) at) ⌝ }
+    ensures { λ _. ⌜ now (buf .exit) ≡ leftOf (store (leBytes (min k 8) v) (now (buf .entry)) at) (now (buf .entry)) ⌝ }
 {
     let w = least(k, 8);
     if has_room(buf.len(), at, w) {
@@ -94,7 +94,7 @@ pub fn write_le(k: usize, v: u64, buf: &mut [u8], at: usize) -> Written
 // Writes the k low bytes of v from at on, the most significant first.
 pub fn write_be(k: usize, v: u64, buf: &mut [u8], at: usize) -> Written
     ensures { λ r. ⌜ writtenTold r ≡ answerOf (store (beBytes (min k 8) v) (now (buf .entry)) at) ⌝ }
-    ensures { λ _. ⌜ now (buf .exit) ≡ leftOf (now (buf .entry)) (store (beBytes (min k 8) v) (now (buf .entry)) at) ⌝ }
+    ensures { λ _. ⌜ now (buf .exit) ≡ leftOf (store (beBytes (min k 8) v) (now (buf .entry)) at) (now (buf .entry)) ⌝ }
 {
     let w = least(k, 8);
     if has_room(buf.len(), at, w) {

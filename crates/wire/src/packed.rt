@@ -103,7 +103,7 @@ pub fn packed_size(v: u64) -> usize
 // Writes v from at on, in its shortest form.
 pub fn write_packed(v: u64, buf: &mut [u8], at: usize) -> Written
     ensures { λ r. ⌜ writtenTold r ≡ answerOf (store (packedBytes v) (now (buf .entry)) at) ⌝ }
-    ensures { λ _. ⌜ now (buf .exit) ≡ leftOf (now (buf .entry)) (store (packedBytes v) (now (buf .entry)) at) ⌝ }
+    ensures { λ _. ⌜ now (buf .exit) ≡ leftOf (store (packedBytes v) (now (buf .entry)) at) (now (buf .entry)) ⌝ }
 {
     if v <= 250 {
         return write_form(v as u8, 0, 0, buf, at);
@@ -121,7 +121,7 @@ pub fn write_packed(v: u64, buf: &mut [u8], at: usize) -> Written
 fn write_form(first: u8, k: usize, v: u64, buf: &mut [u8], at: usize) -> Written
     requires { ⌜ k ≤ 8 ⌝ }
     ensures { λ r. ⌜ writtenTold r ≡ answerOf (store (first ∷ leBytes k v) (now (buf .entry)) at) ⌝ }
-    ensures { λ _. ⌜ now (buf .exit) ≡ leftOf (now (buf .entry)) (store (first ∷ leBytes k v) (now (buf .entry)) at) ⌝ }
+    ensures { λ _. ⌜ now (buf .exit) ≡ leftOf (store (first ∷ leBytes k v) (now (buf .entry)) at) (now (buf .entry)) ⌝ }
 {
     if has_room(buf.len(), at, k + 1) {
         buf[at] = first;

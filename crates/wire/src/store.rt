@@ -33,7 +33,7 @@ pub fn has_room(len: usize, at: usize, n: usize) -> bool
 // Writes all of bytes from at on.
 pub fn write_bytes(bytes: &[u8], buf: &mut [u8], at: usize) -> Written
     ensures { λ r. ⌜ writtenTold r ≡ answerOf (store (now (bytes .entry)) (now (buf .entry)) at) ⌝ }
-    ensures { λ _. ⌜ now (buf .exit) ≡ leftOf (now (buf .entry)) (store (now (bytes .entry)) (now (buf .entry)) at) ⌝ }
+    ensures { λ _. ⌜ now (buf .exit) ≡ leftOf (store (now (bytes .entry)) (now (buf .entry)) at) (now (buf .entry)) ⌝ }
 {
     if has_room(buf.len(), at, bytes.len()) {
         put_bytes(bytes, buf, at);

@@ -156,14 +156,14 @@ last-set d l k x h m =
 
 -- ---- null bits at a buffer's head, as the code puts them there: as they are, and then the last byte anew if it has spare bits
 module _ (d nulls : List ℕ) (n : ℕ) (h : length nulls ≡ bytesFor n) (m : length nulls ≤ length d) where
-  left-stored : leftOf d (store nulls d 0) ≡ stored nulls d 0
+  left-stored : leftOf (store nulls d 0) d ≡ stored nulls d 0
   left-stored = rw (store-fits d nulls 0 (omega arith))
 
-  pub put-whole : n % 8 ≡ 0 → leftOf d (store nulls d 0) ≡ stored (filled n nulls) d 0
+  pub put-whole : n % 8 ≡ 0 → leftOf (store nulls d 0) d ≡ stored (filled n nulls) d 0
   put-whole e = left-stored ∙ ap (λ (b : List ℕ). stored b d 0) (sym (fill-whole n nulls h e))
 
   pub put-spare : (n % 8 ≡ 0 → ⊥)
-      → set (leftOf d (store nulls d 0)) (n / 8) (spareSet (n % 8) (getD nulls (n / 8) 0)) ≡ stored (filled n nulls) d 0
+      → set (leftOf (store nulls d 0) d) (n / 8) (spareSet (n % 8) (getD nulls (n / 8) 0)) ≡ stored (filled n nulls) d 0
   put-spare e =
       rw (left-stored, fill-last n nulls h (ne-eqb (n % 8) 0 e))
       (last-set d nulls (n / 8) (spareSet (n % 8) (getD nulls (n / 8) 0)) (omega arith) m)

@@ -38,7 +38,7 @@ use Rattle.image.proofs.PutLaws.Fills.{fill-length}
 
 -- the answer a of a call that writes, and the buffer x that it leaves, are those of w
 abbrev pub Puts : List ℕ → Outcome (Cursor × List ℕ) → Put → List ℕ → Type 0
-Puts buf w a x = (putTold a ≡ answerOf w) × (x ≡ leftOf buf w)
+Puts buf w a x = (putTold a ≡ answerOf w) × (x ≡ leftOf w buf)
 
 -- a call whose answer is told and whose buffer is as it was
 pub put-refused : {w : Outcome (Cursor × List ℕ)} {z : Refusal} (buf : List ℕ) → w ≡ refused z → Puts buf w (Refused₂ z) buf
@@ -88,7 +88,7 @@ behind-answer : (j : ℕ) (w : Outcome (ℕ × List ℕ)) → answerOf (behind j
 behind-answer j (ok x) = refl
 behind-answer j (refused z) = refl
 
-behind-left : (j : ℕ) (buf : List ℕ) (w : Outcome (ℕ × List ℕ)) → leftOf buf (behind j w) ≡ leftOf buf w
+behind-left : (j : ℕ) (buf : List ℕ) (w : Outcome (ℕ × List ℕ)) → leftOf (behind j w) buf ≡ leftOf w buf
 behind-left j buf (ok x) = refl
 behind-left j buf (refused z) = refl
 
@@ -138,14 +138,16 @@ module _
 
         module _ (a : Written) (x : List ℕ)
             (q : writtenTold a ≡ answerOf (writeValue (shapeOf k) f lent v buf (s .offset)))
-            (y : x ≡ leftOf buf (writeValue (shapeOf k) f lent v buf (s .offset))) where
+            (y : x ≡ leftOf (writeValue (shapeOf k) f lent v buf (s .offset)) buf) where
           answer-is : answerOf put ≡ after (writtenTold a) (λ m. ok (cursor (f + 1) m))
           answer-is =
               ap answerOf put-value ∙ behind-answer (f + 1) (writeValue (shapeOf k) f lent v buf (s .offset))
               ∙ ap (λ (w : Outcome ℕ). after w (λ m. ok (cursor (f + 1) m))) (sym q)
 
-          left-is : x ≡ leftOf buf put
-          left-is = y ∙ sym (ap (leftOf buf) put-value ∙ behind-left (f + 1) buf (writeValue (shapeOf k) f lent v buf (s .offset)))
+          left-is : x ≡ leftOf put buf
+          left-is = y
+              ∙ sym (ap (λ (o : Outcome (Cursor × List ℕ)). leftOf o buf) put-value
+              ∙ behind-left (f + 1) buf (writeValue (shapeOf k) f lent v buf (s .offset)))
 
           pub put-done : (m : ℕ) → a ≡ Done m → Puts buf put (Next (cursor (f + 1) m)) x
           put-done m z = (sym (rw z at answer-is), left-is)

@@ -174,7 +174,7 @@ none-come d s x types meta k h = rw (drop-of-length-le types {i = k .place .0} h
 pub turn-stored : (d : Dialect) (s : List ℕ) (x : Facts) (types meta : List ℕ) (k : Progress) (t : EntryTurn) (buf buf′ z : List ℕ)
     → Came d s x types meta k t
     → k .place .0 < length types → entryAt (length types) ≤ length buf
-    → buf′ ≡ leftOf buf (store (entryBytes (t .entry)) buf (entryAt (k .place .0)))
+    → buf′ ≡ leftOf (store (entryBytes (t .entry)) buf (entryAt (k .place .0))) buf
     → stored (entriesBytes (toCome d s x types meta k)) buf (entryAt (k .place .0)) ≡ z
     → (length buf′ ≡ length buf) × (stored (entriesBytes (toCome d s x types meta (t .next))) buf′ (entryAt (t .next .place .0)) ≡ z)
 unfolding entriesBytes
@@ -200,7 +200,7 @@ all-stored d s x types meta k buf z at h g =
 
 -- the whole record: its head, and its entries
 pub record-written : (es : List Entry) (n : ℕ) (old x₁ x : List ℕ) → length es ≡ n → entryAt n ≤ length old
-    → x₁ ≡ leftOf old (store (headBytes n) old 0)
+    → x₁ ≡ leftOf (store (headBytes n) old 0) old
     → x ≡ stored (entriesBytes es) x₁ (entryAt 0) → Wrote old 0 (recordBytes es) (Done (entryAt n)) x
 unfolding recordBytes
 record-written es n old x₁ x e h p q =

@@ -10,10 +10,10 @@ use Rattle.profile.proofs.put_columns.Statement.{statement}
 use Rattle.profile.proofs.put_columns.Tie as tie
 
 abbrev Inv-loop : tie.InvT-loop
-Inv-loop out₀ profile len used₀ j₀ out used j = length out ≡ length out₀
+Inv-loop profile len out₀ used₀ j₀ out used j = length out ≡ length out₀
 
 abbrev μ-loop : tie.MeasureT-loop
-μ-loop out₀ profile len used₀ j₀ out used j = len - j
+μ-loop profile len out₀ used₀ j₀ out used j = len - j
 
 loop-holds : tie.Need-loop-holds Inv-loop μ-loop
 loop-holds c = search needs

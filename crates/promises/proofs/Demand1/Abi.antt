@@ -83,7 +83,7 @@ no-refusal : (answer : Outcome (List ℕ)) (ls : List Line) → Only answer ls �
 no-refusal (ok ns) ls h e = (ns, refl)
 no-refusal (refused w) ls h e = absurd (number-not-zero (w .number) (refusals .numbered (refused w) ls w h refl) e)
 
-zero-answered : (k : ℕ) (out : List ℕ) (answer : Outcome (List ℕ)) (ls : List Line) → Only answer ls → statusOf k out answer ≡ 0
+zero-answered : (k : ℕ) (out : List ℕ) (answer : Outcome (List ℕ)) (ls : List Line) → Only answer ls → statusOf k answer out ≡ 0
     → Answered k out answer
 unfolding statusOf
 zero-answered k out answer ls h e =
@@ -91,7 +91,7 @@ zero-answered k out answer ls h e =
     (λ u f. let n = no-refusal answer ls h f in (n .0, n .1, leb-true k (length out) u))
     (λ u f. absurd (omega arith))
 
-answered-zero : (k : ℕ) (out : List ℕ) (answer : Outcome (List ℕ)) → Answered k out answer → statusOf k out answer ≡ 0
+answered-zero : (k : ℕ) (out : List ℕ) (answer : Outcome (List ℕ)) → Answered k out answer → statusOf k answer out ≡ 0
 unfolding statusOf
 answered-zero k out answer (ns, e, l) = rw (le-leb k (length out) l, e)
 
@@ -119,7 +119,7 @@ numbers-left true out (refused w) l h = all-told 2 out (w .place ∷ w .part ∷
 numbers-left false out answer l h = record { size = refl; before = refl; behind = refl }
 
 bytes-left : (t : Bool) (buf : List ℕ) (rule : Outcome (List ℕ × List ℕ)) → (cond t (answerNumber (answerOf rule)) 8 ≡ 0 → ⊥)
-    → cond t (leftOf buf rule) buf ≡ buf
+    → cond t (leftOf rule buf) buf ≡ buf
 bytes-left true buf (ok x) h = absurd (h refl)
 bytes-left true buf (refused w) h = refl
 bytes-left false buf rule h = refl
@@ -171,13 +171,13 @@ image-counts (imageMet p second next) = refl
 image-counts end₁ = refl
 
 told-alone : (k : ℕ) (out : List ℕ) (answer : Outcome (List ℕ)) → Counts k answer → Answered k out answer
-    → Touched out 0 k (numbersLeft k out answer)
+    → Touched out 0 k (numbersLeft k answer out)
 unfolding numbersLeft
 told-alone k out answer h (ns, e, l) = rw (le-leb k (length out) l, e) (all-told k out ns (h ns e) l)
 
 -- ---- what is told, where there is room for the numbers
 numbers-there : (k : ℕ) (out : List ℕ) (answer : Outcome (List ℕ)) (ns : List ℕ) → k ≤ length out → answer ≡ ok ns
-    → take (length ns) (numbersLeft k out answer) ≡ ns
+    → take (length ns) (numbersLeft k answer out) ≡ ns
 unfolding numbersLeft
 numbers-there k out answer ns l e = rw (le-leb k (length out) l, e) (stored-part out 0 ns (omega arith))
 

@@ -67,7 +67,7 @@ in-table (a-part l m) = refl
 
 -- a writer's answer is that of its rule
 refused-keeps : {A : Type 0} (buf : List ℕ) (rule : Outcome (A × List ℕ)) (w : Refusal) → answerOf rule ≡ refused w
-    → (rule ≡ refused w) × (leftOf buf rule ≡ buf)
+    → (rule ≡ refused w) × (leftOf rule buf ≡ buf)
 refused-keeps buf (ok x) w e = absurd (ok-not-refused e)
 refused-keeps buf (refused v) w e = let x : v ≡ w = same-refused e in (rw x, refl)
 

@@ -8,10 +8,10 @@ use Rattle.cases.proofs.output.put_hex.Statement.{statement}
 use Rattle.cases.proofs.output.put_hex.Tie as tie
 
 abbrev Inv-loop : tie.InvT-loop
-Inv-loop out₀ used s now₀ i₀ out now i = length out ≡ length out₀
+Inv-loop s out₀ used now₀ i₀ out now i = length out ≡ length out₀
 
 abbrev μ-loop : tie.MeasureT-loop
-μ-loop out₀ used s now₀ i₀ out now i = length s - i
+μ-loop s out₀ used now₀ i₀ out now i = length s - i
 
 put-byte-requires : tie.Need-put-byte-requires Inv-loop μ-loop
 put-byte-requires c κs = search needs

@@ -8,10 +8,10 @@ use Rattle.cases.proofs.printing.put_form.Statement.{statement}
 use Rattle.cases.proofs.printing.put_form.Tie as tie
 
 abbrev Inv-loop : tie.InvT-loop
-Inv-loop out₀ used form numbers from line args room now₀ at₀ i₀ out now at i = length out ≡ length out₀
+Inv-loop form numbers from line args room out₀ used now₀ at₀ i₀ out now at i = length out ≡ length out₀
 
 abbrev μ-loop : tie.MeasureT-loop
-μ-loop out₀ used form numbers from line args room now₀ at₀ i₀ out now at i = length form - i
+μ-loop form numbers from line args room out₀ used now₀ at₀ i₀ out now at i = length form - i
 
 loop-holds : tie.Need-loop-holds Inv-loop μ-loop
 loop-holds c = search needs

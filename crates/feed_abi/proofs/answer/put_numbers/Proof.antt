@@ -13,10 +13,10 @@ use Rattle.feed_abi.proofs.answer.put_numbers.Reads as reads
 use Rattle.feed_abi.proofs.answer.put_numbers.Lts as lts
 
 abbrev Inv-loop : tie.InvT-loop
-Inv-loop out₀ at numbers i₀ out i = (i ≤ length numbers) × (length out ≡ length out₀) × (out ≡ paste out₀ at numbers i)
+Inv-loop numbers out₀ at i₀ out i = (i ≤ length numbers) × (length out ≡ length out₀) × (out ≡ paste out₀ at numbers i)
 
 abbrev μ-loop : tie.MeasureT-loop
-μ-loop out₀ at numbers i₀ out i = length numbers - i
+μ-loop numbers out₀ at i₀ out i = length numbers - i
 
 loop-holds : tie.Need-loop-holds Inv-loop μ-loop
 loop-holds c = let a = c .args in

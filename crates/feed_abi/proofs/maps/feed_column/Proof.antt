@@ -61,9 +61,9 @@ returns-3 c = let a = c .before .before .before .before .before .before .before 
     (sym (c .before .before .before .before .before .before .before .before .before .read-record .ensures)
     ∙ ap recordTold (c .before .before .before .before .before .before .before .columns .given .1))
     (c .before .before .before .before .before .if2 .taken))
-    (c .before .before .tell-refusal2 .ensures .0 ∙ ap (λ (w : Refusal). w .number) (c .before .before .before .refuse .ensures))
+    (c .before .before .tell-refusal2 .ensures .0 ∙ ap (λ (w : Refusal). w .number) (c .before .before .before .before .refuse .ensures))
     (c .before .before .tell-refusal2 .ensures .1
-    ∙ ap (λ (w : Refusal). stored (w .place ∷ w .part ∷ []) (a .out .now) 0) (c .before .before .before .refuse .ensures))
+    ∙ ap (λ (w : Refusal). stored (w .place ∷ w .part ∷ []) (a .out .now) 0) (c .before .before .before .before .refuse .ensures))
 
 entry-in-requires : tie.Need-entry-in-requires
 entry-in-requires c κs = search needs
@@ -82,7 +82,7 @@ returns-4 c = let a = c .before .before .before .before .before .before .before 
     ∙ ap recordTold (c .before .before .before .before .before .before .before .columns .given .1))
     (c .before .before .before .before .before .if2 .left)) (c .before .before .tell-entry .ensures .0)
     (c .before .before .tell-entry .ensures .1
-    ∙ ap (λ (e : Entry). stored (entryNumbers e) (a .out .now) 0) (c .before .before .before .entry-in .ensures))
+    ∙ ap (λ (e : Entry). stored (entryNumbers e) (a .out .now) 0) (c .before .before .before .before .entry-in .ensures))
 
 pub feed-column-spec : {M : Type 1} → statement M
 feed-column-spec =

@@ -72,8 +72,8 @@ returns-3 c =
     (a .image .now)) _ _ _ _ (omega arith)
     (rw (sym (c .before .before .before .before .before .before .before .before .before .before .before .value-of .ensures)
     ∙ ap madeTold (c .before .before .before .before .before .before .before .before .before .value .given .1)))
-    (c .before .before .before .before .before .put .ensures .0) (c .before .before .tell-put .ensures .0)
-    (c .before .before .tell-put .ensures .1) (c .before .before .before .before .before .put .ensures .1)
+    (c .before .before .before .before .before .before .put .ensures .0) (c .before .before .tell-put .ensures .0)
+    (c .before .before .tell-put .ensures .1) (c .before .before .before .before .before .before .put .ensures .1)
 
 pub feed-put-spec : {M : Type 1} → statement M
 feed-put-spec =

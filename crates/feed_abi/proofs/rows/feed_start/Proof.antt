@@ -34,8 +34,8 @@ returns-2 c =
     let a = c .before .before .before .before .before .before .before .before .before .before .before .before .before .before .args in
     wrote-told 2 (a .out .now) (a .image .now) cursorNumbers
     (startImage (a .profile .now) (a .presence .now) (a .nulls .now) (a .image .now)) _ _ _ _ _ (omega arith) refl
-    (c .before .before .before .before .before .start .ensures .0) (c .before .before .tell-put .ensures .0)
-    (c .before .before .tell-put .ensures .1) (c .before .before .before .before .before .start .ensures .1)
+    (c .before .before .before .before .before .before .start .ensures .0) (c .before .before .tell-put .ensures .0)
+    (c .before .before .tell-put .ensures .1) (c .before .before .before .before .before .before .start .ensures .1)
 
 pub feed-start-spec : {M : Type 1} → statement M
 feed-start-spec =

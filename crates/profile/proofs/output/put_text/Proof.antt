@@ -8,10 +8,10 @@ use Rattle.profile.proofs.output.put_text.Statement.{statement}
 use Rattle.profile.proofs.output.put_text.Tie as tie
 
 abbrev Inv-loop : tie.InvT-loop
-Inv-loop out₀ used text now₀ i₀ out now i = length out ≡ length out₀
+Inv-loop text out₀ used now₀ i₀ out now i = length out ≡ length out₀
 
 abbrev μ-loop : tie.MeasureT-loop
-μ-loop out₀ used text now₀ i₀ out now i = length text - i
+μ-loop text out₀ used now₀ i₀ out now i = length text - i
 
 loop-holds : tie.Need-loop-holds Inv-loop μ-loop
 loop-holds c = search needs

@@ -48,7 +48,7 @@ returns c = let a = c .before .before .before .before .before .before .before .b
     let e = narrow (a .k) (omega arith) in
     let p =
     c .before .before .before .before .before .before .write-le .ensures .1
-    ∙ ap (λ (j : ℕ). leftOf (a .buf .now) (store (leBytes j (length (a .bytes .now))) (a .buf .now) (a .at))) e in
+    ∙ ap (λ (j : ℕ). leftOf (store (leBytes j (length (a .bytes .now))) (a .buf .now) (a .at)) (a .buf .now)) e in
     wrote-two (a .buf .now) (leBytes (a .k) (length (a .bytes .now))) (a .bytes .now) _ _ (a .at) (a .k)
     (c .before .before .write-bytes .result) (leBytes-length (a .k) (length (a .bytes .now))) r p
     (c .before .before .write-bytes .ensures)
