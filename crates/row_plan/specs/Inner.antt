@@ -1,0 +1,2 @@
+-- What the crate's own functions go by.
+pub mod Numbers
