@@ -26,7 +26,7 @@ use Rattle.row_plan.specs.Plan.{itemCount, itemAt, itemsFrom, planSlots,
 -- past the tests; im is the images from the start on
 module _ (plan images : List ℕ) (c : RowCursor) {im : List ℕ} (is : im ≡ drop (c .start) images)
     (a : c .item ≤ itemCount plan) (b : bytesFor (itemCount plan) ≤ length im) (d : c .offset ≤ length im) where
-  goes : planStep plan images c ≡ after (stepOver (planSlots plan im (c .item)) im (c .offset)) (λ t. ok (rowNext c t))
+  pub goes : planStep plan images c ≡ after (stepOver (planSlots plan im (c .item)) im (c .offset)) (λ t. ok (rowNext c t))
   unfolding planStep
   goes = rw (sym is, le-ltb (itemCount plan) (c .item) a, le-ltb (length im) (bytesFor (itemCount plan)) b, le-ltb (length im) (c .offset) d)
 
@@ -36,7 +36,7 @@ module _ (plan images : List ℕ) (c : RowCursor) {im : List ℕ} (is : im ≡ d
       let z : itemCount plan - c .item ≡ 0 = omega arith in
       goes ∙ rw z
 
-  slots-here : c .item < itemCount plan → planSlots plan im (c .item) ≡ record { present = itemAt plan (c .item); null = bitLsb0 im (c .item) } ∷ planSlots plan im (suc (c .item))
+  pub slots-here : c .item < itemCount plan → planSlots plan im (c .item) ≡ record { present = itemAt plan (c .item); null = bitLsb0 im (c .item) } ∷ planSlots plan im (suc (c .item))
   unfolding planSlots itemsFrom slots
   slots-here l =
       let z : itemCount plan - c .item ≡ suc (itemCount plan - suc (c .item)) = omega arith in

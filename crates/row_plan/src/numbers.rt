@@ -20,7 +20,7 @@ use wire::refusal::IMAGE_SHORT;
 ghost use mathlib.Core.Path.{_≡_};
 ghost use Prim.Native.Nat.{_+_, _≤_, _<_, _^_};
 ghost use lib.ListN.{length};
-ghost use Rattle.wire.specs.Outcome.{after, ok};
+ghost use Rattle.wire.specs.Outcome.{after, ok, why};
 ghost use Rattle.temporal.specs.Reading.{temporalTold};
 ghost use Rattle.value.specs.Ops.{shapeFor};
 ghost use Rattle.value.specs.Reading.{readValue};
@@ -43,4 +43,32 @@ pub(crate) struct Numbers {
 pub(crate) enum NumbersRead {
     Got { numbers: Numbers, next: usize },
     Refused(Refusal),
+}
+
+fn short(place: usize) -> NumbersRead
+    ensures { λ r. ⌜ r ≡ NumbersRead.Refused (why 9 place) ⌝ }
+{
+    NumbersRead::Refused(wire::refuse(IMAGE_SHORT, place))
+}
+
+pub(crate) fn one(sort: u64, n: u64) -> Numbers
+    ensures { λ r. ⌜ r ≡ record { sort = sort; a = n; b = 0; c = 0; d = 0; e = 0; f = 0; g = 0 } ⌝ }
+{
+    Numbers {
+        sort,
+        a: n,
+        b: 0,
+        c: 0,
+        d: 0,
+        e: 0,
+        f: 0,
+        g: 0,
+    }
+}
+
+pub(crate) fn number_op(op: u8, s: &[u8], at: usize, place: usize, by: usize) -> NumbersRead
+    requires { ⌜ by + length (now s) < 2 ^ 64 ⌝ }
+    ensures { λ r. ⌜ numbersTold r ≡ numbered by (readValue (shapeFor op) place (now (s .entry)) at) ⌝ }
+{
+    short(place)
 }

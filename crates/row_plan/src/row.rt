@@ -49,7 +49,7 @@ fn byte(s: &[u8], i: usize) -> usize
 }
 
 // The column of the item at a place of the plan: the call of a reader of any width costs 40 instructions here.
-fn column_at(plan: &[u8], at: usize) -> usize
+pub(crate) fn column_at(plan: &[u8], at: usize) -> usize
     requires { ⌜ at + 3 ≤ length (now plan) ⌝ }
     ensures { λ r. ⌜ r ≡ leValue (take 2 (drop (at + 1) (now (plan .entry)))) ⌝ }
 {
