@@ -184,7 +184,8 @@ fn value_numbers(value: Value, by: usize) -> Numbers
     }
 }
 
-// A value of any op, read as everywhere.
+// A value of any op, by way of a `Value`. From a place within the image its bytes start within the image, so that their start, moved by
+// `by`, fits a number.
 fn number_value(op: u8, s: &[u8], at: usize, place: usize, by: usize) -> NumbersRead
     requires { ⌜ at ≤ length (now s) ⌝ }
     requires { ⌜ by + length (now s) < 2 ^ 64 ⌝ }
@@ -199,7 +200,7 @@ fn number_value(op: u8, s: &[u8], at: usize, place: usize, by: usize) -> Numbers
     }
 }
 
-// A value of any op. The ops named here are those that most columns of wide tables have.
+// A value of any op, of an image that starts at `by` among the images: integers and temporals by their readers, all others as everywhere.
 pub(crate) fn number_op(op: u8, s: &[u8], at: usize, place: usize, by: usize) -> NumbersRead
     requires { ⌜ at ≤ length (now s) ⌝ }
     requires { ⌜ by + length (now s) < 2 ^ 64 ⌝ }
@@ -216,6 +217,10 @@ pub(crate) fn number_op(op: u8, s: &[u8], at: usize, place: usize, by: usize) ->
         12 => number_signed(3, s, at, place),
         13 => number_signed(4, s, at, place),
         17 => number_signed(8, s, at, place),
+        24 => number_timed(temporal::read_newdate(s, at, place)),
+        25..=31 => number_timed(temporal::read_timestamp2(op - 25, s, at, place)),
+        32..=38 => number_timed(temporal::read_datetime2(op - 32, s, at, place)),
+        39..=45 => number_timed(temporal::read_time2(op - 39, s, at, place)),
         _ => number_value(op, s, at, place, by),
     }
 }

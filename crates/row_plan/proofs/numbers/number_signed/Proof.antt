@@ -60,12 +60,13 @@ one-requires c κs = search needs
 returns-2 : tie.Need-returns-2
 returns-2 c =
     let a = c .before .before .before .before .before .before .before .args in
+    let g = c .before .before .signed-of in
+    let h = c .before .before .before .before .before .has-room in
     let n = narrow (a .k) (omega arith) in
     let e = c .before .before .before .read-le .ensures .0 ∙ ap (λ (j : ℕ). leValue (take j (drop (a .at) (a .s .now)))) n in
-    let z =
-    toZ-ofZ w64 (c .before .before .signed-of .result) (record { sfits = c .before .before .signed-of .ok }) ∙ c .before .before .signed-of .ensures
+    let z = toZ-ofZ w64 (g .result) (record { sfits = g .ok }) ∙ g .ensures
     ∙ ap (λ (j : ℕ). signedOf (256 ^ j) (c .before .before .before .read-le .result)) n ∙ ap (signedOf (256 ^ a .k)) e in
-    let l = room _ _ _ _ (c .before .before .before .before .before .has-room .ensures) (not-false _ (c .before .before .before .before .if1 .left)) in
+    let l = room _ _ _ _ (h .ensures) (not-false _ (c .before .before .before .before .if1 .left)) in
     λ by. ap (λ (n : Numbers). ok (listed n, a .at + a .k)) (c .one .ensures)
     ∙ signed-got (a .k) by (a .place) (a .s .now) (a .at) _ l (omega arith)
     (c .before .twos-of .ensures ∙ ap (twosOf (2 ^ 64)) z)

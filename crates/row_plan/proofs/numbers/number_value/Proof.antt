@@ -3,7 +3,7 @@ use Prim.Native.Nat.{ℕ}
 use mathlib.Core.Path.{sym, ap, _∙_}
 use mathlib.Core.List.{List}
 use native.Mathlib.Omega.{arith}
-use Rattle.wire.specs.Outcome.{ok, refused}
+use Rattle.wire.specs.Outcome.{ok}
 use Rattle.value.specs.Ops.{shapeFor}
 use Rattle.value.specs.Reading.{readTold}
 use Rattle.row_plan.specs.Inner.Numbers.{numbered}

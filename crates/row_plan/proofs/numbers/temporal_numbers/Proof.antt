@@ -1,7 +1,6 @@
 -- `row_plan::numbers::temporal_numbers` meets its contract. Assumes nothing.
-use Rattle.value_parts.specs.Parts.{sortOf, partsOf, padded}
 use Rattle.value_parts.proofs.Takes.{as-number}
-use Rattle.row_plan.specs.Runs.{movedBy, valueNumbers}
+use Rattle.row_plan.specs.Runs.{valueNumbers}
 use borrow.Author.Needs.{needs}
 use Rattle.row_plan.proofs.numbers.temporal_numbers.Statement.{statement}
 use Rattle.row_plan.proofs.numbers.temporal_numbers.Tie as tie
@@ -85,7 +84,9 @@ returns-3 c = λ by. rw (c .before .before .before .before .before .before .befo
 
 returns-4 : tie.Need-returns-4
 unfolding valueNumbers
-returns-4 c = λ by. rw (c .before .before .before .before .before .before .t4 .given .1, as-number (c .before .before .before .before .before .before .t4 .given .0 .0 .negative))
+returns-4 c =
+    let g = c .before .before .before .before .before .before .t4 .given in
+    λ by. rw (g .1, as-number (g .0 .0 .negative))
 
 pub temporal-numbers-spec : {M : Type 1} → statement M
 temporal-numbers-spec =

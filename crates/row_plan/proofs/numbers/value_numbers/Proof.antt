@@ -1,7 +1,6 @@
 -- `row_plan::numbers::value_numbers` meets its contract. Assumes nothing.
-use Prim.Native.Nat.{ℕ, _^_}
-use mathlib.Core.Path.{sym, subst, ap, _∙_}
-use mathlib.Core.List.{_∷_, []}
+use Prim.Native.Nat.{_^_}
+use mathlib.Core.Path.{ap, _∙_}
 use mir.Syntax.{w64}
 use mir.ValLaws.{toZ-ofZ}
 use native.Mathlib.Omega.{arith}
