@@ -36,6 +36,10 @@ module _ (plan images : List ℕ) (c : RowCursor) {im : List ℕ} (is : im ≡ d
       let z : itemCount plan - c .item ≡ 0 = omega arith in
       goes ∙ rw z
 
+  pub slots-end : c .item ≡ itemCount plan → planSlots plan im (c .item) ≡ []
+  unfolding planSlots itemsFrom slots
+  slots-end e = let z : itemCount plan - c .item ≡ 0 = omega arith in rw z
+
   pub slots-here : c .item < itemCount plan → planSlots plan im (c .item) ≡ record { present = itemAt plan (c .item); null = bitLsb0 im (c .item) } ∷ planSlots plan im (suc (c .item))
   unfolding planSlots itemsFrom slots
   slots-here l =

@@ -22,6 +22,7 @@ use Rattle.value.specs.Data.{Datum, null, int, uint, float, double, year, tempo
 use Rattle.value.specs.Reading.{readDatum, readValue, placed}
 use Rattle.value.proofs.Laws.{took}
 use Rattle.value.proofs.Readers.{got, ends-early, timed}
+use Rattle.image.proofs.EndLaws.Ends.{value-within}
 use Rattle.row_plan.specs.Runs.{valueNumbers}
 use Rattle.row_plan.specs.Inner.Numbers.{numbered, startIn}
 
@@ -103,5 +104,5 @@ value-inside sh p s at x l e =
     let b = starts (at + a .0 .1) (a .0 .0) in
     record {
       start = omega (arith, t .fits, length-drop at s);
-      end = omega (arith, t .fits, length-drop at s);
+      end = value-within sh p s at x l e;
     }

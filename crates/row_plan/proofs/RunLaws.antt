@@ -88,7 +88,7 @@ bound im (ok y) c false ns o h k e =
 bound im (refused w) c false ns o h k e = absurd (ok-not-refused (sym e))
 
 module _ (plan images : List ℕ) (items : ℕ) (c : RowCursor) (t : Stands plan images items c) {im : List ℕ} (is : im ≡ drop (c .start) images) where
-  im-length : length im ≡ length images - c .start
+  pub im-length : length im ≡ length images - c .start
   im-length = ap length is ∙ length-drop (c .start) images
 
   abbrev readHere : Outcome (Value × ℕ)
@@ -110,7 +110,7 @@ module _ (plan images : List ℕ) (items : ℕ) (c : RowCursor) (t : Stands plan
   over true = refl
   over false = through readHere
 
-  step-here : planStep plan images c ≡ stepOf column c (bitLsb0 im (c .item)) readHere
+  pub step-here : planStep plan images c ≡ stepOf column c (bitLsb0 im (c .item)) readHere
   unfolding stepOver itemAt
   step-here =
       let i : c .item < itemCount plan = omega (arith, t .item, t .count) in
@@ -213,6 +213,13 @@ item-fits plan items item e h = omega arith
 pub part-fits : (images : List ℕ) (start : ℕ) → start ≤ length images → length images < 2 ^ 64
     → start + length (take (length images - start) (drop start images)) < 2 ^ 64
 part-fits images start h l =
+    let n = length-take (length images - start) (drop start images) in
+    let m = length-drop start images in
+    omega arith
+
+pub part-holds : (images : List ℕ) (start offset : ℕ) → start ≤ length images → offset ≤ length images - start
+    → offset ≤ length (take (length images - start) (drop start images))
+part-holds images start offset h l =
     let n = length-take (length images - start) (drop start images) in
     let m = length-drop start images in
     omega arith

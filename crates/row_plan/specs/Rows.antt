@@ -16,9 +16,9 @@ use Rattle.row_plan.specs.Runs.{valueNumbers, runFrom}
 -- values that say the answers of a walk, in their order
 unfoldable pub Same : List ℕ → List Value → List (ℕ × Datum) → Type 0
 Same image [] [] = Unit {0}
-Same image [] (a ∷ as) = ⊥
+Same image [] (a ∷ bs) = ⊥
 Same image (x ∷ xs) [] = ⊥
-Same image (x ∷ xs) (a ∷ as) = (datumOf image x ≡ a .1) × Same image xs as
+Same image (x ∷ xs) (a ∷ bs) = (datumOf image x ≡ a .1) × Same image xs bs
 
 -- values of the image at `start`, as numbers one behind the other, v having been stored before
 unfoldable pub putValues : ℕ → List Value → ℕ → List ℕ → List ℕ

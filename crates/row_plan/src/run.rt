@@ -65,7 +65,8 @@ fn put(n: Numbers, out: &mut [u64], at: usize)
 
 // The numbers of one item, in an image that starts at `by`.
 fn number_item(plan: &[u8], image: &[u8], by: usize, item: usize, offset: usize) -> NumbersRead
-    requires { ⌜ (3 * item + 3 ≤ length (now plan)) × (by + length (now image) < 2 ^ 64) ⌝ }
+    requires { ⌜ (3 * item + 3 ≤ length (now plan)) × (offset ≤ length (now image)) ⌝ }
+    requires { ⌜ by + length (now image) < 2 ^ 64 ⌝ }
     ensures { λ r. ⌜ numbersTold r ≡ itemNumbers (now (plan .entry)) (now (image .entry)) by item offset ⌝ }
 {
     if wire::bit_lsb0(image, item) {

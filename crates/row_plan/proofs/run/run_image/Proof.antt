@@ -1,4 +1,6 @@
-use Prim.Native.Nat.{_-_, _<_}
+use Rattle.row_plan.proofs.RunLaws.{part-holds}
+use Prim.Native.Nat.{_-_, _≤_, _<_}
+use lib.ListN.{length}
 use mathlib.Core.Path.{_≡_, sym, ap, _∙_}
 use native.Mathlib.Omega.{arith}
 use Rattle.row_plan.specs.Plan.{rowCursor}
@@ -56,7 +58,10 @@ number-item-requires c κs =
     let t = c .before .before .before .before .before .before .before .pre .0 in
     let l = c .before .before .loop in
     let i : l .item < a .items = omega (arith, l .inv .counted, c .if1 .left) in
-    (item-fits (a .plan .now) (a .items) (l .item) (t .count) i, part-fits (a .images .now) (a .here .start) (omega (arith, t .nulls, t .item)) (omega arith))
+    let s : a .here .start ≤ length (a .images .now) = omega (arith, t .nulls, t .item) in (
+      (item-fits (a .plan .now) (a .items) (l .item) (t .count) i, part-holds (a .images .now) (a .here .start) (l .offset) s (l .inv .inside)),
+      part-fits (a .images .now) (a .here .start) s (omega arith),
+    )
 
 -- src/run.rt:115:32
 enum-known-numbers : tie.Need-enum-known-numbers Inv-loop μ-loop
