@@ -1,7 +1,8 @@
 -- The laws of the crate. `Items`: what was put into a plan is what is read out of it. `Rows`: a step by a plan that was made of a record is
 -- the step under that record. `Goes`: what a step answers, by what the code finds. `Puts`: a plan made in a buffer. `Makes`: what its maker
 -- answers. `RunLaws`: what a run does at an item, and where it turns. `ReadLaws`: a run through
--- images, and what its caller is told. `NumberLaws`: a value as numbers. `Walked`: a run is the walk.
+-- images, and what its caller is told. `NumberLaws`: a value as numbers. `Walked`: a run is the walk. `Views`: no two
+-- answers look the same on paper.
 pub mod Items
 pub mod Rows
 pub mod Goes
@@ -11,3 +12,4 @@ pub mod RunLaws
 pub mod ReadLaws
 pub mod NumberLaws
 pub mod Walked
+pub mod Views
