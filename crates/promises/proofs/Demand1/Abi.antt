@@ -1,6 +1,6 @@
 -- Demand 1 for the calls of `feed_abi`: each refuses as the call of the library that it stands over, or before it; and what a caller is
 -- left with. Assumes nothing.
-use Prim.Native.Nat.{ℕ, zero, suc, _+_, _-_, _/_, _≤_}
+use Prim.Native.Nat.{ℕ, suc, _+_, _-_, _/_, _≤_}
 use mathlib.Core.Path.{_≡_, refl, sym, ap, subst, _∙_}
 use mathlib.Core.Bool.{Bool, true, false, true≢false, cond}
 use mathlib.Core.List.{List, [], _∷_}
@@ -17,7 +17,7 @@ use Rattle.wire.proofs.Stores.{stored-part}
 use Rattle.wire.proofs.Outcomes.{after-is-ok, test-is-ok, by-test, ok-not-refused, same-ok}
 use Rattle.value.specs.declared.classes.Dialect.{Dialect}
 use Rattle.value.specs.declared.datum.Value.the-variants.{Null}
-use Rattle.value_parts.specs.Parts.{sortOf, partsOf, padded, valueOf}
+use Rattle.value_parts.specs.Parts.{sortOf, partsOf, valueOf}
 use Rattle.wire.specs.Parts.{part}
 use Rattle.table_map.specs.Events.{readEvent}
 use Rattle.record.specs.Records.{entryAt, readRecord}
@@ -43,7 +43,7 @@ use Rattle.promises.proofs.Demand2.Values.{value-made}
 use Rattle.promises.proofs.Demand1.Rows.{record-read}
 use Rattle.promises.proofs.Demand3.Checks.{checks}
 use Rattle.promises.proofs.Demand3.Images.{step-held}
-use Rattle.promises.proofs.Demand1.Buffers.{stores}
+use Rattle.promises.proofs.Demand1.Buffers.{stores, padded-length}
 use Rattle.promises.proofs.Demand1.Refusals.{only, second, refusals}
 
 -- ---- answers in numbers refuse as the rule does
@@ -150,12 +150,6 @@ unfolding feedColumn
 column-counts r j ns e =
     let x = after-is-ok (readRecord r) _ ns e in
     ap length (sym (test-is-ok (ltb j (x .0)) _ _ ns (x .2) .1))
-
-padded-length : (k : ℕ) (ps : List ℕ) → length (padded k ps) ≡ k
-unfolding padded
-padded-length zero ps = refl
-padded-length (suc k) [] = ap suc (padded-length k [])
-padded-length (suc k) (p ∷ ps) = ap suc (padded-length k ps)
 
 step-counts : (sort column : ℕ) (next : Cursor) (ps : List ℕ) → length (stepNumbers sort column next ps) ≡ 11
 step-counts sort column next ps = ap (λ (n : ℕ). suc (suc (suc (suc n)))) (padded-length 7 ps)
