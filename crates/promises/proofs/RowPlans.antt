@@ -13,7 +13,7 @@ use Rattle.row_plan.proofs.Rows.{plan-step, items-present}
 use Rattle.row_plan.proofs.ReadLaws.{run-kept}
 use Rattle.row_plan.proofs.Walked.{run-walk}
 use Rattle.row_plan.proofs.Told.{items-are, first-is, run-counts, no-op}
-use Rattle.row_plan.proofs.Worked.{worked-made, worked-runs}
+use Rattle.row_plan.proofs.Worked.{worked-made, worked-runs, worked-other}
 use Rattle.promises.specs.RowPlans.{Under, RowPlans}
 
 over : (r p : List ℕ) → Under r p → Over r p
@@ -32,4 +32,5 @@ row-plans = record {
   no-op = no-op;
   worked-plan = worked-made .0;
   worked-run = worked-runs .0;
+  other-presence = worked-other;
 }

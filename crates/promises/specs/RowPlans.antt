@@ -71,3 +71,8 @@ pub record RowPlans : Type 0 where
         3 ∷ 200 ∷ 0 ∷ 0 ∷ 0 ∷ 0 ∷ 0 ∷ 0 ∷ 2 ∷ (2 ^ 64 - 2) ∷ 0 ∷ 0 ∷ 0 ∷ 0 ∷ 0 ∷ 0
             ∷ 11 ∷ 15 ∷ 2 ∷ 0 ∷ 0 ∷ 0 ∷ 0 ∷ 0 ∷ [],
       )
+  -- a plan under other presence bits than its own gives what it says, and nothing else: of an image of the first and third column, by the
+  -- plan of all three, -2; and then 200 is taken for the length of the string, which is not there
+  pub other-presence : (readRun workedPlan (252 ∷ 254 ∷ 255 ∷ 255 ∷ 255 ∷ 200 ∷ []) (rowCursor 0 0 1) (replicate 16 0)
+      ≡ ok ((1, rowCursor 0 1 5), 2 ∷ (2 ^ 64 - 2) ∷ 0 ∷ 0 ∷ 0 ∷ 0 ∷ 0 ∷ 0 ∷ 0 ∷ 0 ∷ 0 ∷ 0 ∷ 0 ∷ 0 ∷ 0 ∷ 0 ∷ []))
+      × (readRun workedPlan (252 ∷ 254 ∷ 255 ∷ 255 ∷ 255 ∷ 200 ∷ []) (rowCursor 0 1 5) (replicate 16 0) ≡ refuse 9 1)

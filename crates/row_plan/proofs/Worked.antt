@@ -74,3 +74,12 @@ pub worked-runs :
     × (readRun plan row (rowCursor 0 0 1) (replicate 7 7) ≡ refuse 8 0)
 unfolding leValue leBytes signedOf twosOf stored store digit bitLsb0 familyOf isNumeric isCharacter isEnumOrSet declaredIn shapeIn shapeOf isTaken refusalOf need decode fault taken cut judged readDatum placed readValue shapeFor storageOp opOf sortOf partsOf padded flagsHold charsetHolds entryHolds entryOf countOf entryPlace entryIn entriesHold headHolds recordValid readRecord countBits shapeAt presentFrom slots headOf stepOver itemBytes planBytes planOf makePlan itemAt itemsFrom planSlots planStep movedBy valueNumbers turned isOver runFrom readRun
 worked-runs = (refl, refl, refl, refl)
+
+-- an image of the first and third column alone, by the plan of all three: -2, and then 200 is taken for the length of the string, which is
+-- not there
+pub worked-other :
+    (readRun plan (252 ∷ 254 ∷ 255 ∷ 255 ∷ 255 ∷ 200 ∷ []) (rowCursor 0 0 1) (replicate 16 0)
+    ≡ ok ((1, rowCursor 0 1 5), 2 ∷ (2 ^ 64 - 2) ∷ 0 ∷ 0 ∷ 0 ∷ 0 ∷ 0 ∷ 0 ∷ 0 ∷ 0 ∷ 0 ∷ 0 ∷ 0 ∷ 0 ∷ 0 ∷ 0 ∷ []))
+    × (readRun plan (252 ∷ 254 ∷ 255 ∷ 255 ∷ 255 ∷ 200 ∷ []) (rowCursor 0 1 5) (replicate 16 0) ≡ refuse 9 1)
+unfolding leValue leBytes signedOf twosOf stored store digit bitLsb0 familyOf isNumeric isCharacter isEnumOrSet declaredIn shapeIn shapeOf isTaken refusalOf need decode fault taken cut judged readDatum placed readValue shapeFor storageOp opOf sortOf partsOf padded flagsHold charsetHolds entryHolds entryOf countOf entryPlace entryIn entriesHold headHolds recordValid readRecord countBits shapeAt presentFrom slots headOf stepOver itemBytes planBytes planOf makePlan itemAt itemsFrom planSlots planStep movedBy valueNumbers turned isOver runFrom readRun
+worked-other = (refl, refl)
