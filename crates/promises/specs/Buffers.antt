@@ -22,7 +22,7 @@ use Rattle.image.specs.Puts.{startImage, putFrom}
 use Rattle.row_plan.specs.declared.row.RowCursor.{RowCursor}
 use Rattle.row_plan.specs.Plan.{makePlan}
 use Rattle.row_plan.specs.Runs.{readRun}
-use Rattle.feed_abi.specs.Calls.{feedCheck, feedStart, feedPut}
+use Rattle.feed_abi.specs.Calls.{feedCheck, feedStart, feedPut, feedPlan, feedRun}
 
 -- `left` is `buf` but for the bytes from o to n
 pub record Touched (buf : List ℕ) (o n : ℕ) (left : List ℕ) : Type 0 where
@@ -64,3 +64,9 @@ pub record Buffers : Type 0 where
   pub feed-put : (profile presence nulls : List ℕ) (column offset sort : ℕ) (parts lent image ns left : List ℕ)
       → feedPut profile presence nulls column offset sort parts lent image ≡ ok (ns, left)
       → Touched image offset (getD ns 1 0) left
+  -- `feed_plan` answers the place as its first number, and `feed_run` how many values it stored as its first
+  pub feed-plan : (profile presence plan ns left : List ℕ) → feedPlan profile presence plan ≡ ok (ns, left)
+      → Touched plan 0 (getD ns 0 0) left
+  pub feed-run : (plan images : List ℕ) (start item offset : ℕ) (values ns left : List ℕ)
+      → feedRun plan images start item offset values ≡ ok (ns, left)
+      → Touched values 0 (8 * getD ns 0 0) left

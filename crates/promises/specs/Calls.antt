@@ -111,6 +111,8 @@ use Rattle.feed_abi.proofs.feed_first.Statement.{statement as of-feed-first}
 use Rattle.feed_abi.proofs.feed_step.Statement.{statement as of-feed-step}
 use Rattle.feed_abi.proofs.feed_start.Statement.{statement as of-feed-start}
 use Rattle.feed_abi.proofs.feed_put.Statement.{statement as of-feed-put}
+use Rattle.feed_abi.proofs.feed_plan.Statement.{statement as of-feed-plan}
+use Rattle.feed_abi.proofs.feed_run.Statement.{statement as of-feed-run}
 
 -- the function meets its contract, whatever the model of the machine's memory
 abbrev pub Meets : (Type 1 → Type 2) → Type 2
@@ -236,3 +238,5 @@ pub record Calls : Type 2 where
   pub feed-step : Meets of-feed-step
   pub feed-start : Meets of-feed-start
   pub feed-put : Meets of-feed-put
+  pub feed-plan : Meets of-feed-plan
+  pub feed-run : Meets of-feed-run

@@ -27,12 +27,15 @@ use Rattle.map_check.specs.Check.{check}
 use Rattle.image.specs.declared.cursor.Cursor.{Cursor}
 use Rattle.image.specs.Split.{ColumnStepped, null, value, end, cursor, firstCursor, stepFrom}
 use Rattle.image.specs.Puts.{startImage, putFrom}
+use Rattle.row_plan.specs.Plan.{rowCursor, makePlan}
+use Rattle.row_plan.specs.Runs.{readRun}
 use Rattle.rows_event.specs.Events.{readRows}
 use Rattle.rows_event.specs.Images.{ImageStepped as Told₁, imageMet, end as end₁, nextImage}
 use Rattle.feed_abi.specs.Answers.{answerNumber, answerNumbers, statusOf, numbersLeft, bytesLeft}
 use Rattle.feed_abi.specs.Calls.{said, saidWith, recordNumbers, partNumbers, mapNumbers, namesGiven, givenNumbers, cursorNumbers}
 use Rattle.feed_abi.specs.Calls.{stepNumbers, toldNumbers, rowsNumbers, imageNumbers, dialectOf, secondAsked, setsAsked, imagesAt, feedMap}
 use Rattle.feed_abi.specs.Calls.{feedCheck, feedColumn, feedNames, feedName, feedFirst, feedStep, feedStart, feedPut, feedRows, feedImage}
+use Rattle.feed_abi.specs.Calls.{planNumbers, runNumbers, feedPlan, feedRun}
 use Rattle.feed_abi.proofs.Tells.{names-asked}
 use Rattle.feed_abi.proofs.Backs.{told-back, null-back}
 use Rattle.promises.specs.Refusals.{Line, OneOf, just, later, refusalNumbers, inTable, Only, checkLines, namesLines}
@@ -184,8 +187,8 @@ columns-told : (n : ℕ) → (entryAt n - 6) / 6 ≡ n
 columns-told n = omega arith
 
 pub abi : AbiCalls
-unfolding feedMap feedCheck feedNames feedName feedFirst feedStep feedStart feedPut feedRows feedImage statusOf numbersLeft bytesLeft
-    inTable isAmong
+unfolding feedMap feedCheck feedNames feedName feedFirst feedStep feedStart feedPut feedRows feedImage feedPlan feedRun statusOf
+    numbersLeft bytesLeft inTable isAmong
 abi = record {
   feed-map = λ event postHeader. only refl (in-numbers mapNumbers (readEvent event postHeader) (refusals .read-event event postHeader));
   feed-check = λ event postHeader dialect buf d e.
@@ -220,6 +223,10 @@ abi = record {
   feed-image = λ r s firstStart firstLength hasSecond secondStart secondLength offset second.
       let w = setsAsked (part firstStart firstLength) (secondAsked hasSecond secondStart secondLength) in
       only refl (in-numbers imageNumbers (nextImage r w s (imagesAt offset second)) (refusals .next-image r w s (imagesAt offset second)));
+  feed-plan = λ r p plan. only refl (answered _ (left-too planNumbers (makePlan r p plan) (refusals .make-plan r p plan)));
+  feed-run = λ plan images start item offset values.
+      let c = rowCursor start item offset in
+      only refl (answered _ (left-too runNumbers (readRun plan images c values) (refusals .read-run plan images c values)));
   check-told = λ event postHeader dialect buf d es q e l.
       rw (q, checks .accepted-written d event postHeader buf es e l)
       (ap (λ (n : ℕ). ok (entryAt (length es) ∷ n ∷ [])) (columns-told (length es)));
@@ -252,6 +259,9 @@ abi = record {
       said-counts 6 imageNumbers
       (nextImage r (setsAsked (part firstStart firstLength) (secondAsked hasSecond secondStart secondLength)) s (imagesAt offset second))
       image-counts;
+  plan-two = λ r p plan. left-counts 2 planNumbers (makePlan r p plan) (λ x. refl);
+  run-four = λ plan images start item offset values.
+      left-counts 4 runNumbers (readRun plan images (rowCursor start item offset) values) (λ x. refl);
   numbers-touched = told-alone;
   value-back = told-back;
   null-back = null-back;

@@ -33,10 +33,11 @@ use Rattle.image.proofs.PutLaws.Fills.{fill-length}
 use Rattle.image.proofs.CursorLaws.Heads.{nulls-tested}
 use Rattle.image.proofs.PutLaws.Puts.{nulls-size}
 use Rattle.row_plan.specs.declared.row.RowCursor.{RowCursor}
-use Rattle.row_plan.specs.Plan.{planOf, makePlan, RowStepped, null, value, end, planStep}
+use Rattle.row_plan.specs.Plan.{planOf, makePlan, rowCursor, RowStepped, null, value, end, planStep}
 use Rattle.row_plan.specs.Runs.{movedBy, valueNumbers, turned, isOver, RowRan, ran, runOn, runFrom, runAnswer, readRun}
 use Rattle.row_plan.proofs.ReadLaws.{run-kept}
 use Rattle.feed_abi.specs.Calls.{saidWith, recordNumbers, cursorNumbers, dialectOf, feedCheck, feedStart, feedPut}
+use Rattle.feed_abi.specs.Calls.{planNumbers, runNumbers, feedPlan, feedRun}
 use Rattle.promises.specs.Buffers.{Touched, Buffers}
 
 -- a store that went well: where it ended
@@ -270,6 +271,21 @@ feed-puts r p nulls column offset sort parts lent im ns left e =
     let x = in-numbers cursorNumbers (putFrom r p nulls c lent (v .0) im) ns left (v .2) in
     subst (λ (y : List ℕ). Touched im offset (getD y 1 0) left) (x .2) (puts r p nulls c lent (v .0) im (x .0) left (x .1))
 
+feed-plans : (r p plan ns left : List ℕ) → feedPlan r p plan ≡ ok (ns, left) → Touched plan 0 (getD ns 0 0) left
+unfolding feedPlan
+feed-plans r p plan ns left e =
+    let x = in-numbers planNumbers (makePlan r p plan) ns left e in
+    subst (λ (y : List ℕ). Touched plan 0 (getD y 0 0) left) (x .2) (plans r p plan (x .0 .0) (x .0 .1) left (x .1))
+
+feed-runs : (plan images : List ℕ) (start item offset : ℕ) (values ns left : List ℕ)
+    → feedRun plan images start item offset values ≡ ok (ns, left)
+    → Touched values 0 (8 * getD ns 0 0) left
+unfolding feedRun
+feed-runs plan images start item offset values ns left e =
+    let c = rowCursor start item offset in
+    let x = in-numbers runNumbers (readRun plan images c values) ns left e in
+    subst (λ (y : List ℕ). Touched values 0 (8 * getD y 0 0) left) (x .2) (runs plan images c values (x .0 .0) (x .0 .1) left (x .1))
+
 pub buffers : Buffers
 buffers = record {
   write-bytes = stores;
@@ -284,4 +300,6 @@ buffers = record {
   feed-check = feed-checks;
   feed-start = feed-starts;
   feed-put = feed-puts;
+  feed-plan = feed-plans;
+  feed-run = feed-runs;
 }

@@ -107,6 +107,8 @@ use Rattle.feed_abi.proofs.feed_first.Met.{met as of-feed-first}
 use Rattle.feed_abi.proofs.feed_step.Met.{met as of-feed-step}
 use Rattle.feed_abi.proofs.feed_start.Met.{met as of-feed-start}
 use Rattle.feed_abi.proofs.feed_put.Met.{met as of-feed-put}
+use Rattle.feed_abi.proofs.feed_plan.Met.{met as of-feed-plan}
+use Rattle.feed_abi.proofs.feed_run.Met.{met as of-feed-run}
 use Rattle.promises.specs.Calls.{Calls}
 
 pub calls : Calls
@@ -219,4 +221,6 @@ calls = record {
   feed-step = λ M. of-feed-step {M = M};
   feed-start = λ M. of-feed-start {M = M};
   feed-put = λ M. of-feed-put {M = M};
+  feed-plan = λ M. of-feed-plan {M = M};
+  feed-run = λ M. of-feed-run {M = M};
 }
