@@ -104,5 +104,6 @@ fn checked(rounds: &str, columns: &[&str]) -> Result<(), String> {
 }
 
 fn counted_checks(columns: &str, keys: &str, times: &str) -> Result<(), String> {
-    maps::repeat(number(columns)?, number(keys)?, number(times)?)
+    let event = maps::event(number(columns)?, number(keys)?);
+    maps::best_nanos(&event, number(times)?).map(|_| ())
 }

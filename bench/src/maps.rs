@@ -66,32 +66,40 @@ pub fn table(rounds: usize, columns: &[usize]) -> Result<(), String> {
     for &columns in columns {
         for keys in [1, columns] {
             let event = event(columns, keys);
-            let best = (0..rounds)
-                .map(|_| micros(&event))
-                .try_fold(f64::INFINITY, |best, took| took.map(|took| best.min(took)));
-            let best = best?;
+            let best = best_nanos(&event, rounds)?;
+            let micros = best / 1000.0;
+            let a_column = best / columns as f64;
             println!(
-                "| {columns} | {keys} | {} | {best:.1} | {:.1} |",
-                event.len(),
-                best * 1000.0 / columns as f64
+                "| {columns} | {keys} | {} | {micros:.1} | {a_column:.1} |",
+                event.len()
             );
         }
     }
     Ok(())
 }
 
-fn micros(event: &[u8]) -> Result<f64, String> {
-    let mut record = vec![0; 6 + 6 * 4096];
-    let (checked, took) = nanos(|| port::check(black_box(event), &mut record));
-    checked.map_err(|why| format!("the check refused a measured map: {why:?}"))?;
-    Ok(took / 1000.0)
+/// Checks a map so many times, and tells the best time.
+pub fn best_nanos(event: &[u8], times: usize) -> Result<f64, String> {
+    let mut record = room();
+    let mut best = f64::INFINITY;
+    for _ in 0..times {
+        let (checked, took) = nanos(|| port::check(black_box(event), &mut record));
+        checked.map_err(|why| format!("the check refused a measured map: {why:?}"))?;
+        best = best.min(took);
+    }
+    Ok(best)
+}
+
+/// Room for any record.
+fn room() -> Vec<u8> {
+    vec![0; 6 + 6 * 4096]
 }
 
 /// Whether the check accepts the maps of the measured tables, and writes the records that the input is made with.
 pub fn compare() -> Result<(), String> {
     for columns in [5, 20, 255, 900, 4096] {
         for keys in [1, columns] {
-            let mut record = vec![0; 6 + 6 * 4096];
+            let mut record = room();
             let checked = port::check(&event(columns, keys), &mut record);
             let length = checked
                 .map_err(|why| format!("the map of {columns} columns is refused: {why:?}"))?;
@@ -104,10 +112,4 @@ pub fn compare() -> Result<(), String> {
     }
     println!("maps of 5, 20, 255, 900 and 4096 columns, with one key and with all: each accepted, with the record that the rows are made with");
     Ok(())
-}
-
-/// Checks a map so many times, for a counter of instructions.
-pub fn repeat(columns: usize, keys: usize, times: usize) -> Result<(), String> {
-    let event = event(columns, keys);
-    (0..times).try_for_each(|_| micros(&event).map(|_| ()))
 }
