@@ -47,6 +47,9 @@ uint64_t rows_by_steps(const uint8_t *profile, size_t profile_length, const uint
             offset = answer[FEED_STEP_NEXT_OFFSET];
             if (answer[FEED_STEP_KIND] == FEED_END)
                 break;
+            /* a step tells where bytes start in its image; the sum has where they start in the images */
+            if (answer[FEED_STEP_KIND] == FEED_BYTES)
+                sum += start;
             sum += answer[FEED_STEP_KIND];
             for (i = FEED_STEP_PARTS; i < FEED_OUT_NUMBERS; i++)
                 sum += answer[i];

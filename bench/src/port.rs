@@ -12,6 +12,9 @@ const NUMBERS: usize = 11;
 /// The kind of a step that tells the end of an image.
 const END: u64 = 0;
 
+/// The kind of a value of bytes.
+const BYTES: u64 = 11;
+
 // libfeed_abi.a comes with the crate `feed`
 extern "C" {
     fn feed_check(
@@ -184,10 +187,13 @@ impl Steps {
                         out.len(),
                     )
                 };
-                let out = answered(status, out)?;
+                let mut out = answered(status, out)?;
                 [_, _, column, offset, ..] = out;
-                if out[0] == END {
-                    break;
+                match out[0] {
+                    END => break,
+                    // a step tells where they start in its image
+                    BYTES => out[4] += (images.len() - image.len()) as u64,
+                    _ => {}
                 }
                 told(&out);
             }
@@ -280,14 +286,14 @@ pub struct Crate;
 
 impl Crate {
     #[inline(always)]
-    fn each(lent: Lent, mut told: impl FnMut(&[u8], Value)) -> Ended {
+    fn each(lent: Lent, mut told: impl FnMut(Value)) -> Ended {
         let record = feed::Record::from_bytes(lent.record.to_vec()).map_err(our_refusal)?;
         let mut image = lent.images;
         while !image.is_empty() {
             let mut row = record.row(lent.presence, image).map_err(our_refusal)?;
             for item in &mut row {
                 let (_, value) = item.map_err(our_refusal)?;
-                told(image, our_value(value));
+                told(our_value(value));
             }
             let used = row
                 .bytes_used()
@@ -366,14 +372,12 @@ impl Side for Crate {
     }
 
     fn walk(&self, lent: Lent, told: &mut dyn FnMut([u64; 8])) -> Option<Ended> {
-        Some(Crate::each(lent, |image, value| told(value.numbers(image))))
+        Some(Crate::each(lent, |value| told(value.numbers(lent.images))))
     }
 
     fn sum(&self, lent: Lent) -> (u64, Ended) {
         let mut sum = 0u64;
-        let ended = Crate::each(lent, |image, value| {
-            sum = sum.wrapping_add(value.sum(image))
-        });
+        let ended = Crate::each(lent, |value| sum = sum.wrapping_add(value.sum(lent.images)));
         (sum, ended)
     }
 }

@@ -30,14 +30,14 @@ pub struct Iterated;
 
 impl Iterated {
     #[inline(always)]
-    fn each(lent: Lent, mut told: impl FnMut(&[u8], Value)) -> Ended {
+    fn each(lent: Lent, mut told: impl FnMut(Value)) -> Ended {
         let reader = Reader::new(lent.record, lent.presence)?;
         let mut image = lent.images;
         while !image.is_empty() {
             let mut row = reader.row(image)?;
             for item in &mut row {
                 let (_, value) = item?;
-                told(image, value);
+                told(value);
             }
             // where no column is present an image takes no bytes, and all are left over
             if row.rest().len() == image.len() {
@@ -55,16 +55,14 @@ impl Side for Iterated {
     }
 
     fn walk(&self, lent: Lent, told: &mut dyn FnMut([u64; 8])) -> Option<Ended> {
-        Some(Iterated::each(lent, |image, value| {
-            told(value.numbers(image))
+        Some(Iterated::each(lent, |value| {
+            told(value.numbers(lent.images))
         }))
     }
 
     fn sum(&self, lent: Lent) -> (u64, Ended) {
         let mut sum = 0u64;
-        let ended = Iterated::each(lent, |image, value| {
-            sum = sum.wrapping_add(value.sum(image))
-        });
+        let ended = Iterated::each(lent, |value| sum = sum.wrapping_add(value.sum(lent.images)));
         (sum, ended)
     }
 }
@@ -79,17 +77,15 @@ impl Side for Strongest {
 
     fn walk(&self, lent: Lent, told: &mut dyn FnMut([u64; 8])) -> Option<Ended> {
         let plan = Plan::new(lent.record, lent.presence);
-        Some(
-            plan.and_then(|plan| plan.each(lent.images, |image, value| told(value.numbers(image)))),
-        )
+        Some(plan.and_then(|plan| plan.each(lent.images, |value| told(value.numbers(lent.images)))))
     }
 
     fn sum(&self, lent: Lent) -> (u64, Ended) {
         let mut sum = 0u64;
         let plan = Plan::new(lent.record, lent.presence);
         let ended = plan.and_then(|plan| {
-            plan.each(lent.images, |image, value| {
-                sum = sum.wrapping_add(value.sum(image))
+            plan.each(lent.images, |value| {
+                sum = sum.wrapping_add(value.sum(lent.images))
             })
         });
         (sum, ended)
@@ -111,8 +107,8 @@ impl Side for Stored {
         let mut count = 0;
         let plan = Plan::new(lent.record, lent.presence);
         let ended = plan.and_then(|plan| {
-            plan.each(lent.images, |image, value| {
-                values[count] = value.numbers(image);
+            plan.each(lent.images, |value| {
+                values[count] = value.numbers(lent.images);
                 count += 1;
                 if count == BATCH {
                     sum = sum.wrapping_add(sum_of(values.as_flattened()));

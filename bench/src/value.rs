@@ -95,8 +95,8 @@ pub enum Part {
 }
 
 impl Value<'_> {
-    /// Its sort and seven parts, as the calls of the port tell them. Bytes are told by where they start in the image.
-    pub fn numbers(self, image: &[u8]) -> [u64; 8] {
+    /// Its sort and seven parts, as the calls of the port tell them. Bytes are told by where they start in the images.
+    pub fn numbers(self, images: &[u8]) -> [u64; 8] {
         match self {
             Value::Null => [1, 0, 0, 0, 0, 0, 0, 0],
             Value::Int(n) => [2, n as u64, 0, 0, 0, 0, 0, 0],
@@ -144,7 +144,7 @@ impl Value<'_> {
             ],
             Value::Bytes(bytes) => [
                 11,
-                start_in(image, bytes),
+                start_in(images, bytes),
                 bytes.len() as u64,
                 0,
                 0,
@@ -157,7 +157,7 @@ impl Value<'_> {
 
     /// The sum of its sort and parts: the light digest of a value.
     #[inline(always)]
-    pub fn sum(self, image: &[u8]) -> u64 {
+    pub fn sum(self, images: &[u8]) -> u64 {
         match self {
             Value::Null => 1,
             Value::Int(n) => 2u64.wrapping_add(n as u64),
@@ -192,12 +192,12 @@ impl Value<'_> {
                 let clock = u64::from(hours) + u64::from(minutes) + u64::from(seconds);
                 10 + u64::from(negative) + clock + u64::from(micros)
             }
-            Value::Bytes(bytes) => 11 + start_in(image, bytes) + bytes.len() as u64,
+            Value::Bytes(bytes) => 11 + start_in(images, bytes) + bytes.len() as u64,
         }
     }
 }
 
-/// Where bytes that are a part of an image start in it.
-fn start_in(image: &[u8], bytes: &[u8]) -> u64 {
-    (bytes.as_ptr() as usize - image.as_ptr() as usize) as u64
+/// Where bytes that are a part of the images start in them.
+fn start_in(images: &[u8], bytes: &[u8]) -> u64 {
+    (bytes.as_ptr() as usize - images.as_ptr() as usize) as u64
 }
