@@ -49,7 +49,8 @@ pub worked : (feedPlan profile (7 ∷ []) (replicate 10 7) ≡ ok (9 ∷ 3 ∷ [
     × (feedRun plan (take 12 images) 0 1 5 (replicate 56 7) ≡ ok (3 ∷ 9 ∷ 1 ∷ 1 ∷ [], take 24 (drop 8 values) ++ replicate 32 7))
     × (feedRun plan (take 12 images) 9 1 1 (replicate 56 7) ≡ refuse 9 1)
 unfolding leValue leBytes signedOf twosOf stored store digit bitLsb0 familyOf isNumeric isCharacter isEnumOrSet shapeIn shapeOf isTaken
-    refusalOf need decode fault taken cut judged readDatum placed readValue shapeFor storageOp opOf sortOf partsOf padded flagsHold charsetHolds
+    refusalOf need decode fault taken cut judged readDatum placed readValue shapeFor storageOp opOf sortOf partsOf padded flagsHold
+    charsetHolds
     entryHolds entryOf entryIn entriesHold headHolds recordValid readRecord countBits shapeAt presentFrom slots headOf stepOver itemBytes
     planBytes planOf makePlan itemAt itemsFrom planSlots planStep movedBy valueNumbers turned isOver runFrom readRun feedPlan feedRun
 worked = (refl, refl, refl, refl, refl)

@@ -28,7 +28,13 @@ module _ (plan images : List ℕ) (c : RowCursor) {im : List ℕ} (is : im ≡ d
     (a : c .item ≤ itemCount plan) (b : bytesFor (itemCount plan) ≤ length im) (d : c .offset ≤ length im) where
   pub goes : planStep plan images c ≡ after (stepOver (planSlots plan im (c .item)) im (c .offset)) (λ t. ok (rowNext c t))
   unfolding planStep
-  goes = rw (sym is, le-ltb (itemCount plan) (c .item) a, le-ltb (length im) (bytesFor (itemCount plan)) b, le-ltb (length im) (c .offset) d)
+  goes = rw (
+    sym is,
+    le-ltb (itemCount plan) (c .item) a,
+    le-ltb (length im) (bytesFor (itemCount plan)) b,
+    le-ltb (length im)
+        (c .offset) d,
+  )
 
   pub row-end : c .item ≡ itemCount plan → planStep plan images c ≡ ok (end (c .offset))
   unfolding planSlots itemsFrom slots stepOver
@@ -40,7 +46,9 @@ module _ (plan images : List ℕ) (c : RowCursor) {im : List ℕ} (is : im ≡ d
   unfolding planSlots itemsFrom slots
   slots-end e = let z : itemCount plan - c .item ≡ 0 = omega arith in rw z
 
-  pub slots-here : c .item < itemCount plan → planSlots plan im (c .item) ≡ record { present = itemAt plan (c .item); null = bitLsb0 im (c .item) } ∷ planSlots plan im (suc (c .item))
+  pub slots-here : c .item < itemCount plan
+      → planSlots plan im (c .item) ≡ record { present = itemAt plan (c .item); null = bitLsb0 im (c .item) } ∷ planSlots plan im (suc
+      (c .item))
   unfolding planSlots itemsFrom slots
   slots-here l =
       let z : itemCount plan - c .item ≡ suc (itemCount plan - suc (c .item)) = omega arith in
@@ -51,11 +59,13 @@ module _ (plan images : List ℕ) (c : RowCursor) {im : List ℕ} (is : im ≡ d
     unfolding stepOver itemAt
     row-null n = goes ∙ rw (slots-here l, n, col)
 
-    module _ (n : bitLsb0 im (c .item) ≡ false) (x : Read) (q : readTold x ≡ readValue (shapeFor (getD plan (3 * c .item) 0)) j im (c .offset)) where
+    module _ (n : bitLsb0 im (c .item) ≡ false) (x : Read) (q : readTold x
+        ≡ readValue (shapeFor (getD plan (3 * c .item) 0)) j im (c .offset)) where
       abbrev then : Outcome (Value × ℕ) → Outcome RowStepped
       then w = after w (λ y. ok (value j (y .0) (rowCursor (c .start) (c .item + 1) (y .1))))
 
-      through : (w : Outcome (Value × ℕ)) → after (after w (λ y. ok (value₁ j (y .0) (cursor (j + 1) (y .1))))) (λ t. ok (rowNext c t)) ≡ then w
+      through : (w : Outcome (Value × ℕ)) → after (after w (λ y. ok (value₁ j (y .0) (cursor (j + 1) (y .1))))) (λ t. ok (rowNext c t))
+          ≡ then w
       through (ok y) = refl
       through (refused w) = refl
 
@@ -74,15 +84,23 @@ pub row-none : (plan images : List ℕ) (c : RowCursor) → itemCount plan < c .
 unfolding planStep
 row-none plan images c h = rw (lt-ltb (itemCount plan) (c .item) h)
 
-pub row-short : (plan images : List ℕ) (c : RowCursor) {im : List ℕ} → im ≡ drop (c .start) images → c .item ≤ itemCount plan → length im < bytesFor (itemCount plan)
+pub row-short : (plan images : List ℕ) (c : RowCursor) {im : List ℕ} → im ≡ drop (c .start) images → c .item ≤ itemCount plan
+    → length im < bytesFor (itemCount plan)
     → planStep plan images c ≡ refuse 9 0
 unfolding planStep
 row-short plan images c {im} is a b = rw (sym is, le-ltb (itemCount plan) (c .item) a, lt-ltb (length im) (bytesFor (itemCount plan)) b)
 
-pub row-past : (plan images : List ℕ) (c : RowCursor) {im : List ℕ} → im ≡ drop (c .start) images → c .item ≤ itemCount plan → bytesFor (itemCount plan) ≤ length im → length im < c .offset
+pub row-past : (plan images : List ℕ) (c : RowCursor) {im : List ℕ} → im ≡ drop (c .start) images → c .item ≤ itemCount plan
+    → bytesFor (itemCount plan) ≤ length im → length im < c .offset
     → planStep plan images c ≡ refuse 9 (c .item)
 unfolding planStep
-row-past plan images c {im} is a b d = rw (sym is, le-ltb (itemCount plan) (c .item) a, le-ltb (length im) (bytesFor (itemCount plan)) b, lt-ltb (length im) (c .offset) d)
+row-past plan images c {im} is a b d = rw (
+  sym is,
+  le-ltb (itemCount plan) (c .item) a,
+  le-ltb (length im) (bytesFor
+      (itemCount plan)) b,
+  lt-ltb (length im) (c .offset) d,
+)
 
 -- the part of the images from the start on, or from their end on
 pub rest-is : (s : List ℕ) (start from : ℕ) → from ≡ min start (length s) → take (length s - from) (drop from s) ≡ drop start s

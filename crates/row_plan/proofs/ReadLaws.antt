@@ -27,9 +27,11 @@ pub record Kept (v : ℕ) (d : List ℕ) (w : RowRan) : Type 0 where
 kept-on : (f : RowCursor → ℕ → List ℕ → RowRan) → ((c : RowCursor) (v : ℕ) (d : List ℕ) → Kept v d (f c v d)) → (c : RowCursor) (v : ℕ)
     (d : List ℕ) (x : Outcome RowStepped) → Kept v d (runOn f c v d x)
 kept-on f k c v d (ok (null j n)) =
-    let h = k n (v + 1) (stored (valueNumbers (c .start) Null) d (8 * v)) in record { more = omega (arith, h .more); kept = λ e. absurd (omega (arith, h .more, e)) }
+    let h = k n (v + 1) (stored (valueNumbers (c .start) Null) d (8 * v)) in
+    record { more = omega (arith, h .more); kept = λ e. absurd (omega (arith, h .more, e)) }
 kept-on f k c v d (ok (value j x n)) =
-    let h = k n (v + 1) (stored (valueNumbers (c .start) x) d (8 * v)) in record { more = omega (arith, h .more); kept = λ e. absurd (omega (arith, h .more, e)) }
+    let h = k n (v + 1) (stored (valueNumbers (c .start) x) d (8 * v)) in
+    record { more = omega (arith, h .more); kept = λ e. absurd (omega (arith, h .more, e)) }
 kept-on f k c v d (ok (end used)) = record { more = omega arith; kept = λ e. refl }
 kept-on f k c v d (refused w) = record { more = omega arith; kept = λ e. refl }
 

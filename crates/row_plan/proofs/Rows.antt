@@ -23,7 +23,8 @@ use Rattle.image.proofs.PresenceLaws.Firsts.{presentAt, first-is, slotAt, slots
 use Rattle.image.proofs.CursorLaws.Heads.{Over, head-is, nullBytes}
 use Rattle.image.proofs.PresenceLaws.Presents.{present-length}
 use Rattle.row_plan.specs.declared.row.RowCursor.{RowCursor}
-use Rattle.row_plan.specs.Plan.{planBytes, planOf, itemCount, itemsFrom, planSlots, rowCursor, RowStepped, rowNext, planStep, rowAt, rowsNext}
+use Rattle.row_plan.specs.Plan.{planBytes, planOf, itemCount, itemsFrom, planSlots, rowCursor, RowStepped, rowNext, planStep, rowAt}
+use Rattle.row_plan.specs.Plan.{rowsNext}
 use Rattle.row_plan.proofs.Items.{items-from, plan-count, kept-present}
 
 -- ---- the present columns behind the first ones
@@ -33,7 +34,8 @@ drop-next zero (a ∷ xs) x ys e = cc
 drop-next (suc k) [] x ys e = absurd (let z : _≡_ {A = ℕ} 0 1 = cc in omega arith)
 drop-next (suc k) (a ∷ xs) x ys e = drop-next k xs x ys e
 
-pub present-here : (m : ℕ) (r p : List ℕ) (j : ℕ) → bitLsb0 p j ≡ true → presentFrom (suc m) r p j ≡ presentAt r j ∷ presentFrom m r p (suc j)
+pub present-here : (m : ℕ) (r p : List ℕ) (j : ℕ) → bitLsb0 p j ≡ true
+    → presentFrom (suc m) r p j ≡ presentAt r j ∷ presentFrom m r p (suc j)
 unfolding presentFrom
 present-here m r p j e = rw e
 
@@ -55,7 +57,8 @@ drop-present r p (suc j) h = go (drop-present r p j (omega arith)) (bitLsb0 p j)
         → drop (countBits p (suc j)) (present r p) ≡ presentFrom m r p (suc j)
     go i true e =
         ap (λ (k : ℕ). drop k (present r p)) (count-set p j e)
-        ∙ drop-next (countBits p j) (present r p) (presentAt r j) (presentFrom m r p (suc j)) (i ∙ ap (λ (k : ℕ). presentFrom k r p j) n ∙ present-here m r p j e)
+        ∙ drop-next (countBits p j) (present r p) (presentAt r j) (presentFrom m r p (suc j)) (i ∙ ap (λ (k : ℕ). presentFrom k r p j) n
+        ∙ present-here m r p j e)
     go i false e =
         ap (λ (k : ℕ). drop k (present r p)) (count-not p j e) ∙ i ∙ ap (λ (k : ℕ). presentFrom k r p j) n ∙ present-not m r p j e
 
@@ -64,7 +67,8 @@ pub items-present : (r p : List ℕ) → itemCount (planOf r p) ≡ countBits p 
 unfolding planOf
 items-present r p = plan-count (present r p) ∙ present-length r p
 
-pub plan-slots : (r p im : List ℕ) (j : ℕ) → recordValid r ≡ true → j ≤ countOf r → planSlots (planOf r p) im (countBits p j) ≡ slotsAt r p im j
+pub plan-slots : (r p im : List ℕ) (j : ℕ) → recordValid r ≡ true → j ≤ countOf r
+    → planSlots (planOf r p) im (countBits p j) ≡ slotsAt r p im j
 unfolding planSlots planOf slotsAt
 plan-slots r p im j v h =
     rw (plan-count (present r p), items-from (countBits p j) (present r p) (kept-present r p v), drop-present r p j h)
@@ -85,21 +89,25 @@ alike-end : (p : List ℕ) (start : ℕ) (c : RowCursor) (im : List ℕ) (o : �
 unfolding stepOver
 alike-end p start c im o = refl
 
-alike-more : (p : List ℕ) (start : ℕ) (c : RowCursor) (im : List ℕ) (i : Slot) (is : List Slot) (o : ℕ) → c .start ≡ start → c .item + 1 ≡ countBits p (i .present .column + 1)
+alike-more : (p : List ℕ) (start : ℕ) (c : RowCursor) (im : List ℕ) (i : Slot) (is : List Slot) (o : ℕ) → c .start ≡ start
+    → c .item + 1 ≡ countBits p (i .present .column + 1)
     → Alike p start c (stepOver (i ∷ is) im o)
 unfolding stepOver rowAt
 alike-more p start c im i is o s k = go (i .null)
   where
-    read : (x : Outcome (Value × ℕ)) → Alike p start c (after x (λ x. ok (value₁ (i .present .column) (x .0) (cursor (i .present .column + 1) (x .1)))))
+    read : (x : Outcome (Value × ℕ)) → Alike p start c (after x (λ x. ok (value₁ (i .present .column) (x .0) (cursor
+        (i .present .column + 1) (x .1)))))
     read (ok x) = rw (s, k)
     read (refused w) = refl
 
     go : (b : Bool) → Alike p start c (cond b (ok (null₁ (i .present .column) (cursor (i .present .column + 1) o)))
-        (after (readValue (i .present .shape) (i .present .column) im o) (λ x. ok (value₁ (i .present .column) (x .0) (cursor (i .present .column + 1) (x .1))))))
+        (after (readValue (i .present .shape) (i .present .column) im o) (λ x. ok (value₁ (i .present .column) (x .0) (cursor
+        (i .present .column + 1) (x .1))))))
     go true = rw (s, k)
     go false = read (readValue (i .present .shape) (i .present .column) im o)
 
-alike : (r p im : List ℕ) (start j o : ℕ) → j ≤ countOf r → Alike p start (rowCursor start (countBits p j) o) (stepOver (slotsAt r p im j) im o)
+alike : (r p im : List ℕ) (start j o : ℕ) → j ≤ countOf r
+    → Alike p start (rowCursor start (countBits p j) o) (stepOver (slotsAt r p im j) im o)
 alike r p im start j o b =
     let n = countOf r in
     let k = firstFrom (n - j) p j in
@@ -108,7 +116,8 @@ alike r p im start j o b =
     dite (decLe n k)
     (λ a. rw (slots-end r p im j b a) (alike-end p start c im o))
     (λ a. let l : k < n = omega arith in
-    let u : countBits p j + 1 ≡ countBits p (k + 1) = add-one (countBits p j) ∙ ap suc (sym (i .rank)) ∙ sym (ap (countBits p) (add-one k) ∙ count-set p k (i .found (omega arith))) in
+    let u : countBits p j + 1 ≡ countBits p (k + 1) = add-one (countBits p j) ∙ ap suc (sym (i .rank))
+    ∙ sym (ap (countBits p) (add-one k) ∙ count-set p k (i .found (omega arith))) in
     rw (slots-first r p im j b l) (alike-more p start c im (slotAt r p im k) (slotsAt r p im (k + 1)) o refl u))
 
 -- ---- the law: by the plan of a record a step is that under the record, from every cursor that a walk can have

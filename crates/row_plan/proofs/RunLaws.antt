@@ -87,7 +87,8 @@ bound im (ok y) c false ns o h k e =
     let q : y .1 ≡ o = ap (λ (p : List ℕ × ℕ). p .1) (same-ok e) in omega (arith, q, k y refl)
 bound im (refused w) c false ns o h k e = absurd (ok-not-refused (sym e))
 
-module _ (plan images : List ℕ) (items : ℕ) (c : RowCursor) (t : Stands plan images items c) {im : List ℕ} (is : im ≡ drop (c .start) images) where
+module _ (plan images : List ℕ) (items : ℕ) (c : RowCursor) (t : Stands plan images items c) {im : List ℕ} (is : im
+    ≡ drop (c .start) images) where
   pub im-length : length im ≡ length images - c .start
   im-length = ap length is ∙ length-drop (c .start) images
 
@@ -153,7 +154,8 @@ pub gate-refused : (plan images : List ℕ) (c : RowCursor) (w : Refusal) → ro
 unfolding rowGate planStep
 gate-refused plan images c w e =
     rw (length-drop (c .start) images)
-    (go (ltb (itemCount plan) (c .item)) (ltb (length images - c .start) (bytesFor (itemCount plan))) (ltb (length images - c .start) (c .offset)) _ e)
+    (go (ltb (itemCount plan) (c .item)) (ltb (length images - c .start) (bytesFor (itemCount plan))) (ltb (length images - c .start)
+    (c .offset)) _ e)
   where
     go : (a b d : Bool) (x : Outcome RowStepped)
         → cond a (refuse 14 (c .item)) (cond b (refuse 9 0) (cond d (refuse 9 (c .item)) (ok (tt {0})))) ≡ refused w
@@ -163,10 +165,12 @@ gate-refused plan images c w e =
     go false false true x e = ap refused (same-refused e)
     go false false false x e = absurd (ok-not-refused e)
 
-pub gate-open : (items left : ℕ) (c : RowCursor) → rowGate items left c ≡ ok tt → (c .item ≤ items) × (bytesFor items ≤ left) × (c .offset ≤ left)
+pub gate-open : (items left : ℕ) (c : RowCursor) → rowGate items left c ≡ ok tt
+    → (c .item ≤ items) × (bytesFor items ≤ left) × (c .offset ≤ left)
 unfolding rowGate
 gate-open items left c e =
-    go (ltb items (c .item)) (ltb left (bytesFor items)) (ltb left (c .offset)) (ltb-false items (c .item)) (ltb-false left (bytesFor items))
+    go (ltb items (c .item)) (ltb left (bytesFor items)) (ltb left (c .offset)) (ltb-false items (c .item)) (ltb-false left
+    (bytesFor items))
     (ltb-false left (c .offset)) e
   where
     go : (a b d : Bool) → (a ≡ false → c .item ≤ items) → (b ≡ false → bytesFor items ≤ left) → (d ≡ false → c .offset ≤ left)

@@ -163,14 +163,16 @@ module _ (plan images : List ℕ) (start : ℕ) where
       → RowRun plan images start item offset (readSlots (planSlots plan im item) (drop offset im) offset)
   follow zero item offset e b d =
       let n = length-drop start images in
-      let q = slots-end plan images (rowCursor start item offset) refl (omega arith) (omega (arith, b, n)) (omega (arith, d, n)) (omega arith) in
+      let q = slots-end plan images (rowCursor start item offset) refl (omega arith) (omega (arith, b, n)) (omega (arith, d, n))
+      (omega arith) in
       subst (λ (w : RowWalked). RowRun plan images start item offset w)
       (sym (no-slot (drop offset im) offset) ∙ ap (λ (is : List Slot). readSlots is (drop offset im) offset) (sym q))
       (ends item offset (omega arith))
   follow (suc k) item offset e b d =
       let n = length-drop start images in
       let l : item < itemCount plan = omega arith in
-      let t : Stands plan images (itemCount plan) (rowCursor start item offset) = record { count = refl; item = l; nulls = b; offset = d } in
+      let t : Stands plan images (itemCount plan)
+      (rowCursor start item offset) = record { count = refl; item = l; nulls = b; offset = d } in
       let q = slots-here plan images (rowCursor start item offset) refl (omega arith) (omega (arith, b, n)) (omega (arith, d, n)) l in
       subst (λ (w : RowWalked). RowRun plan images start item offset w)
       (sym (one-slot item offset) ∙ ap (λ (is : List Slot). readSlots is (drop offset im) offset) (sym q))

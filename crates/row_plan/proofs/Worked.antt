@@ -42,7 +42,11 @@ pub worked-made : (makePlan profile (7 ∷ []) (replicate 9 0) ≡ ok ((9, 3), p
     × (makePlan profile (5 ∷ []) (replicate 7 9) ≡ ok ((6, 2), 13 ∷ 0 ∷ 0 ∷ 2 ∷ 2 ∷ 0 ∷ 9 ∷ []))
     × (makePlan profile (7 ∷ []) (replicate 8 9) ≡ refuse 8 0)
     × (makePlan (take 23 profile) (7 ∷ []) (replicate 9 9) ≡ refuse 11 0)
-unfolding leValue leBytes signedOf twosOf stored store digit bitLsb0 familyOf isNumeric isCharacter isEnumOrSet declaredIn shapeIn shapeOf isTaken refusalOf need decode fault taken cut judged readDatum placed readValue shapeFor storageOp opOf sortOf partsOf padded flagsHold charsetHolds entryHolds entryOf countOf entryPlace entryIn entriesHold headHolds recordValid readRecord countBits shapeAt presentFrom slots headOf stepOver itemBytes planBytes planOf makePlan itemAt itemsFrom planSlots planStep movedBy valueNumbers turned isOver runFrom readRun
+unfolding leValue leBytes signedOf twosOf stored store digit bitLsb0 familyOf isNumeric isCharacter isEnumOrSet declaredIn shapeIn shapeOf
+    isTaken refusalOf need decode fault taken cut judged readDatum placed readValue shapeFor storageOp opOf sortOf partsOf padded flagsHold
+    charsetHolds entryHolds entryOf countOf entryPlace entryIn entriesHold headHolds recordValid readRecord countBits shapeAt presentFrom
+    slots headOf stepOver itemBytes planBytes planOf makePlan itemAt itemsFrom planSlots planStep movedBy valueNumbers turned isOver
+    runFrom readRun
 worked-made = (refl, refl, refl, refl)
 
 worked-steps :
@@ -58,7 +62,11 @@ worked-steps :
     -- an op that is none, at column 258; bytes behind the last whole item say nothing
     × (planStep (0 ∷ 2 ∷ 1 ∷ 77 ∷ []) row (rowCursor 1 0 1) ≡ refuse 11 258)
     × (planStep [] [] (rowCursor 5 0 0) ≡ ok (end 0))
-unfolding leValue leBytes signedOf twosOf stored store digit bitLsb0 familyOf isNumeric isCharacter isEnumOrSet declaredIn shapeIn shapeOf isTaken refusalOf need decode fault taken cut judged readDatum placed readValue shapeFor storageOp opOf sortOf partsOf padded flagsHold charsetHolds entryHolds entryOf countOf entryPlace entryIn entriesHold headHolds recordValid readRecord countBits shapeAt presentFrom slots headOf stepOver itemBytes planBytes planOf makePlan itemAt itemsFrom planSlots planStep movedBy valueNumbers turned isOver runFrom readRun
+unfolding leValue leBytes signedOf twosOf stored store digit bitLsb0 familyOf isNumeric isCharacter isEnumOrSet declaredIn shapeIn shapeOf
+    isTaken refusalOf need decode fault taken cut judged readDatum placed readValue shapeFor storageOp opOf sortOf partsOf padded flagsHold
+    charsetHolds entryHolds entryOf countOf entryPlace entryIn entriesHold headHolds recordValid readRecord countBits shapeAt presentFrom
+    slots headOf stepOver itemBytes planBytes planOf makePlan itemAt itemsFrom planSlots planStep movedBy valueNumbers turned isOver
+    runFrom readRun
 worked-steps = (refl, refl, refl, refl, refl, refl, refl, refl, refl)
 
 -- from the last value of the first row on: it and two of the second, whose bytes start at 15 of both; the end; a row cut short
@@ -72,7 +80,11 @@ pub worked-runs :
     × (readRun plan (row ++ row) (rowCursor 9 3 9) (replicate 8 7) ≡ ok ((0, rowCursor 18 0 1), replicate 8 7))
     × (readRun plan (row ++ (248 ∷ [])) (rowCursor 9 0 1) (replicate 8 7) ≡ refuse 9 0)
     × (readRun plan row (rowCursor 0 0 1) (replicate 7 7) ≡ refuse 8 0)
-unfolding leValue leBytes signedOf twosOf stored store digit bitLsb0 familyOf isNumeric isCharacter isEnumOrSet declaredIn shapeIn shapeOf isTaken refusalOf need decode fault taken cut judged readDatum placed readValue shapeFor storageOp opOf sortOf partsOf padded flagsHold charsetHolds entryHolds entryOf countOf entryPlace entryIn entriesHold headHolds recordValid readRecord countBits shapeAt presentFrom slots headOf stepOver itemBytes planBytes planOf makePlan itemAt itemsFrom planSlots planStep movedBy valueNumbers turned isOver runFrom readRun
+unfolding leValue leBytes signedOf twosOf stored store digit bitLsb0 familyOf isNumeric isCharacter isEnumOrSet declaredIn shapeIn shapeOf
+    isTaken refusalOf need decode fault taken cut judged readDatum placed readValue shapeFor storageOp opOf sortOf partsOf padded flagsHold
+    charsetHolds entryHolds entryOf countOf entryPlace entryIn entriesHold headHolds recordValid readRecord countBits shapeAt presentFrom
+    slots headOf stepOver itemBytes planBytes planOf makePlan itemAt itemsFrom planSlots planStep movedBy valueNumbers turned isOver
+    runFrom readRun
 worked-runs = (refl, refl, refl, refl)
 
 -- an image of the first and third column alone, by the plan of all three: -2, and then 200 is taken for the length of the string, which is
@@ -81,5 +93,9 @@ pub worked-other :
     (readRun plan (252 ∷ 254 ∷ 255 ∷ 255 ∷ 255 ∷ 200 ∷ []) (rowCursor 0 0 1) (replicate 16 0)
     ≡ ok ((1, rowCursor 0 1 5), 2 ∷ (2 ^ 64 - 2) ∷ 0 ∷ 0 ∷ 0 ∷ 0 ∷ 0 ∷ 0 ∷ 0 ∷ 0 ∷ 0 ∷ 0 ∷ 0 ∷ 0 ∷ 0 ∷ 0 ∷ []))
     × (readRun plan (252 ∷ 254 ∷ 255 ∷ 255 ∷ 255 ∷ 200 ∷ []) (rowCursor 0 1 5) (replicate 16 0) ≡ refuse 9 1)
-unfolding leValue leBytes signedOf twosOf stored store digit bitLsb0 familyOf isNumeric isCharacter isEnumOrSet declaredIn shapeIn shapeOf isTaken refusalOf need decode fault taken cut judged readDatum placed readValue shapeFor storageOp opOf sortOf partsOf padded flagsHold charsetHolds entryHolds entryOf countOf entryPlace entryIn entriesHold headHolds recordValid readRecord countBits shapeAt presentFrom slots headOf stepOver itemBytes planBytes planOf makePlan itemAt itemsFrom planSlots planStep movedBy valueNumbers turned isOver runFrom readRun
+unfolding leValue leBytes signedOf twosOf stored store digit bitLsb0 familyOf isNumeric isCharacter isEnumOrSet declaredIn shapeIn shapeOf
+    isTaken refusalOf need decode fault taken cut judged readDatum placed readValue shapeFor storageOp opOf sortOf partsOf padded flagsHold
+    charsetHolds entryHolds entryOf countOf entryPlace entryIn entriesHold headHolds recordValid readRecord countBits shapeAt presentFrom
+    slots headOf stepOver itemBytes planBytes planOf makePlan itemAt itemsFrom planSlots planStep movedBy valueNumbers turned isOver
+    runFrom readRun
 worked-other = (refl, refl)

@@ -74,7 +74,8 @@ rowNext c (null₁ j n) = null j (rowCursor (c .start) (c .item + 1) (n .offset)
 rowNext c (value₁ j v n) = value j v (rowCursor (c .start) (c .item + 1) (n .offset))
 rowNext c (end₁ used) = end used
 
--- from any cursor, by any plan: 14 for an item above their count; 9 at 0 for null bits that are not whole; 9 at the item for an offset past the image
+-- from any cursor, by any plan: 14 for an item above their count; 9 at 0 for null bits that are not whole; 9 at the item for an offset past
+-- the image
 unfoldable pub planStep : List ℕ → List ℕ → RowCursor → Outcome RowStepped
 unfolding planSlots stepOver
 planStep plan images c =

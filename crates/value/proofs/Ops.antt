@@ -6,12 +6,17 @@ use borrow.Author.Tests.{ltb-true, ltb-false, le-leb, lt-leb, lt-ltb, le-ltb}
 use native.Mathlib.Omega.{arith}
 use lib.Dec.{T, leb, ltb, eqb, leb→le, eqb→eq}
 use Rattle.temporal.specs.declared.storage.Storage.{Storage}
-use Rattle.temporal.specs.declared.storage.Storage.the-variants.{Timestamp as StoredTimestamp, OldTime, OldDatetime, Newdate, Timestamp2 as StoredTimestamp2, Datetime2 as StoredDatetime2, Time2 as StoredTime2}
+use Rattle.temporal.specs.declared.storage.Storage.the-variants.{Timestamp as StoredTimestamp, OldTime, OldDatetime, Newdate}
+use Rattle.temporal.specs.declared.storage.Storage.the-variants.{Timestamp2 as StoredTimestamp2, Datetime2 as StoredDatetime2}
+use Rattle.temporal.specs.declared.storage.Storage.the-variants.{Time2 as StoredTime2}
 use Rattle.value.specs.declared.shape.Shape.{Shape}
-use Rattle.value.specs.declared.shape.Shape.the-variants.{Unsigned, Signed, FloatBits, DoubleBits, YearByte, Timed, Fixed, Counted, NotTaken}
+use Rattle.value.specs.declared.shape.Shape.the-variants.{Unsigned, Signed, FloatBits, DoubleBits, YearByte, Timed, Fixed, Counted}
+use Rattle.value.specs.declared.shape.Shape.the-variants.{NotTaken}
 use Rattle.value.specs.declared.column.Column.{Column}
 use Rattle.value.specs.declared.types.Family.{Family}
-use Rattle.value.specs.declared.types.Family.the-variants.{Integer, Float, Double, Year, Timestamp, Date, Time, Datetime, Timestamp2, Datetime2, Time2, Varchar, Char, Blob, Json, Bit, Decimal, Enum, Set, Unknown}
+use Rattle.value.specs.declared.types.Family.the-variants.{Integer, Float, Double, Year, Timestamp, Date, Time, Datetime, Timestamp2}
+use Rattle.value.specs.declared.types.Family.the-variants.{Datetime2, Time2, Varchar, Char, Blob, Json, Bit, Decimal, Enum, Set}
+use Rattle.value.specs.declared.types.Family.the-variants.{Unknown}
 use Rattle.value.specs.Types.{familyOf, or30}
 use Rattle.value.specs.Columns.{shapeIn, shapeOf, isTaken, decimalBytes}
 use Rattle.value.specs.Inner.Shapes.{Sized}
@@ -33,26 +38,109 @@ at-signed op h l = rw (le-ltb op 1 (omega arith), le-ltb op 10 (omega arith), lt
 
 pub at-timestamp : (op : ℕ) → 25 ≤ op → op < 32 → shapeFor op ≡ Timed (StoredTimestamp2 (op - 25))
 unfolding shapeFor
-at-timestamp op h l = rw (le-ltb op 1 (omega arith), le-ltb op 10 (omega arith), le-ltb op 18 (omega arith), le-ltb op 19 (omega arith), le-ltb op 20 (omega arith), le-ltb op 21 (omega arith), le-ltb op 22 (omega arith), le-ltb op 23 (omega arith), le-ltb op 24 (omega arith), le-ltb op 25 (omega arith), lt-ltb op 32 l)
+at-timestamp op h l = rw (
+  le-ltb op 1 (omega arith),
+  le-ltb op 10 (omega arith),
+  le-ltb op 18 (omega arith),
+  le-ltb op 19
+      (omega arith),
+  le-ltb op 20 (omega arith),
+  le-ltb op 21 (omega arith),
+  le-ltb op 22 (omega arith),
+  le-ltb op 23
+      (omega arith),
+  le-ltb op 24 (omega arith),
+  le-ltb op 25 (omega arith),
+  lt-ltb op 32 l,
+)
 
 pub at-datetime : (op : ℕ) → 32 ≤ op → op < 39 → shapeFor op ≡ Timed (StoredDatetime2 (op - 32))
 unfolding shapeFor
-at-datetime op h l = rw (le-ltb op 1 (omega arith), le-ltb op 10 (omega arith), le-ltb op 18 (omega arith), le-ltb op 19 (omega arith), le-ltb op 20 (omega arith), le-ltb op 21 (omega arith), le-ltb op 22 (omega arith), le-ltb op 23 (omega arith), le-ltb op 24 (omega arith), le-ltb op 25 (omega arith), le-ltb op 32 (omega arith), lt-ltb op 39 l)
+at-datetime op h l = rw (
+  le-ltb op 1 (omega arith),
+  le-ltb op 10 (omega arith),
+  le-ltb op 18 (omega arith),
+  le-ltb op 19
+      (omega arith),
+  le-ltb op 20 (omega arith),
+  le-ltb op 21 (omega arith),
+  le-ltb op 22 (omega arith),
+  le-ltb op 23
+      (omega arith),
+  le-ltb op 24 (omega arith),
+  le-ltb op 25 (omega arith),
+  le-ltb op 32 (omega arith),
+  lt-ltb op 39 l,
+)
 
 pub at-time : (op : ℕ) → 39 ≤ op → op < 46 → shapeFor op ≡ Timed (StoredTime2 (op - 39))
 unfolding shapeFor
-at-time op h l = rw (le-ltb op 1 (omega arith), le-ltb op 10 (omega arith), le-ltb op 18 (omega arith), le-ltb op 19 (omega arith), le-ltb op 20 (omega arith), le-ltb op 21 (omega arith), le-ltb op 22 (omega arith), le-ltb op 23 (omega arith), le-ltb op 24 (omega arith), le-ltb op 25 (omega arith), le-ltb op 32 (omega arith), le-ltb op 39 (omega arith), lt-ltb op 46 l)
+at-time op h l = rw (
+  le-ltb op 1 (omega arith),
+  le-ltb op 10 (omega arith),
+  le-ltb op 18 (omega arith),
+  le-ltb op 19
+      (omega arith),
+  le-ltb op 20 (omega arith),
+  le-ltb op 21 (omega arith),
+  le-ltb op 22 (omega arith),
+  le-ltb op 23
+      (omega arith),
+  le-ltb op 24 (omega arith),
+  le-ltb op 25 (omega arith),
+  le-ltb op 32 (omega arith),
+  le-ltb op 39
+      (omega arith),
+  lt-ltb op 46 l,
+)
 
 at-counted : (op : ℕ) → 46 ≤ op → op < 51 → shapeFor op ≡ Counted (op - 46)
 unfolding shapeFor
-at-counted op h l = rw (le-ltb op 1 (omega arith), le-ltb op 10 (omega arith), le-ltb op 18 (omega arith), le-ltb op 19 (omega arith), le-ltb op 20 (omega arith), le-ltb op 21 (omega arith), le-ltb op 22 (omega arith), le-ltb op 23 (omega arith), le-ltb op 24 (omega arith), le-ltb op 25 (omega arith), le-ltb op 32 (omega arith), le-ltb op 39 (omega arith), le-ltb op 46 (omega arith), lt-ltb op 51 l)
+at-counted op h l = rw (
+  le-ltb op 1 (omega arith),
+  le-ltb op 10 (omega arith),
+  le-ltb op 18 (omega arith),
+  le-ltb op 19
+      (omega arith),
+  le-ltb op 20 (omega arith),
+  le-ltb op 21 (omega arith),
+  le-ltb op 22 (omega arith),
+  le-ltb op 23
+      (omega arith),
+  le-ltb op 24 (omega arith),
+  le-ltb op 25 (omega arith),
+  le-ltb op 32 (omega arith),
+  le-ltb op 39
+      (omega arith),
+  le-ltb op 46 (omega arith),
+  lt-ltb op 51 l,
+)
 
 at-fixed : (op : ℕ) → 51 ≤ op → shapeFor op ≡ Fixed (op - 51)
 unfolding shapeFor
-at-fixed op h = rw (le-ltb op 1 (omega arith), le-ltb op 10 (omega arith), le-ltb op 18 (omega arith), le-ltb op 19 (omega arith), le-ltb op 20 (omega arith), le-ltb op 21 (omega arith), le-ltb op 22 (omega arith), le-ltb op 23 (omega arith), le-ltb op 24 (omega arith), le-ltb op 25 (omega arith), le-ltb op 32 (omega arith), le-ltb op 39 (omega arith), le-ltb op 46 (omega arith), le-ltb op 51 (omega arith))
+at-fixed op h = rw (
+  le-ltb op 1 (omega arith),
+  le-ltb op 10 (omega arith),
+  le-ltb op 18 (omega arith),
+  le-ltb op 19
+      (omega arith),
+  le-ltb op 20 (omega arith),
+  le-ltb op 21 (omega arith),
+  le-ltb op 22 (omega arith),
+  le-ltb op 23
+      (omega arith),
+  le-ltb op 24 (omega arith),
+  le-ltb op 25 (omega arith),
+  le-ltb op 32 (omega arith),
+  le-ltb op 39
+      (omega arith),
+  le-ltb op 46 (omega arith),
+  le-ltb op 51 (omega arith),
+)
 
 -- ---- there and back
-back : (mk : ℕ → Shape) (base most k : ℕ) → k ≤ most → ((op : ℕ) → base ≤ op → op ≤ base + most → shapeFor op ≡ mk (op - base)) → shapeFor (within most base k) ≡ mk k
+back : (mk : ℕ → Shape) (base most k : ℕ) → k ≤ most → ((op : ℕ) → base ≤ op → op ≤ base + most → shapeFor op ≡ mk (op - base))
+    → shapeFor (within most base k) ≡ mk k
 back mk base most k h r =
     let e : base + k - base ≡ k = omega arith in
     rw (le-leb k most h) (r (base + k) (omega arith) (omega arith) ∙ ap mk e)
@@ -158,7 +246,8 @@ told-in Decimal m0 m1 u =
     (leb→le m1 30 (left (leb m1 30) _ (right (leb m0 65) _ (right (leb 1 m0) _ e))))) tt
 told-in Enum m0 m1 u = pick Told (leb 1 m1 && leb m1 2) (λ e. tt) tt
 told-in Set m0 m1 u =
-    pick Told (leb 1 m1 && (leb m1 4 || eqb m1 8)) (λ e. set-most m1 (leb m1 4) (eqb m1 8) (leb→le m1 4) (eqb→eq m1 8) (right (leb 1 m1) _ e)) tt
+    pick Told (leb 1 m1 && (leb m1 4 || eqb m1 8)) (λ e. set-most m1 (leb m1 4) (eqb m1 8) (leb→le m1 4) (eqb→eq m1 8) (right
+    (leb 1 m1) _ e)) tt
 told-in Unknown m0 m1 u = tt
 
 told : (c : Column) → Told (shapeOf c)

@@ -5,7 +5,8 @@ use lib.Dec.{leb, ltb}
 use Rattle.temporal.specs.declared.storage.Storage.{Storage}
 use Rattle.temporal.specs.declared.storage.Storage.the-variants.{Timestamp, OldTime, OldDatetime, Newdate, Timestamp2, Datetime2, Time2}
 use Rattle.value.specs.declared.shape.Shape.{Shape}
-use Rattle.value.specs.declared.shape.Shape.the-variants.{Unsigned, Signed, FloatBits, DoubleBits, YearByte, Timed, Fixed, Counted, NotTaken}
+use Rattle.value.specs.declared.shape.Shape.the-variants.{Unsigned, Signed, FloatBits, DoubleBits, YearByte, Timed, Fixed, Counted}
+use Rattle.value.specs.declared.shape.Shape.the-variants.{NotTaken}
 
 -- the shape of an op, by ranges
 unfoldable pub shapeFor : ℕ → Shape

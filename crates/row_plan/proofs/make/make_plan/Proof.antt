@@ -31,7 +31,8 @@ enum-known-r c = search needs
 returns : tie.Need-returns
 returns c =
     let a = c .before .before .before .before .before .before .before .args in
-    let m = make-refused (a .profile .now) (a .presence .now) (a .plan .now) _ (sym (c .before .before .before .read-head .ensures) ∙ ap headTold (c .before .r .given .1)) in
+    let m = make-refused (a .profile .now) (a .presence .now) (a .plan .now) _ (sym (c .before .before .before .read-head .ensures)
+    ∙ ap headTold (c .before .r .given .1)) in
     (sym (ap answerOf m), sym (ap (λ (o : Outcome ((ℕ × ℕ) × List ℕ)). leftOf o (a .plan .now)) m))
 
 -- src/make.rt:66:15
@@ -49,15 +50,23 @@ refuse-requires c κs = search needs
 returns-2 : tie.Need-returns-2
 returns-2 c =
     let a = c .before .before .before .before .before .before .before .before .before .args in
-    let m = make-full (a .profile .now) (a .presence .now) (a .plan .now) _ (sym (c .before .before .before .before .before .read-head .ensures) ∙ ap headTold (c .before .before .before .head .given .1)) (omega arith) in
+    let m = make-full (a .profile .now) (a .presence .now) (a .plan .now) _ (sym
+    (c .before .before .before .before .before .read-head .ensures)
+    ∙ ap headTold (c .before .before .before .head .given .1)) (omega arith) in
     (ap refused (c .refuse .ensures) ∙ sym (ap answerOf m), sym (ap (λ (o : Outcome ((ℕ × ℕ) × List ℕ)). leftOf o (a .plan .now)) m))
 
 -- src/make.rt:70:5
 put-plan-requires : tie.Need-put-plan-requires
 put-plan-requires c κs =
     let a = c .before .before .before .before .before .before .before .before .before .args in
-    let h = sym (c .before .before .before .before .before .read-head .ensures) ∙ ap headTold (c .before .before .before .head .given .1) in
-    (columns-are (a .profile .now) (a .presence .now) (a .plan .now) _ h, omega (arith, items-are (a .profile .now) (a .presence .now) (a .plan .now) _ h))
+    let h = sym (c .before .before .before .before .before .read-head .ensures) ∙ ap headTold (c .before .before .before .head .given .1) in (
+      columns-are (a .profile .now) (a .presence .now) (a .plan .now) _ h,
+      omega (
+        arith,
+        items-are (a .profile .now) (a .presence .now)
+            (a .plan .now) _ h,
+      ),
+    )
 
 -- src/make.rt:56:1
 same-length : tie.Need-same-length
@@ -67,7 +76,9 @@ same-length c = search needs
 returns-3 : tie.Need-returns-3
 returns-3 c =
     let a = c .before .before .before .before .before .before .before .before .before .before .before .before .args in
-    let m = make-done (a .profile .now) (a .presence .now) (a .plan .now) _ (sym (c .before .before .before .before .before .before .before .before .read-head .ensures) ∙ ap headTold (c .before .before .before .before .before .before .head .given .1)) (omega arith) in
+    let m = make-done (a .profile .now) (a .presence .now) (a .plan .now) _ (sym
+    (c .before .before .before .before .before .before .before .before .read-head .ensures)
+    ∙ ap headTold (c .before .before .before .before .before .before .head .given .1)) (omega arith) in
     (sym (ap answerOf m), c .before .before .put-plan .ensures ∙ sym (ap (λ (o : Outcome ((ℕ × ℕ) × List ℕ)). leftOf o (a .plan .now)) m))
 
 pub make-plan-spec : {M : Type 1} → statement M

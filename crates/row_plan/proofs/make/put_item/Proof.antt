@@ -27,7 +27,8 @@ same-length c = c .before .before .write-le .kept .1 .1 .0 ∙ simp length-set
 
 -- src/make.rt:48:1
 returns : tie.Need-returns
-returns c = let a = c .before .before .before .before .before .args in c .before .before .write-le .ensures .1 ∙ item-put (a .plan .now) (a .at) (a .op) (a .column) (omega arith)
+returns c = let a = c .before .before .before .before .before .args in c .before .before .write-le .ensures .1
+    ∙ item-put (a .plan .now) (a .at) (a .op) (a .column) (omega arith)
 
 pub put-item-spec : {M : Type 1} → statement M
 put-item-spec =

@@ -42,7 +42,9 @@ loop-less c = omega arith
 
 -- src/make.rt:63:5
 loop-again : tie.Need-loop-again Inv-loop μ-loop
-loop-again c = let a = c .before .before .before .before .before .before .before .args in let l = c .before .before .before .loop in skip (a .profile .now) (a .presence .now) (a .columns) _ _ (l .at) (l .j) (l .inv) (omega arith) (sym (c .before .bit-lsb0 .ensures) ∙ not-true _ (c .if1 .taken))
+loop-again c = let a = c .before .before .before .before .before .before .before .args in let l = c .before .before .before .loop in
+    skip (a .profile .now) (a .presence .now) (a .columns) _ _ (l .at) (l .j) (l .inv) (omega arith) (sym (c .before .bit-lsb0 .ensures)
+    ∙ not-true _ (c .if1 .taken))
 
 -- src/make.rt:69:65
 entry-in-requires : tie.Need-entry-in-requires Inv-loop μ-loop
@@ -62,7 +64,11 @@ op-of-requires c κs = tt
 
 -- src/make.rt:70:9
 put-item-requires : tie.Need-put-item-requires Inv-loop μ-loop
-put-item-requires c κs = let a = c .before .before .before .before .before .before .before .before .before .before .before .before .args in let l = c .before .before .before .before .before .before .before .before .loop in has-room (a .profile .now) (a .presence .now) (a .columns) _ _ (l .at) (l .j) (l .inv) (omega arith) (sym (c .before .before .before .before .before .before .bit-lsb0 .ensures) ∙ not-false _ (c .before .before .before .before .before .if1 .left))
+put-item-requires c κs = let a = c .before .before .before .before .before .before .before .before .before .before .before .before .args in
+    let l = c .before .before .before .before .before .before .before .before .loop in
+    has-room (a .profile .now) (a .presence .now) (a .columns) _ _ (l .at) (l .j) (l .inv) (omega arith) (sym
+    (c .before .before .before .before .before .before .bit-lsb0 .ensures)
+    ∙ not-false _ (c .before .before .before .before .before .if1 .left))
 
 -- src/make.rt:71:9
 add-at : tie.Need-add-at Inv-loop μ-loop
@@ -75,7 +81,14 @@ loop-less-2 c = omega arith
 -- src/make.rt:63:5
 loop-again-2 : tie.Need-loop-again-2 Inv-loop μ-loop
 unfolding shapeAt
-loop-again-2 c = let a = c .before .before .before .before .before .before .before .before .before .before .before .before .before .before .before .args in let l = c .before .before .before .before .before .before .before .before .before .before .before .loop in put (a .profile .now) (a .presence .now) (a .columns) _ _ (l .at) (l .j) _ _ (l .inv) (omega arith) (sym (c .before .before .before .before .before .before .before .before .before .bit-lsb0 .ensures) ∙ not-false _ (c .before .before .before .before .before .before .before .before .if1 .left)) (c .before .before .before .before .op-of .ensures ∙ ap opOf (c .before .before .before .before .before .shape-of .ensures ∙ ap shapeOf (c .before .before .before .before .before .before .column-of .ensures ∙ ap columnOf (c .before .before .before .before .before .before .before .entry-in .ensures)))) (c .before .before .put-item .ensures)
+loop-again-2 c = let a = c .before .before .before .before .before .before .before .before .before .before .before .before .before .before
+    .before .args in let l = c .before .before .before .before .before .before .before .before .before .before .before .loop in
+    put (a .profile .now) (a .presence .now) (a .columns) _ _ (l .at) (l .j) _ _ (l .inv) (omega arith) (sym
+    (c .before .before .before .before .before .before .before .before .before .bit-lsb0 .ensures)
+    ∙ not-false _ (c .before .before .before .before .before .before .before .before .if1 .left))
+    (c .before .before .before .before .op-of .ensures ∙ ap opOf (c .before .before .before .before .before .shape-of .ensures
+    ∙ ap shapeOf (c .before .before .before .before .before .before .column-of .ensures
+    ∙ ap columnOf (c .before .before .before .before .before .before .before .entry-in .ensures)))) (c .before .before .put-item .ensures)
 
 -- src/make.rt:57:1
 same-length : tie.Need-same-length Inv-loop μ-loop
@@ -83,7 +96,8 @@ same-length c = c .before .loop .inv .same
 
 -- src/make.rt:57:1
 returns : tie.Need-returns Inv-loop μ-loop
-returns c = let a = c .before .before .before .before .before .args in let l = c .before .loop in done (a .profile .now) (a .presence .now) (a .columns) _ _ (l .at) (l .j) (l .inv) (omega arith)
+returns c = let a = c .before .before .before .before .before .args in let l = c .before .loop in
+    done (a .profile .now) (a .presence .now) (a .columns) _ _ (l .at) (l .j) (l .inv) (omega arith)
 
 pub put-plan-spec : {M : Type 1} → statement M
 put-plan-spec =

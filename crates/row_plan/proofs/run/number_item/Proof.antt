@@ -28,7 +28,8 @@ returns : tie.Need-returns
 unfolding valueNumbers movedBy sortOf partsOf padded
 returns c =
     let a = c .before .before .before .before .before .args in
-    rw (c .one .ensures) (sym (item-null (a .plan .now) (a .image .now) (a .by) (a .item) (a .offset) (sym (c .before .before .bit-lsb0 .ensures) ∙ c .before .if1 .taken)))
+    rw (c .one .ensures) (sym (item-null (a .plan .now) (a .image .now) (a .by) (a .item) (a .offset) (sym
+    (c .before .before .bit-lsb0 .ensures) ∙ c .before .if1 .taken)))
 
 -- src/run.rt:77:14
 mul-at : tie.Need-mul-at
@@ -50,7 +51,8 @@ number-op-requires c κs = search needs
 returns-2 : tie.Need-returns-2
 returns-2 c =
     let a = c .before .before .before .before .before .before .before .args in
-    c .number-op .ensures ∙ sym (item-read (a .plan .now) (a .image .now) (a .by) (a .item) (a .offset) _ _ (sym (c .before .before .before .before .bit-lsb0 .ensures) ∙ c .before .before .before .if1 .left) refl (c .before .column-at .ensures))
+    c .number-op .ensures ∙ sym (item-read (a .plan .now) (a .image .now) (a .by) (a .item) (a .offset) _ _ (sym
+    (c .before .before .before .before .bit-lsb0 .ensures) ∙ c .before .before .before .if1 .left) refl (c .before .column-at .ensures))
 
 pub number-item-spec : {M : Type 1} → statement M
 number-item-spec =

@@ -59,7 +59,11 @@ number-item-requires c κs =
     let l = c .before .before .loop in
     let i : l .item < a .items = omega (arith, l .inv .counted, c .if1 .left) in
     let s : a .here .start ≤ length (a .images .now) = omega (arith, t .nulls, t .item) in (
-      (item-fits (a .plan .now) (a .items) (l .item) (t .count) i, part-holds (a .images .now) (a .here .start) (l .offset) s (l .inv .inside)),
+      (
+        item-fits (a .plan .now) (a .items) (l .item) (t .count) i,
+        part-holds (a .images .now) (a .here .start) (l .offset) s
+            (l .inv .inside),
+      ),
       part-fits (a .images .now) (a .here .start) s (omega arith),
     )
 
@@ -76,7 +80,13 @@ put-requires : tie.Need-put-requires Inv-loop μ-loop
 put-requires c κs =
     let a = c .before .before .before .before .before .before .before .before .before .before .before .before .args in
     let l = c .before .before .before .before .before .before .before .loop in
-    omega (arith, l .inv .same, c .before .before .before .before .before .before .before .before .before .before .before .before .pre .1 .1, c .before .before .before .before .before .before .loop-test .taken)
+    omega (
+      arith,
+      l .inv .same,
+      c .before .before .before .before .before .before .before .before .before .before .before .before .pre .1
+          .1,
+      c .before .before .before .before .before .before .loop-test .taken,
+    )
 
 -- src/run.rt:119:34
 enum-known-why : tie.Need-enum-known-why Inv-loop μ-loop
@@ -94,8 +104,11 @@ returns-2 c =
     let l = c .before .before .before .before .before .before .loop in
     let is = rest-is (a .images .now) (a .here .start) (a .here .start) (omega (arith, t .nulls, t .item)) in
     let i : l .item < a .items = omega (arith, l .inv .counted, c .before .before .before .before .if1 .left) in
-    let e = sym (c .before .before .before .number-item .ensures) ∙ ap numbersTold (c .before .why .given .1) in
-    (run-stop (a .plan .now) (a .images .now) (a .items) (a .room) (a .had) (a .out .now) (a .here) t (l .out) (l .item) (l .offset) (l .values) (l .inv) (c .before .before .before .before .before .loop-test .taken) i is _ e, l .inv .most)
+    let e = sym (c .before .before .before .number-item .ensures) ∙ ap numbersTold (c .before .why .given .1) in (
+      run-stop (a .plan .now) (a .images .now) (a .items) (a .room) (a .had) (a .out .now) (a .here) t (l .out) (l .item) (l .offset)
+          (l .values) (l .inv) (c .before .before .before .before .before .loop-test .taken) i is _ e,
+      l .inv .most,
+    )
 
 -- src/run.rt:131:9
 add-item : tie.Need-add-item Inv-loop μ-loop
@@ -114,13 +127,23 @@ loop-less c = omega (arith, c .before .before .before .before .before .before .b
 -- src/run.rt:103:5
 loop-again : tie.Need-loop-again Inv-loop μ-loop
 loop-again c =
-    let a = c .before .before .before .before .before .before .before .before .before .before .before .before .before .before .before .args in
-    let t = c .before .before .before .before .before .before .before .before .before .before .before .before .before .before .before .pre .0 in
+    let a = c .before .before .before .before .before .before .before .before .before .before .before .before .before .before .before .args
+    in
+    let t = c .before .before .before .before .before .before .before .before .before .before .before .before .before .before .before .pre
+    .0 in
     let l = c .before .before .before .before .before .before .before .before .before .before .loop in
     let is = rest-is (a .images .now) (a .here .start) (a .here .start) (omega (arith, t .nulls, t .item)) in
-    let i : l .item < a .items = omega (arith, l .inv .counted, c .before .before .before .before .before .before .before .before .if1 .left) in
-    let e = sym (c .before .before .before .before .before .before .before .number-item .ensures) ∙ ap numbersTold (c .before .before .before .before .before .numbers .given .1) in
-    run-turn (a .plan .now) (a .images .now) (a .items) (a .room) (a .had) (a .out .now) (a .here) t (l .out) (l .item) (l .offset) (l .values) (l .inv) (c .before .before .before .before .before .before .before .before .before .loop-test .taken) i is _ _ _ e (c .before .before .put .ensures) (c .before .before .put .kept .1 .0)
+    let i : l .item < a .items = omega (
+      arith,
+      l .inv .counted,
+      c .before .before .before .before .before .before .before .before .if1
+          .left,
+    ) in
+    let e = sym (c .before .before .before .before .before .before .before .number-item .ensures)
+    ∙ ap numbersTold (c .before .before .before .before .before .numbers .given .1) in
+    run-turn (a .plan .now) (a .images .now) (a .items) (a .room) (a .had) (a .out .now) (a .here) t (l .out) (l .item) (l .offset)
+    (l .values) (l .inv) (c .before .before .before .before .before .before .before .before .before .loop-test .taken) i is _ _ _ e
+    (c .before .before .put .ensures) (c .before .before .put .kept .1 .0)
 
 -- src/run.rt:83:1
 same-length-3 : tie.Need-same-length-3 Inv-loop μ-loop

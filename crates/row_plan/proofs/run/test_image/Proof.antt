@@ -38,7 +38,8 @@ refuse-requires-2 c κs = search needs
 returns-2 : tie.Need-returns-2
 returns-2 c =
     let a = c .before .before .before .before .before .before .before .args in
-    ap refused (c .refuse2 .ensures) ∙ sym (gate-short (a .items) _ (a .c) (c .before .before .before .before .if1 .left) (omega (arith, c .before .before .before .rest .ensures, c .before .before .bytes-for .ensures, c .before .if2 .taken)))
+    ap refused (c .refuse2 .ensures) ∙ sym (gate-short (a .items) _ (a .c) (c .before .before .before .before .if1 .left) (omega
+    (arith, c .before .before .before .rest .ensures, c .before .before .bytes-for .ensures, c .before .if2 .taken)))
 
 -- src/run.rt:194:30
 refuse-requires-3 : tie.Need-refuse-requires-3
@@ -48,13 +49,22 @@ refuse-requires-3 c κs = search needs
 returns-3 : tie.Need-returns-3
 returns-3 c =
     let a = c .before .before .before .before .before .before .before .before .before .args in
-    ap refused (c .refuse3 .ensures) ∙ sym (gate-past (a .items) _ (a .c) (c .before .before .before .before .before .before .if1 .left) (omega (arith, c .before .before .before .before .before .rest .ensures, c .before .before .before .before .bytes-for .ensures, c .before .before .before .if2 .left)) (omega (arith, c .before .before .before .before .before .rest .ensures, c .before .if3 .taken)))
+    ap refused (c .refuse3 .ensures) ∙ sym (gate-past (a .items) _ (a .c) (c .before .before .before .before .before .before .if1 .left)
+    (omega (
+      arith,
+      c .before .before .before .before .before .rest .ensures,
+      c .before .before .before .before .bytes-for .ensures,
+      c
+          .before .before .before .if2 .left,
+    )) (omega (arith, c .before .before .before .before .before .rest .ensures, c .before .if3 .taken)))
 
 -- src/run.rt:183:1
 returns-4 : tie.Need-returns-4
 returns-4 c =
     let a = c .before .before .before .before .before .before .before .before .args in
-    sym (gate-passed (a .items) _ (a .c) (c .before .before .before .before .before .if1 .left) (omega (arith, c .before .before .before .before .rest .ensures, c .before .before .before .bytes-for .ensures, c .before .before .if2 .left)) (omega (arith, c .before .before .before .before .rest .ensures, c .if3 .left)))
+    sym (gate-passed (a .items) _ (a .c) (c .before .before .before .before .before .if1 .left) (omega
+    (arith, c .before .before .before .before .rest .ensures, c .before .before .before .bytes-for .ensures, c .before .before .if2 .left))
+    (omega (arith, c .before .before .before .before .rest .ensures, c .if3 .left)))
 
 pub test-image-spec : {M : Type 1} → statement M
 test-image-spec =

@@ -24,7 +24,8 @@ rest-requires c κs = search needs
 returns-2 : tie.Need-returns-2
 returns-2 c =
     let a = c .before .before .before .before .before .before .before .args in
-    sym (turn-past (a .plan .now) (a .images .now) (a .c) (c .before .before .before .if1 .left) (omega (arith, c .before .before .rest .ensures, c .if2 .taken)))
+    sym (turn-past (a .plan .now) (a .images .now) (a .c) (c .before .before .before .if1 .left) (omega
+    (arith, c .before .before .rest .ensures, c .if2 .taken)))
 
 -- src/run.rt:166:16
 add-t5 : tie.Need-add-t5
@@ -38,7 +39,9 @@ bytes-for-requires c κs = search needs
 returns-3 : tie.Need-returns-3
 returns-3 c =
     let a = c .before .before .before .before .before .before .before .before .before .args in
-    rw (c .bytes-for .ensures) (sym (turn-next (a .plan .now) (a .images .now) (a .c) (c .before .before .before .before .before .if1 .left) (omega (arith, c .before .before .before .before .rest .ensures, c .before .before .if2 .left))))
+    rw (c .bytes-for .ensures) (sym (turn-next (a .plan .now) (a .images .now) (a .c)
+    (c .before .before .before .before .before .if1 .left) (omega
+    (arith, c .before .before .before .before .rest .ensures, c .before .before .if2 .left))))
 
 pub turned-spec : {M : Type 1} → statement M
 turned-spec =

@@ -236,19 +236,22 @@ returns-18 : tie.Need-returns-18
 returns-18 c =
     let a = c .before .before .before .before .before .args in
     let h : 25 ≤ a .op = above (a .op) 24 (c .before .before .if1 .left) (c .before .before .before .match .rest .0 .0 .1) in
-    c .read-timed3 .ensures ∙ sym (ap (λ (sh : Shape). readValue sh (a .place) (a .s .now) (a .at)) (at-timestamp (a .op) h (c .before .if2 .taken)))
+    c .read-timed3 .ensures ∙ sym (ap (λ (sh : Shape). readValue sh (a .place) (a .s .now) (a .at)) (at-timestamp (a .op) h
+    (c .before .if2 .taken)))
 
 -- src/op.rt:108:1
 returns-19 : tie.Need-returns-19
 returns-19 c =
     let a = c .before .before .before .before .before .before .args in
-    c .read-timed4 .ensures ∙ sym (ap (λ (sh : Shape). readValue sh (a .place) (a .s .now) (a .at)) (at-datetime (a .op) (c .before .before .if2 .left) (c .before .if3 .taken)))
+    c .read-timed4 .ensures ∙ sym (ap (λ (sh : Shape). readValue sh (a .place) (a .s .now) (a .at)) (at-datetime (a .op)
+    (c .before .before .if2 .left) (c .before .if3 .taken)))
 
 -- src/op.rt:108:1
 returns-20 : tie.Need-returns-20
 returns-20 c =
     let a = c .before .before .before .before .before .before .before .args in
-    c .read-timed5 .ensures ∙ sym (ap (λ (sh : Shape). readValue sh (a .place) (a .s .now) (a .at)) (at-time (a .op) (c .before .before .if3 .left) (c .before .if4 .taken)))
+    c .read-timed5 .ensures ∙ sym (ap (λ (sh : Shape). readValue sh (a .place) (a .s .now) (a .at)) (at-time (a .op)
+    (c .before .before .if3 .left) (c .before .if4 .taken)))
 
 -- src/op.rt:108:1
 returns-21 : tie.Need-returns-21

@@ -59,7 +59,8 @@ returns-2 c =
     let a = c .before .before .before .before .before .before .before .before .before .args in
     let l = c .before .before .before .before .loop in
     let o = sym (c .before .is-over .ensures) ∙ c .if2 .taken in
-    let g = read-over (a .plan .now) (a .images .now) _ (a .out .now) (a .self) (l .out) (l .at) (l .values) (l .inv) (c .before .before .before .loop-test .taken) (c .before .before .turned .ensures) o in
+    let g = read-over (a .plan .now) (a .images .now) _ (a .out .now) (a .self) (l .out) (l .at) (l .values) (l .inv)
+    (c .before .before .before .loop-test .taken) (c .before .before .turned .ensures) o in
     let m = told-ran (a .plan .now) (a .images .now) (a .self) (a .out .now) _ refl (omega arith) _ _ _ g in
     (sym (ap answerOf m), sym (ap (λ (x : Outcome ((ℕ × RowCursor) × List ℕ)). leftOf x (a .out .now)) m))
 
@@ -87,10 +88,16 @@ returns-3 : tie.Need-returns-3 Inv-loop μ-loop
 returns-3 c =
     let a = c .before .before .before .before .before .before .before .before .before .before .before .before .before .before .args in
     let l = c .before .before .before .before .before .before .before .before .before .loop in
-    let o = sym (c .before .before .before .before .before .before .is-over .ensures) ∙ c .before .before .before .before .before .if2 .left in
+    let o = sym (c .before .before .before .before .before .before .is-over .ensures)
+    ∙ c .before .before .before .before .before .if2 .left in
     let t = sym (c .before .before .before .before .test-image .ensures) ∙ ap gateTold (c .before .before .why .given .1) in
-    let g = read-refused (a .plan .now) (a .images .now) _ (a .out .now) (a .self) (l .out) (l .at) (l .values) (l .inv) (c .before .before .before .before .before .before .before .before .loop-test .taken) (c .before .before .before .before .before .before .before .turned .ensures) o _ t in
-    (c .stopped .ensures ∙ told-stopped (a .plan .now) (a .images .now) (a .self) (a .out .now) _ refl (omega arith) _ _ _ _ g, left-stopped (a .plan .now) (a .images .now) (a .self) (a .out .now) _ refl (omega arith) _ _ _ _ g)
+    let g = read-refused (a .plan .now) (a .images .now) _ (a .out .now) (a .self) (l .out) (l .at) (l .values) (l .inv)
+    (c .before .before .before .before .before .before .before .before .loop-test .taken)
+    (c .before .before .before .before .before .before .before .turned .ensures) o _ t in (
+      c .stopped .ensures ∙ told-stopped (a .plan .now) (a .images .now) (a .self) (a .out .now) _ refl
+          (omega arith) _ _ _ _ g,
+      left-stopped (a .plan .now) (a .images .now) (a .self) (a .out .now) _ refl (omega arith) _ _ _ _ g,
+    )
 
 -- src/run.rt:234:17
 same-length-3 : tie.Need-same-length-3 Inv-loop μ-loop
@@ -101,20 +108,30 @@ returns-4 : tie.Need-returns-4 Inv-loop μ-loop
 returns-4 c =
     let a = c .before .before .before .before .before .before .before .before .before .before .before .before .before .before .args in
     let l = c .before .before .before .before .before .before .before .before .before .loop in
-    let o = sym (c .before .before .before .before .before .before .is-over .ensures) ∙ c .before .before .before .before .before .if2 .left in
+    let o = sym (c .before .before .before .before .before .before .is-over .ensures)
+    ∙ c .before .before .before .before .before .if2 .left in
     let t = sym (c .before .before .before .before .test-image .ensures) ∙ ap gateTold (c .before .before .enum-told .given .1) in
-    let g = read-end (a .plan .now) (a .images .now) _ (a .out .now) (a .self) (l .out) (l .at) (l .values) (l .inv) (c .before .before .before .before .before .before .before .before .loop-test .taken) (c .before .before .before .before .before .before .before .turned .ensures) o t (c .if3 .taken) in
+    let g = read-end (a .plan .now) (a .images .now) _ (a .out .now) (a .self) (l .out) (l .at) (l .values) (l .inv)
+    (c .before .before .before .before .before .before .before .before .loop-test .taken)
+    (c .before .before .before .before .before .before .before .turned .ensures) o t (c .if3 .taken) in
     let m = told-ran (a .plan .now) (a .images .now) (a .self) (a .out .now) _ refl (omega arith) _ _ _ g in
     (sym (ap answerOf m), sym (ap (λ (x : Outcome ((ℕ × RowCursor) × List ℕ)). leftOf x (a .out .now)) m))
 
 -- src/run.rt:236:19
 run-image-requires : tie.Need-run-image-requires Inv-loop μ-loop
 run-image-requires c κs =
-    let a = c .before .before .before .before .before .before .before .before .before .before .before .before .before .before .before .args in
+    let a = c .before .before .before .before .before .before .before .before .before .before .before .before .before .before .before .args
+    in
     let l = c .before .before .before .before .before .before .before .before .before .before .loop in
-    let o = sym (c .before .before .before .before .before .before .before .is-over .ensures) ∙ c .before .before .before .before .before .before .if2 .left in
-    let t = sym (c .before .before .before .before .before .test-image .ensures) ∙ ap gateTold (c .before .before .before .enum-told .given .1) in
-    (read-stands (a .plan .now) (a .images .now) _ (a .out .now) (a .self) (l .out) (l .at) (l .values) (l .inv) (c .before .before .before .before .before .before .before .before .before .loop-test .taken) (c .before .before .before .before .before .before .before .before .turned .ensures) o t _ refl (c .before .if3 .left), (c .before .before .before .before .before .before .before .before .before .loop-test .taken, omega (arith, l .inv .same)))
+    let o = sym (c .before .before .before .before .before .before .before .is-over .ensures)
+    ∙ c .before .before .before .before .before .before .if2 .left in
+    let t = sym (c .before .before .before .before .before .test-image .ensures)
+    ∙ ap gateTold (c .before .before .before .enum-told .given .1) in (
+      read-stands (a .plan .now) (a .images .now) _ (a .out .now) (a .self) (l .out) (l .at) (l .values) (l .inv)
+          (c .before .before .before .before .before .before .before .before .before .loop-test .taken)
+          (c .before .before .before .before .before .before .before .before .turned .ensures) o t _ refl (c .before .if3 .left),
+      (c .before .before .before .before .before .before .before .before .before .loop-test .taken, omega (arith, l .inv .same)),
+    )
 
 -- src/run.rt:237:38
 enum-known-v : tie.Need-enum-known-v Inv-loop μ-loop
@@ -129,13 +146,26 @@ loop-less c =
 -- src/run.rt:224:9
 loop-again : tie.Need-loop-again Inv-loop μ-loop
 loop-again c =
-    let a = c .before .before .before .before .before .before .before .before .before .before .before .before .before .before .before .before .before .before .before .before .before .args in
-    let l = c .before .before .before .before .before .before .before .before .before .before .before .before .before .before .before .before .loop in
-    let o = sym (c .before .before .before .before .before .before .before .before .before .before .before .before .before .is-over .ensures) ∙ c .before .before .before .before .before .before .before .before .before .before .before .before .if2 .left in
-    let t = sym (c .before .before .before .before .before .before .before .before .before .before .before .test-image .ensures) ∙ ap gateTold (c .before .before .before .before .before .before .before .before .before .enum-told .given .1) in
+    let a = c .before .before .before .before .before .before .before .before .before .before .before .before .before .before .before
+    .before .before .before .before .before .before .args in
+    let l = c .before .before .before .before .before .before .before .before .before .before .before .before .before .before .before
+    .before .loop in
+    let o = sym (c .before .before .before .before .before .before .before .before .before .before .before .before .before .is-over
+    .ensures) ∙ c .before .before .before .before .before .before .before .before .before .before .before .before .if2 .left in
+    let t = sym (c .before .before .before .before .before .before .before .before .before .before .before .test-image .ensures)
+    ∙ ap gateTold (c .before .before .before .before .before .before .before .before .before .enum-told .given .1) in
     let f = subst (Further _ _) (c .before .v .given .1) (c .before .before .before .before .before .run-image .ensures .1) in
-    let p = sym (ap (pausedRun _ (a .plan .now) (a .images .now) _) (c .before .v .given .1)) ∙ c .before .before .before .before .before .run-image .ensures .0 in
-    record { most = f .1; same = c .before .before .before .before .before .run-image .kept .1 .1 .1 .1 .1 .1 .0 ∙ l .inv .same; goes = p ∙ read-enter (a .plan .now) (a .images .now) _ (a .out .now) (a .self) (l .out) (l .at) (l .values) (l .inv) (c .before .before .before .before .before .before .before .before .before .before .before .before .before .before .before .loop-test .taken) (c .before .before .before .before .before .before .before .before .before .before .before .before .before .before .turned .ensures) o t (c .before .before .before .before .before .before .before .if3 .left) }
+    let p = sym (ap (pausedRun _ (a .plan .now) (a .images .now) _) (c .before .v .given .1))
+    ∙ c .before .before .before .before .before .run-image .ensures .0 in
+    record {
+      most = f .1;
+      same = c .before .before .before .before .before .run-image .kept .1 .1 .1 .1 .1 .1 .0 ∙ l .inv .same;
+      goes = p
+          ∙ read-enter (a .plan .now) (a .images .now) _ (a .out .now) (a .self) (l .out) (l .at) (l .values) (l .inv)
+          (c .before .before .before .before .before .before .before .before .before .before .before .before .before .before .before .loop-test
+          .taken) (c .before .before .before .before .before .before .before .before .before .before .before .before .before .before .turned
+          .ensures) o t (c .before .before .before .before .before .before .before .if3 .left);
+    }
 
 -- src/run.rt:241:35
 enum-known-values : tie.Need-enum-known-values Inv-loop μ-loop
@@ -147,18 +177,31 @@ stopped-requires-2 c κs = search needs
 
 -- src/run.rt:241:58
 same-length-4 : tie.Need-same-length-4 Inv-loop μ-loop
-same-length-4 c = c .before .before .before .before .before .before .run-image .kept .1 .1 .1 .1 .1 .1 .0 ∙ c .before .before .before .before .before .before .before .before .before .before .before .before .before .before .before .before .before .loop .inv .same
+same-length-4 c = c .before .before .before .before .before .before .run-image .kept .1 .1 .1 .1 .1 .1 .0
+    ∙ c .before .before .before .before .before .before .before .before .before .before .before .before .before .before .before .before
+    .before .loop .inv .same
 
 -- src/run.rt:241:58
 returns-5 : tie.Need-returns-5 Inv-loop μ-loop
 returns-5 c =
-    let a = c .before .before .before .before .before .before .before .before .before .before .before .before .before .before .before .before .before .before .before .before .before .before .args in
-    let l = c .before .before .before .before .before .before .before .before .before .before .before .before .before .before .before .before .before .loop in
-    let o = sym (c .before .before .before .before .before .before .before .before .before .before .before .before .before .before .is-over .ensures) ∙ c .before .before .before .before .before .before .before .before .before .before .before .before .before .if2 .left in
-    let t = sym (c .before .before .before .before .before .before .before .before .before .before .before .before .test-image .ensures) ∙ ap gateTold (c .before .before .before .before .before .before .before .before .before .before .enum-told .given .1) in
-    let p = sym (c .before .before .before .before .before .before .run-image .ensures .0) ∙ ap (pausedRun _ (a .plan .now) (a .images .now) _) (c .before .before .values .given .1) in
-    let g = sym (read-enter (a .plan .now) (a .images .now) _ (a .out .now) (a .self) (l .out) (l .at) (l .values) (l .inv) (c .before .before .before .before .before .before .before .before .before .before .before .before .before .before .before .before .loop-test .taken) (c .before .before .before .before .before .before .before .before .before .before .before .before .before .before .before .turned .ensures) o t (c .before .before .before .before .before .before .before .before .if3 .left)) ∙ p in
-    (c .stopped2 .ensures ∙ told-stopped (a .plan .now) (a .images .now) (a .self) (a .out .now) _ refl (omega arith) _ _ _ _ g, left-stopped (a .plan .now) (a .images .now) (a .self) (a .out .now) _ refl (omega arith) _ _ _ _ g)
+    let a = c .before .before .before .before .before .before .before .before .before .before .before .before .before .before .before
+    .before .before .before .before .before .before .before .args in
+    let l = c .before .before .before .before .before .before .before .before .before .before .before .before .before .before .before
+    .before .before .loop in
+    let o = sym (c .before .before .before .before .before .before .before .before .before .before .before .before .before .before .is-over
+    .ensures) ∙ c .before .before .before .before .before .before .before .before .before .before .before .before .before .if2 .left in
+    let t = sym (c .before .before .before .before .before .before .before .before .before .before .before .before .test-image .ensures)
+    ∙ ap gateTold (c .before .before .before .before .before .before .before .before .before .before .enum-told .given .1) in
+    let p = sym (c .before .before .before .before .before .before .run-image .ensures .0)
+    ∙ ap (pausedRun _ (a .plan .now) (a .images .now) _) (c .before .before .values .given .1) in
+    let g = sym (read-enter (a .plan .now) (a .images .now) _ (a .out .now) (a .self) (l .out) (l .at) (l .values) (l .inv)
+    (c .before .before .before .before .before .before .before .before .before .before .before .before .before .before .before .before
+    .loop-test .taken) (c .before .before .before .before .before .before .before .before .before .before .before .before .before .before
+    .before .turned .ensures) o t (c .before .before .before .before .before .before .before .before .if3 .left)) ∙ p in (
+      c .stopped2 .ensures ∙ told-stopped (a .plan .now) (a .images .now) (a .self) (a .out .now) _ refl
+          (omega arith) _ _ _ _ g,
+      left-stopped (a .plan .now) (a .images .now) (a .self) (a .out .now) _ refl (omega arith) _ _ _ _ g,
+    )
 
 -- src/run.rt:212:5
 same-length-5 : tie.Need-same-length-5 Inv-loop μ-loop
@@ -169,7 +212,8 @@ returns-6 : tie.Need-returns-6 Inv-loop μ-loop
 returns-6 c =
     let a = c .before .before .before .before .before .before .args in
     let l = c .before .loop in
-    let g = read-full (a .plan .now) (a .images .now) _ (a .out .now) (a .self) (l .out) (l .at) (l .values) (l .inv) (c .loop-test .left) in
+    let g = read-full (a .plan .now) (a .images .now) _ (a .out .now) (a .self) (l .out) (l .at) (l .values) (l .inv)
+    (c .loop-test .left) in
     let m = told-ran (a .plan .now) (a .images .now) (a .self) (a .out .now) _ refl (omega arith) _ _ _ g in
     (sym (ap answerOf m), sym (ap (λ (x : Outcome ((ℕ × RowCursor) × List ℕ)). leftOf x (a .out .now)) m))
 

@@ -20,7 +20,8 @@ refuse-requires c κs = search needs
 
 -- src/row.rt:50:13
 returns : tie.Need-returns
-returns c = let a = c .before .before .before .before .args in ap refused (c .refuse .ensures) ∙ sym (row-none (a .plan .now) (a .images .now) (a .self) (omega arith))
+returns c = let a = c .before .before .before .before .args in ap refused (c .refuse .ensures)
+    ∙ sym (row-none (a .plan .now) (a .images .now) (a .self) (omega arith))
 
 -- src/row.rt:52:13
 least-requires : tie.Need-least-requires
@@ -48,7 +49,9 @@ refuse-requires-2 c κs = search needs
 
 -- src/row.rt:55:13
 returns-2 : tie.Need-returns-2
-returns-2 c = let a = c .before .before .before .before .before .before .before .before .args in let s = a .self in let i = rest-is (a .images .now) (s .start) _ (c .before .before .before .before .least .ensures) in ap refused (c .refuse2 .ensures) ∙ sym (row-short (a .plan .now) (a .images .now) s i (omega arith) (omega (arith, c .before .before .bytes-for .ensures)))
+returns-2 c = let a = c .before .before .before .before .before .before .before .before .args in let s = a .self in
+    let i = rest-is (a .images .now) (s .start) _ (c .before .before .before .before .least .ensures) in ap refused (c .refuse2 .ensures)
+    ∙ sym (row-short (a .plan .now) (a .images .now) s i (omega arith) (omega (arith, c .before .before .bytes-for .ensures)))
 
 -- src/row.rt:58:37
 refuse-requires-3 : tie.Need-refuse-requires-3
@@ -56,11 +59,17 @@ refuse-requires-3 c κs = search needs
 
 -- src/row.rt:58:13
 returns-3 : tie.Need-returns-3
-returns-3 c = let a = c .before .before .before .before .before .before .before .before .before .args in let s = a .self in let i = rest-is (a .images .now) (s .start) _ (c .before .before .before .before .before .least .ensures) in ap refused (c .refuse3 .ensures) ∙ sym (row-past (a .plan .now) (a .images .now) s i (omega arith) (omega (arith, c .before .before .before .bytes-for .ensures)) (omega arith))
+returns-3 c = let a = c .before .before .before .before .before .before .before .before .before .args in let s = a .self in
+    let i = rest-is (a .images .now) (s .start) _ (c .before .before .before .before .before .least .ensures) in
+    ap refused (c .refuse3 .ensures) ∙ sym (row-past (a .plan .now) (a .images .now) s i (omega arith) (omega
+    (arith, c .before .before .before .bytes-for .ensures)) (omega arith))
 
 -- src/row.rt:61:13
 returns-4 : tie.Need-returns-4
-returns-4 c = let a = c .before .before .before .before .before .before .before .before .before .args in let s = a .self in let i = rest-is (a .images .now) (s .start) _ (c .before .before .before .before .before .least .ensures) in sym (row-end (a .plan .now) (a .images .now) s i (omega arith) (omega (arith, c .before .before .before .bytes-for .ensures)) (omega arith) (c .if4 .taken))
+returns-4 c = let a = c .before .before .before .before .before .before .before .before .before .args in let s = a .self in
+    let i = rest-is (a .images .now) (s .start) _ (c .before .before .before .before .before .least .ensures) in
+    sym (row-end (a .plan .now) (a .images .now) s i (omega arith) (omega (arith, c .before .before .before .bytes-for .ensures))
+    (omega arith) (c .if4 .taken))
 
 -- src/row.rt:63:18
 mul-at : tie.Need-mul-at
@@ -82,7 +91,12 @@ bit-lsb0-requires c κs = search needs
 
 -- src/row.rt:67:13
 returns-5 : tie.Need-returns-5
-returns-5 c = let a = c .before .before .before .before .before .before .before .before .before .before .before .before .args in let s = a .self in let i = rest-is (a .images .now) (s .start) _ (c .before .before .before .before .before .before .before .before .least .ensures) in sym (row-null (a .plan .now) (a .images .now) s i (omega arith) (omega (arith, c .before .before .before .before .before .before .bytes-for .ensures)) (omega arith) (omega arith) (c .before .before .column-at .ensures) (sym (c .before .bit-lsb0 .ensures) ∙ c .if5 .taken))
+returns-5 c = let a = c .before .before .before .before .before .before .before .before .before .before .before .before .args in
+    let s = a .self in let i = rest-is (a .images .now) (s .start) _
+    (c .before .before .before .before .before .before .before .before .least .ensures) in
+    sym (row-null (a .plan .now) (a .images .now) s i (omega arith) (omega
+    (arith, c .before .before .before .before .before .before .bytes-for .ensures)) (omega arith) (omega arith)
+    (c .before .before .column-at .ensures) (sym (c .before .bit-lsb0 .ensures) ∙ c .if5 .taken))
 
 -- src/row.rt:76:30
 shared-slice-read-read-op : tie.Need-shared-slice-read-read-op
@@ -102,11 +116,29 @@ enum-known-r c = search needs
 
 -- src/row.rt:42:5
 returns-6 : tie.Need-returns-6
-returns-6 c = let a = c .before .before .before .before .before .before .before .before .before .before .before .before .before .before .before .before .before .args in let s = a .self in let i = rest-is (a .images .now) (s .start) _ (c .before .before .before .before .before .before .before .before .before .before .before .before .before .least .ensures) in sym (row-got (a .plan .now) (a .images .now) s i (omega arith) (omega (arith, c .before .before .before .before .before .before .before .before .before .before .before .bytes-for .ensures)) (omega arith) (omega arith) (c .before .before .before .before .before .before .before .column-at .ensures) (sym (c .before .before .before .before .before .before .bit-lsb0 .ensures) ∙ c .before .before .before .before .before .if5 .left) (c .before .before .before .read-op .result) (c .before .before .before .read-op .ensures) _ _ (c .before .value .given .1))
+returns-6 c = let a = c .before .before .before .before .before .before .before .before .before .before .before .before .before .before
+    .before .before .before .args in let s = a .self in
+    let i = rest-is (a .images .now) (s .start) _
+    (c .before .before .before .before .before .before .before .before .before .before .before .before .before .least .ensures) in
+    sym (row-got (a .plan .now) (a .images .now) s i (omega arith) (omega
+    (arith, c .before .before .before .before .before .before .before .before .before .before .before .bytes-for .ensures)) (omega arith)
+    (omega arith) (c .before .before .before .before .before .before .before .column-at .ensures) (sym
+    (c .before .before .before .before .before .before .bit-lsb0 .ensures)
+    ∙ c .before .before .before .before .before .if5 .left) (c .before .before .before .read-op .result)
+    (c .before .before .before .read-op .ensures) _ _ (c .before .value .given .1))
 
 -- src/row.rt:42:5
 returns-7 : tie.Need-returns-7
-returns-7 c = let a = c .before .before .before .before .before .before .before .before .before .before .before .before .before .before .before .before .before .args in let s = a .self in let i = rest-is (a .images .now) (s .start) _ (c .before .before .before .before .before .before .before .before .before .before .before .before .before .least .ensures) in sym (row-bad (a .plan .now) (a .images .now) s i (omega arith) (omega (arith, c .before .before .before .before .before .before .before .before .before .before .before .bytes-for .ensures)) (omega arith) (omega arith) (c .before .before .before .before .before .before .before .column-at .ensures) (sym (c .before .before .before .before .before .before .bit-lsb0 .ensures) ∙ c .before .before .before .before .before .if5 .left) (c .before .before .before .read-op .result) (c .before .before .before .read-op .ensures) _ (c .before .r .given .1))
+returns-7 c = let a = c .before .before .before .before .before .before .before .before .before .before .before .before .before .before
+    .before .before .before .args in let s = a .self in
+    let i = rest-is (a .images .now) (s .start) _
+    (c .before .before .before .before .before .before .before .before .before .before .before .before .before .least .ensures) in
+    sym (row-bad (a .plan .now) (a .images .now) s i (omega arith) (omega
+    (arith, c .before .before .before .before .before .before .before .before .before .before .before .bytes-for .ensures)) (omega arith)
+    (omega arith) (c .before .before .before .before .before .before .before .column-at .ensures) (sym
+    (c .before .before .before .before .before .before .bit-lsb0 .ensures)
+    ∙ c .before .before .before .before .before .if5 .left) (c .before .before .before .read-op .result)
+    (c .before .before .before .read-op .ensures) _ (c .before .r .given .1))
 
 pub step-spec : {M : Type 1} → statement M
 step-spec =
