@@ -59,7 +59,8 @@ returns-2 c =
 put-plan-requires : tie.Need-put-plan-requires
 put-plan-requires c κs =
     let a = c .before .before .before .before .before .before .before .before .before .args in
-    let h = sym (c .before .before .before .before .before .read-head .ensures) ∙ ap headTold (c .before .before .before .head .given .1) in (
+    let h = sym (c .before .before .before .before .before .read-head .ensures)
+    ∙ ap headTold (c .before .before .before .head .given .1) in (
       columns-are (a .profile .now) (a .presence .now) (a .plan .now) _ h,
       omega (
         arith,

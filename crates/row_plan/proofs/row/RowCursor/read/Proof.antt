@@ -162,7 +162,8 @@ loop-again c =
       same = c .before .before .before .before .before .run-image .kept .1 .1 .1 .1 .1 .1 .0 ∙ l .inv .same;
       goes = p
           ∙ read-enter (a .plan .now) (a .images .now) _ (a .out .now) (a .self) (l .out) (l .at) (l .values) (l .inv)
-          (c .before .before .before .before .before .before .before .before .before .before .before .before .before .before .before .loop-test
+          (c .before .before .before .before .before .before .before .before .before .before .before .before .before .before .before
+          .loop-test
           .taken) (c .before .before .before .before .before .before .before .before .before .before .before .before .before .before .turned
           .ensures) o t (c .before .before .before .before .before .before .before .if3 .left);
     }
