@@ -105,13 +105,16 @@ def functions(crate):
 
 
 def types(crate):
-    """The public types of a library: comment and declaration as one line, in the order of its exports."""
-    found = {}
+    """The types of a library that its exports or its definitions name: comment, declaration as one line, and whether it is public. Those
+    of exports stand first, in their order."""
+    found, homes = {}, exports(crate)
     for file in sorted(os.listdir(os.path.join(ROOT, "crates", crate, "src"))):
-        for match, comment, lines in declared(read("crates", crate, "src", file), r"pub (?:struct|enum) (\w+)"):
+        for match, comment, lines in declared(read("crates", crate, "src", file), r"(?:pub(?:\(crate\))? )?(?:struct|enum) (\w+)"):
             code = clean(" ".join(line for line in lines if not line.strip().startswith("//")))
-            found[match.group(1)] = (comment, code.rstrip(";") if code.endswith(";") else code.rstrip(",") + " }")
-    return [found[name] for name in exports(crate) if name in found]
+            code = code.rstrip(";") if code.endswith(";") else code.rstrip(",") + " }"
+            found[match.group(1)] = (comment, re.sub(r"\bpub(?:\(crate\))? ", "", code), match.group(1) in homes)
+    used = {name for path, text in antt(crate, "specs") if "Inner" not in path for name in re.findall(r"\bdeclared\.\w+\.(\w+)", text)}
+    return [found[name] for name in homes if name in found] + [found[name] for name in sorted(used - set(homes)) if name in found]
 
 
 def constants(crate):
