@@ -167,10 +167,10 @@ pub record Numbers : Type 0 where
       × (feedName (0x01 ∷ 0x61 ∷ []) (0x00 ∷ 0x00 ∷ []) 1 ≡ refuse 14 1)
   -- ---- what a map says beside its record
   -- of document 01's event, start and length each: types, metadata, nullable bits, optional fields
-  pub parts-numbers : feedParts workedEvent 8 ≡ ok (15 ∷ 3 ∷ 19 ∷ 2 ∷ 21 ∷ 1 ∷ 22 ∷ 3 ∷ [])
+  pub parts-numbers : (feedParts workedEvent 8 ≡ ok (15 ∷ 3 ∷ 19 ∷ 2 ∷ 21 ∷ 1 ∷ 22 ∷ 3 ∷ [])) × (feedParts (0x2a ∷ []) 8 ≡ refuse 1 0)
   -- where its first optional field stands, how many columns have a signedness bit, and how many there are; of one YEAR by MySQL's counting
   -- and by the letter
-  pub fields-numbers : (feedFields workedEvent 8 0 ≡ ok (22 ∷ 2 ∷ 3 ∷ []))
+  pub fields-numbers : (feedFields workedEvent 8 0 ≡ ok (22 ∷ 2 ∷ 3 ∷ [])) × (feedFields (0x2a ∷ []) 8 0 ≡ refuse 1 0)
       × (feedFields (oneYear []) 8 1 ≡ ok (18 ∷ 1 ∷ 1 ∷ [])) × (feedFields (oneYear []) 8 0 ≡ ok (18 ∷ 0 ∷ 1 ∷ []))
   -- 1, the field's type, start and length of its value, and where the next stands; zeros at the end; 7 for bits of another number of columns
   pub field-numbers : (feedField workedEvent 22 2 3 ≡ ok (1 ∷ 1 ∷ 24 ∷ 1 ∷ 25 ∷ []))
@@ -186,7 +186,9 @@ pub record Numbers : Type 0 where
       × (feedItem 4 twoGroups 6 ≡ ok (1 ∷ 1 ∷ 7 ∷ 8 ∷ []))
   pub items-end : (feedItem 1 twoGroups 8 ≡ ok (0 ∷ 0 ∷ 0 ∷ 0 ∷ [])) × (feedItem 2 twoGroups 8 ≡ ok (0 ∷ 0 ∷ 0 ∷ 0 ∷ []))
       × (feedItem 3 twoGroups 8 ≡ ok (0 ∷ 0 ∷ 0 ∷ 0 ∷ [])) × (feedItem 4 twoGroups 8 ≡ ok (0 ∷ 0 ∷ 0 ∷ 0 ∷ []))
-  -- a list that there is not
+  -- an item of each list that is cut short or no packed integer; and a list that there is not
+  pub items-broken : (feedItem 1 (0xfc ∷ []) 0 ≡ refuse 1 0) × (feedItem 2 (0x07 ∷ 0xfb ∷ []) 0 ≡ refuse 2 1)
+      × (feedItem 3 (0x02 ∷ 0x61 ∷ []) 0 ≡ refuse 1 0) × (feedItem 4 (0x02 ∷ 0x01 ∷ 0x61 ∷ 0xfb ∷ []) 0 ≡ refuse 2 3)
   pub no-list : (feedItem 0 [] 0 ≡ refuse 13 0) × (feedItem 5 [] 0 ≡ refuse 13 0)
   -- ---- rows
   -- column and offset; the start sets spare null bits
