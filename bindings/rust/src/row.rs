@@ -140,7 +140,8 @@ fn null_bits(values: &[Value]) -> Vec<u8> {
         .collect()
 }
 
-fn is_set(bits: &[u8], at: usize) -> bool {
+/// Bit `at`, from the lowest of the first byte on; one past the bytes is not set.
+pub(crate) fn is_set(bits: &[u8], at: usize) -> bool {
     bits.get(at / 8)
         .is_some_and(|byte| byte >> (at % 8) & 1 == 1)
 }
