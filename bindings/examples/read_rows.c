@@ -119,18 +119,18 @@ static void print_bytes(const uint8_t *bytes, size_t length)
     printf("'");
 }
 
-/* the real type of a column, and its flags behind it */
-static const uint64_t *column_of(const struct table *table, size_t column)
+/* one of the numbers that feed_column tells of a column */
+static uint64_t column_number(const struct table *table, size_t column, int which)
 {
-    static uint64_t out[FEED_OUT_NUMBERS];
+    uint64_t out[FEED_OUT_NUMBERS];
 
     answered("feed_column", feed_column(table->record, table->record_length, column, out, FEED_OUT_NUMBERS), out);
-    return out;
+    return out[which];
 }
 
 static uint64_t type_of(const struct table *table, size_t column)
 {
-    return column_of(table, column)[FEED_COLUMN_TYPE];
+    return column_number(table, column, FEED_COLUMN_TYPE);
 }
 
 /* The item at an offset of a list, which a checked map has whole. Returns whether there is one. */
@@ -159,21 +159,28 @@ static int find_strings(const struct table *table, size_t column, struct strings
     return 1;
 }
 
-/* Prints those strings that are chosen: all, that of an ENUM's number, or those whose bits are set in a SET's bytes. Returns how many. */
+/* Whether string i is that of an ENUM's number, or its bit is set in a SET's bytes. Without a value every string is. */
+static int is_chosen(const struct value *value, const uint8_t *image, uint64_t i)
+{
+    const uint64_t *p;
+
+    if (value == NULL)
+        return 1;
+    p = value->parts;
+    if (value->kind == FEED_UINT)
+        return p[0] == i + 1;
+    return i / 8 < p[1] && (image[p[0] + i / 8] >> i % 8 & 1) != 0;
+}
+
+/* Prints the strings that are chosen. Returns how many. */
 static int print_strings(const struct strings *strings, const struct value *value, const uint8_t *image)
 {
     uint64_t out[FEED_OUT_NUMBERS] = {0}, i;
-    const uint64_t *p;
-    int chosen, shown = 0;
+    int shown = 0;
 
     out[FEED_ITEM_NEXT] = strings->first;
     for (i = 0; i < strings->count && item(FEED_LIST_STRINGS, &strings->value, out[FEED_ITEM_NEXT], out); i++) {
-        chosen = value == NULL;
-        if (value != NULL) {
-            p = value->parts;
-            chosen = value->kind == FEED_UINT ? p[0] == i + 1 : i / 8 < p[1] && (image[p[0] + i / 8] >> i % 8 & 1) != 0;
-        }
-        if (!chosen)
+        if (!is_chosen(value, image, i))
             continue;
         printf("%s", shown++ ? ", " : "");
         print_bytes(strings->value.at + out[FEED_ITEM_FIRST], (size_t)out[FEED_ITEM_SECOND]);
@@ -271,7 +278,7 @@ static void check_parts(const struct table *table)
         stop("a map has another number of columns than its record");
     nullable = table->event.at + out[FEED_PARTS_NULLABLE_START];
     for (i = 0; i < table->columns; i++) {
-        flags = column_of(table, i)[FEED_COLUMN_FLAGS];
+        flags = column_number(table, i, FEED_COLUMN_FLAGS);
         if ((nullable[i / 8] >> i % 8 & 1) != ((flags & FEED_NULLABLE) != 0))
             stop("a nullable bit of a map is not what its record says");
     }
@@ -336,7 +343,7 @@ static const char *type_name(uint64_t type)
 /* the real type of a column, with the strings of an ENUM or SET, and whether it is known to be unsigned and cannot be NULL */
 static void print_type(const struct table *table, size_t column)
 {
-    uint64_t flags = column_of(table, column)[FEED_COLUMN_FLAGS];
+    uint64_t flags = column_number(table, column, FEED_COLUMN_FLAGS);
     struct strings strings;
 
     printf(" %s", type_name(type_of(table, column)));
