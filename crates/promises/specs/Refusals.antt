@@ -186,8 +186,8 @@ pub record EveryCall : Type 1 where
   pub write-temporal : (k : Storage) (place : ℕ) (buf : List ℕ) (o : ℕ) (t : Temporal)
       → Only (writeTemporal k place t buf o) (13 at place ∷ 8 at 0 ∷ [])
   -- ---- `value`. The place is the one that the caller names, and 0 for a lone value. `is_accepted`, `family_of`, `is_known`,
-  -- ---- `declared_length`, `metadata_bytes`, `real_type`, `is_numeric`, `has_sign_bit`, `is_character`, `has_charset`, `is_enum_or_set` and
-  -- ---- `op_of` refuse nothing
+  -- ---- `declared_length`, `metadata_bytes`, `real_type`, `is_numeric`, `has_sign_bit`, `is_character`, `has_charset`, `is_enum_or_set`
+  -- ---- and `op_of` refuse nothing
   -- `read_value`, `read_lone`
   pub read-value : (c : Column) (place : ℕ) (s : List ℕ) (o : ℕ)
       → Only (readValue (shapeOf c) place s o) (4 at place ∷ 5 at place ∷ 9 at place ∷ part-at place ∷ [])
