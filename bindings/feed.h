@@ -11,7 +11,7 @@
  * take for granted, and C does not check:
  *  - a pointer is not NULL, also where the length is 0 (any pointer will do there), and one to numbers is aligned to 8;
  *  - as many elements as the length says can be read, or written where the parameter is not const;
- *  - what is written (image, profile, out) overlaps nothing else that the same call is lent;
+ *  - what is written (image, profile, plan, values, out) overlaps nothing else that the same call is lent;
  *  - the elements lent for reading have been written before.
  * Given that, every call returns, whatever the bytes and numbers are. The library keeps no state and takes no memory.
  *
@@ -42,6 +42,10 @@ extern "C" {
 /* Bytes that so many bits take: presence bits of n columns, null bits of p present columns. */
 #define FEED_BYTES_FOR(bits) (((size_t)(bits) + 7) / 8)
 
+/* Bytes of a plan for p present columns; numbers of a value that a run stores: its kind and seven parts. */
+#define FEED_PLAN_BYTES(present) (3 * (size_t)(present))
+#define FEED_VALUE_NUMBERS 8
+
 /* Which columns a server counts where its map has a bit or a charset per column. Use the one of the server that wrote the map. */
 enum {
     FEED_DOCUMENT = 0, /* the specification to the letter: refuses or misreads real maps with YEAR, VECTOR or geometry columns */
@@ -63,10 +67,10 @@ enum {
     FEED_IMAGE_SHORT = 9,      /* the image ends early, or bytes are left over where no column is present; place: the column, 0 in the null bits and for bytes left over;
                                   of feed_image 0 also for an offset past the event */
     FEED_OUT_OF_RANGE = 10,    /* a part of a date or time is out of range; place: the column; part: the first such one, a FEED_PART_ below */
-    FEED_BAD_RECORD = 11,      /* the record is not valid; place: 0 */
+    FEED_BAD_RECORD = 11,      /* the record is not valid; place: 0, of feed_run the column of an item that no column has */
     FEED_BAD_BITS = 12,        /* presence or null bits have the wrong length; place: 0 */
     FEED_NOT_TAKEN = 13,       /* a value that the column cannot hold, or a number that the call does not take; place: the column, or 0 */
-    FEED_NO_COLUMN = 14,       /* there is no such column; place: the column asked */
+    FEED_NO_COLUMN = 14,       /* there is no such column, or in a plan no such item; place: the column or item asked */
     FEED_BAD_EXTRA = 15,       /* the length of a rows event's extra data is below 2; place: where that length stands, 8 */
     FEED_OTHER_EVENT = 16      /* a rows event of another code, another table id, or another number of columns; place: 0 for code and table id, else where the
                                   event's column count stands */
@@ -84,7 +88,8 @@ enum {
     FEED_PART_NEGATIVE = 8  /* a datetime below zero */
 };
 
-/* Kinds of values (sorts, in the crates), with their parts in order. feed_step answers them, feed_put takes all but FEED_END. */
+/* Kinds of values (sorts, in the crates), with their parts in order. feed_step answers them, feed_run stores and feed_put takes all but
+   FEED_END. */
 enum {
     FEED_END = 0,      /* no value: the image is at its end */
     FEED_NULL = 1,     /* (no part) */
@@ -97,7 +102,8 @@ enum {
     FEED_DATE = 8,     /* year, month, day */
     FEED_DATETIME = 9, /* year, month, day, hour, minute, second, microseconds */
     FEED_TIME = 10,    /* 1 if negative else 0, hours, minutes, seconds, microseconds */
-    FEED_BYTES = 11    /* start, length: in the image for feed_step, in lent for feed_put. Strings, BLOB, SET, BIT, DECIMAL, JSON, geometry, VECTOR */
+    FEED_BYTES = 11    /* start, length: in the image for feed_step, in images for feed_run, in lent for feed_put. Strings, BLOB, SET, BIT,
+                          DECIMAL, JSON, geometry, VECTOR */
 };
 
 /* Flags of a column. */
@@ -137,6 +143,14 @@ enum {
     FEED_STEP_NEXT_COLUMN = 2,
     FEED_STEP_NEXT_OFFSET = 3,
     FEED_STEP_PARTS = 4, /* seven numbers from here on; those that the kind has not are 0 */
+
+    FEED_PLAN_LENGTH = 0, /* feed_plan */
+    FEED_PLAN_ITEMS = 1,
+
+    FEED_RUN_VALUES = 0, /* feed_run */
+    FEED_RUN_START = 1,
+    FEED_RUN_ITEM = 2,
+    FEED_RUN_OFFSET = 3,
 
     FEED_HAS_NAMES = 0, /* feed_names */
     FEED_NAMES_START = 1,
@@ -206,10 +220,39 @@ uint64_t feed_first(const uint8_t *profile, size_t profile_length, const uint8_t
  * Answer, 11 numbers: kind, column, next column, next offset, and seven parts of the value. At the end the kind is FEED_END,
  * column and next column are 0, and next offset is the number of bytes that the row took.
  * Each step tests the whole record anew, so a walk over p present columns of n costs p times n: a row of 900 columns took 6 milliseconds,
- * and one of 4,096 took 120. Where an image ends, feed_image tells in a tenth of a millisecond.
+ * and one of 4,096 took 120. Read rows of many columns by feed_plan and feed_run, where a row costs its columns. Where an image ends,
+ * feed_image tells in a tenth of a millisecond.
  */
 uint64_t feed_step(const uint8_t *profile, size_t profile_length, const uint8_t *presence, size_t presence_length,
                    const uint8_t *image, size_t image_length, size_t column, size_t offset, uint64_t *out, size_t out_length);
+
+/*
+ * Makes the plan of a record and presence bits, which feed_run reads rows by. Make it once for all rows under the same bits. It has
+ * FEED_PLAN_BYTES(present columns) bytes; FEED_PLAN_BYTES(columns) are always enough.
+ * Answer, 2 numbers: the length of the plan, which stands at the start of plan, and its items: one for each present column, in order.
+ */
+uint64_t feed_plan(const uint8_t *profile, size_t profile_length, const uint8_t *presence, size_t presence_length,
+                   uint8_t *plan, size_t plan_length, uint64_t *out, size_t out_length);
+
+/*
+ * Reads many values at once, from the cursor (start, item, offset) on: where its image starts in images, which item of the plan comes
+ * next, and where its value starts in its image. The cursor of a row that starts at s is (s, 0, FEED_BYTES_FOR(items)).
+ * images has row images laid end to end, all under the plan's presence bits, and the run goes on from one to the next. Each value takes
+ * FEED_VALUE_NUMBERS numbers of values: its kind and seven parts, 0 for those that the kind has not, as feed_step answers them. NULL is a
+ * value too, so the k-th value of a row is its k-th present column. The bytes of a FEED_BYTES value start in images, not in the row.
+ * The run stops where values has no room for one more, at the end of images, or before a value that is refused. If that is the first
+ * value, the call is refused, with the place and part that feed_step tells. So call again at the cursor told: no value stored is the end
+ * of images, which are all accepted only then; a refusal is that of the value which stands there.
+ * values shorter than FEED_VALUE_NUMBERS: FEED_NO_ROOM.
+ * Answer, 4 numbers: how many values were stored, and the cursor to go on from. If the values of a row came to their end with the room,
+ * the next item is the number of items, and start + offset is where the row ends; the next call goes on behind it.
+ * plan is lent with the length that feed_plan told. Any bytes are a plan: that of one record, used for images under another record or
+ * under other presence bits, is read as it stands, and nothing tells. An item that no column has is refused: FEED_BAD_RECORD, at the
+ * column that it names. A cursor may be made up too. It is refused at its item, where feed_step names a column: FEED_NO_COLUMN for an item
+ * above the items, FEED_IMAGE_SHORT for an offset past the image.
+ */
+uint64_t feed_run(const uint8_t *plan, size_t plan_length, const uint8_t *images, size_t images_length,
+                  size_t start, size_t item, size_t offset, uint64_t *values, size_t values_length, uint64_t *out, size_t out_length);
 
 /*
  * Begins a row image: stores the null bits, one for each present column, lowest first, in FEED_BYTES_FOR(present columns) bytes.
@@ -262,7 +305,7 @@ uint64_t feed_rows(uint64_t code, const uint8_t *profile, size_t profile_length,
  * Answer, 6 numbers: 1, start and length of the image in the event, 1 if it stands under the second presence bits else 0, and the next
  * cursor; or six zeros at the end. An update has whole pairs: an image under the first bits, then one under the second. An event is
  * accepted only if the walk comes to its end: until then a refusal may follow.
- * Read the values of an image with feed_first and feed_step, under the presence bits that it stands under.
+ * Read the values of an image with feed_plan and feed_run, or feed_first and feed_step, under the presence bits that it stands under.
  */
 uint64_t feed_image(const uint8_t *profile, size_t profile_length, const uint8_t *event, size_t event_length,
                     size_t first_start, size_t first_length, uint64_t has_second, size_t second_start, size_t second_length,

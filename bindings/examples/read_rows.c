@@ -1,7 +1,8 @@
 /*
  * read_rows FILE: prints the tables of FILE, whose lines rows.txt explains: the columns with their types, then a line for each row, and for
  * a rows event a line for each of its images, with the names of the columns that it has.
- * Every row is also written again from its values, and must have the bytes that it was read from, but for the spare null bits.
+ * Every row is also read again step by step, and must have the same values; and written again from its values, and must have the bytes that
+ * it was read from, but for the spare null bits.
  */
 #include "../feed.h"
 
@@ -207,30 +208,68 @@ static void print_columns(const struct table *table)
     printf("\n");
 }
 
-/* Reads the values of a row. Returns the bytes that it took. */
+/* Reads the values of a row by the plan of its presence bits. Returns the bytes that it took. */
 static size_t read_row(const struct table *table, struct row *row)
 {
+    static uint8_t plan[FEED_PLAN_BYTES(FEED_COLUMNS_MOST)];
+    static uint64_t values[FEED_VALUE_NUMBERS * FEED_COLUMNS_MOST];
     uint64_t out[FEED_OUT_NUMBERS];
-    size_t column, offset;
-    struct value *value;
+    size_t plan_length, items, column = 0, item = 0, offset;
+
+    answered("feed_plan",
+             feed_plan(table->record, table->record_length, row->presence.at, row->presence.length, plan, sizeof plan,
+                       out, FEED_OUT_NUMBERS), out);
+    plan_length = (size_t)out[FEED_PLAN_LENGTH];
+    items = (size_t)out[FEED_PLAN_ITEMS];
+    offset = FEED_BYTES_FOR(items);
+    /* a run may stop before a value that is refused: the next one tells why */
+    while (item < items) {
+        answered("feed_run",
+                 feed_run(plan, plan_length, row->image.at, row->image.length, 0, item, offset, values + FEED_VALUE_NUMBERS * item,
+                          FEED_VALUE_NUMBERS * (items - item), out, FEED_OUT_NUMBERS), out);
+        if (out[FEED_RUN_VALUES] == 0)
+            stop("a row has no image");
+        item = (size_t)out[FEED_RUN_ITEM];
+        offset = (size_t)out[FEED_RUN_OFFSET];
+    }
+    for (row->count = 0; row->count < items; column++)
+        if (row->presence.at[column / 8] >> column % 8 & 1) {
+            const uint64_t *numbers = values + FEED_VALUE_NUMBERS * row->count;
+            struct value *value = &row->values[row->count++];
+
+            value->column = column;
+            value->kind = numbers[0];
+            memcpy(value->parts, numbers + 1, sizeof value->parts);
+        }
+    return offset;
+}
+
+/* Reads the row again step by step: the same values, and the same number of bytes. */
+static void check_steps(const struct table *table, const struct row *row, size_t used)
+{
+    uint64_t out[FEED_OUT_NUMBERS];
+    size_t column, offset, i;
+    const struct value *value;
 
     answered("feed_first",
              feed_first(table->record, table->record_length, row->presence.at, row->presence.length, out, FEED_OUT_NUMBERS), out);
     column = (size_t)out[FEED_CURSOR_COLUMN];
     offset = (size_t)out[FEED_CURSOR_OFFSET];
-    for (row->count = 0;; row->count++) {
+    for (i = 0;; i++) {
         answered("feed_step",
                  feed_step(table->record, table->record_length, row->presence.at, row->presence.length, row->image.at, row->image.length,
                            column, offset, out, FEED_OUT_NUMBERS), out);
         column = (size_t)out[FEED_STEP_NEXT_COLUMN];
         offset = (size_t)out[FEED_STEP_NEXT_OFFSET];
-        if (out[FEED_STEP_KIND] == FEED_END)
-            return offset;
-        value = &row->values[row->count];
-        value->kind = out[FEED_STEP_KIND];
-        value->column = out[FEED_STEP_COLUMN];
-        memcpy(value->parts, out + FEED_STEP_PARTS, sizeof value->parts);
+        if (out[FEED_STEP_KIND] == FEED_END || i == row->count)
+            break;
+        value = &row->values[i];
+        if (out[FEED_STEP_KIND] != value->kind || out[FEED_STEP_COLUMN] != value->column
+            || memcmp(out + FEED_STEP_PARTS, value->parts, sizeof value->parts) != 0)
+            stop("a step gives another value than the plan");
     }
+    if (out[FEED_STEP_KIND] != FEED_END || i != row->count || offset != used)
+        stop("the steps end elsewhere than the plan");
 }
 
 static void print_row(const struct table *table, const struct row *row)
@@ -288,6 +327,7 @@ static void do_row(const struct table *table, struct row *row, int show)
     uint8_t written[LINE_MOST];
     size_t used = read_row(table, row);
 
+    check_steps(table, row, used);
     print_row(table, row);
     if (used != row->image.length)
         stop("the row does not take its whole image");

@@ -53,15 +53,27 @@ extern "C" {
         out_length: usize,
     ) -> u64;
 
-    fn feed_step(
+    fn feed_plan(
         profile: *const u8,
         profile_length: usize,
         presence: *const u8,
         presence_length: usize,
-        image: *const u8,
-        image_length: usize,
-        column: usize,
+        plan: *mut u8,
+        plan_length: usize,
+        out: *mut u64,
+        out_length: usize,
+    ) -> u64;
+
+    fn feed_run(
+        plan: *const u8,
+        plan_length: usize,
+        images: *const u8,
+        images_length: usize,
+        start: usize,
+        item: usize,
         offset: usize,
+        values: *mut u64,
+        values_length: usize,
         out: *mut u64,
         out_length: usize,
     ) -> u64;
@@ -214,24 +226,42 @@ pub(crate) fn first(profile: &[u8], presence: &[u8]) -> Result<Answer, Refusal> 
     answered(status, out)
 }
 
-pub(crate) fn step(
-    profile: &[u8],
-    presence: &[u8],
-    image: &[u8],
-    column: usize,
-    offset: usize,
-) -> Result<Answer, Refusal> {
+pub(crate) fn plan(profile: &[u8], presence: &[u8], plan: &mut [u8]) -> Result<Answer, Refusal> {
     let mut out = [0; NUMBERS];
     let status = unsafe {
-        feed_step(
+        feed_plan(
             profile.as_ptr(),
             profile.len(),
             presence.as_ptr(),
             presence.len(),
+            plan.as_mut_ptr(),
+            plan.len(),
+            out.as_mut_ptr(),
+            out.len(),
+        )
+    };
+    answered(status, out)
+}
+
+/// Values of one image, which is lent alone, from an item and its offset on.
+pub(crate) fn run(
+    plan: &[u8],
+    image: &[u8],
+    (item, offset): (usize, usize),
+    values: &mut [u64],
+) -> Result<Answer, Refusal> {
+    let mut out = [0; NUMBERS];
+    let status = unsafe {
+        feed_run(
+            plan.as_ptr(),
+            plan.len(),
             image.as_ptr(),
             image.len(),
-            column,
+            0,
+            item,
             offset,
+            values.as_mut_ptr(),
+            values.len(),
             out.as_mut_ptr(),
             out.len(),
         )

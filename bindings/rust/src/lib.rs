@@ -14,6 +14,7 @@
 #[allow(unsafe_code)]
 mod abi;
 mod event;
+mod plan;
 mod row;
 mod value;
 
@@ -21,6 +22,7 @@ pub use event::{code, ChangedRow, Image, Rows, RowsEvent};
 pub use row::Row;
 pub use value::Value;
 
+use plan::Plans;
 use std::error::Error;
 use std::fmt;
 
@@ -155,10 +157,21 @@ impl Dialect {
 /// Bytes of the longest record there is, of 4,096 columns.
 const RECORD_MOST: usize = 6 + 6 * 4096;
 
-/// What an accepted map says of its columns, as bytes that may be stored and taken up again.
+/// What an accepted map says of its columns, as bytes that may be stored and taken up again. Beside them it keeps how rows are read under
+/// the presence bits that came last, so keep the record of a map as long as its rows come.
 #[derive(Clone, Debug, PartialEq, Eq)]
 pub struct Record {
     bytes: Vec<u8>,
+    plans: Plans,
+}
+
+impl Record {
+    fn of(bytes: Vec<u8>) -> Record {
+        Record {
+            bytes,
+            plans: Plans::default(),
+        }
+    }
 }
 
 /// One column of a record.
@@ -212,7 +225,7 @@ pub fn check(event: &[u8], post_header: u8, dialect: Dialect) -> Result<Record, 
     let mut bytes = vec![0; RECORD_MOST];
     let out = abi::check(event, post_header, dialect.number(), &mut bytes)?;
     bytes.truncate(out[0] as usize);
-    Ok(Record { bytes })
+    Ok(Record::of(bytes))
 }
 
 impl Record {
@@ -221,7 +234,7 @@ impl Record {
         // no record has this column, so a valid one is refused with 14
         match abi::column(&bytes, usize::MAX) {
             Err(why) if why.number != refusal::NO_COLUMN => Err(why),
-            _ => Ok(Record { bytes }),
+            _ => Ok(Record::of(bytes)),
         }
     }
 

@@ -1,24 +1,35 @@
 //! Row images: read and written.
 
 use crate::abi;
+use crate::plan::{is_set, Plan};
 use crate::refusal;
-use crate::value::{Value, END};
+use crate::value::{Value, NUMBERS};
 use crate::{Record, Refusal};
 use std::iter::FusedIterator;
+use std::sync::Arc;
+
+/// How many values are read at once.
+const BATCH: usize = 16;
 
 /// The walk over one row image: each present column with its value. After a refusal there is nothing more.
 #[derive(Clone, Debug)]
 pub struct Row<'a> {
-    record: &'a Record,
-    presence: &'a [u8],
+    plan: Arc<Plan>,
     image: &'a [u8],
+    // numbers of values that were read, of the item `first` and of those behind it
+    numbers: [u64; NUMBERS * BATCH],
+    first: usize,
+    // the item to give next, and the one to read next with the offset of its value
+    given: usize,
+    item: usize,
+    offset: usize,
     state: State,
 }
 
 #[derive(Clone, Copy, Debug)]
 enum State {
-    At { column: usize, offset: usize },
-    Ended { used: usize },
+    On,
+    Ended,
     Refused,
 }
 
@@ -26,9 +37,39 @@ impl Row<'_> {
     /// How many bytes of the image the row took, once the walk has come to its end. The next row of an event starts there.
     pub fn bytes_used(&self) -> Option<usize> {
         match self.state {
-            State::Ended { used } => Some(used),
+            State::Ended => Some(self.offset),
             _ => None,
         }
+    }
+
+    /// Reads on, no further than the row goes. A refusal comes only if it is the first item's.
+    fn read_on(&mut self, left: usize) -> Result<(), Refusal> {
+        let room = &mut self.numbers[..NUMBERS * left.min(BATCH)];
+        let at = (self.item, self.offset);
+        let out = abi::run(&self.plan.bytes, self.image, at, room)?;
+        // the library takes no bytes for the end of all images; here an image is due
+        if out[0] == 0 {
+            return Err(Refusal::at(refusal::IMAGE_SHORT, 0));
+        }
+        self.first = self.item;
+        self.item = out[2] as usize;
+        self.offset = out[3] as usize;
+        Ok(())
+    }
+}
+
+impl<'a> Row<'a> {
+    /// The item to give, which was read.
+    fn give(&mut self) -> Result<(usize, Value<'a>), Refusal> {
+        let column = self.plan.columns[self.given];
+        let at = NUMBERS * (self.given - self.first);
+        let mut parts = [0; NUMBERS - 1];
+        parts.copy_from_slice(&self.numbers[at + 1..at + NUMBERS]);
+        // the library answers only the kinds that it names, and bytes that lie in the image
+        let value = Value::from_parts(self.numbers[at], parts, self.image)
+            .ok_or(Refusal::at(refusal::IMAGE_SHORT, column as u64))?;
+        self.given += 1;
+        Ok((column, value))
     }
 }
 
@@ -36,37 +77,24 @@ impl<'a> Iterator for Row<'a> {
     type Item = Result<(usize, Value<'a>), Refusal>;
 
     fn next(&mut self) -> Option<Self::Item> {
-        let State::At { column, offset } = self.state else {
+        let State::On = self.state else {
             return None;
         };
-        // what it is after a refusal; an answer sets it anew
-        self.state = State::Refused;
-        let out = match abi::step(
-            self.record.as_bytes(),
-            self.presence,
-            self.image,
-            column,
-            offset,
-        ) {
-            Ok(out) => out,
-            Err(why) => return Some(Err(why)),
-        };
-        let [kind, at, next_column, next_offset, parts @ ..] = out;
-        if kind == END {
-            self.state = State::Ended {
-                used: next_offset as usize,
-            };
+        let left = self.plan.columns.len() - self.given;
+        if left == 0 {
+            self.state = State::Ended;
             return None;
         }
-        // the library answers only the kinds that it names, and bytes that lie in the image
-        let Some(value) = Value::from_parts(kind, parts, self.image) else {
-            return Some(Err(Refusal::at(refusal::IMAGE_SHORT, at)));
+        let read = if self.given == self.item {
+            self.read_on(left)
+        } else {
+            Ok(())
         };
-        self.state = State::At {
-            column: next_column as usize,
-            offset: next_offset as usize,
-        };
-        Some(Ok((at as usize, value)))
+        let given = read.and_then(|()| self.give());
+        if given.is_err() {
+            self.state = State::Refused;
+        }
+        Some(given)
     }
 }
 
@@ -76,15 +104,17 @@ impl Record {
     /// Reads a row image. `presence` has a bit for each column, lowest first: set where the column is in the image. The image may be longer
     /// than the row.
     pub fn row<'a>(&'a self, presence: &'a [u8], image: &'a [u8]) -> Result<Row<'a>, Refusal> {
-        let out = abi::first(&self.bytes, presence)?;
+        let plan = self.plans.get(&self.bytes, self.columns(), presence)?;
+        let offset = plan.columns.len().div_ceil(8);
         Ok(Row {
-            record: self,
-            presence,
+            plan,
             image,
-            state: State::At {
-                column: out[0] as usize,
-                offset: out[1] as usize,
-            },
+            numbers: [0; NUMBERS * BATCH],
+            first: 0,
+            given: 0,
+            item: 0,
+            offset,
+            state: State::On,
         })
     }
 
@@ -138,9 +168,4 @@ fn null_bits(values: &[Value]) -> Vec<u8> {
             })
         })
         .collect()
-}
-
-fn is_set(bits: &[u8], at: usize) -> bool {
-    bits.get(at / 8)
-        .is_some_and(|byte| byte >> (at % 8) & 1 == 1)
 }

@@ -68,8 +68,8 @@ pub enum Value<'a> {
     Bytes(&'a [u8]),
 }
 
-/// The kind of an answer that tells the end of an image.
-pub(crate) const END: u64 = 0;
+/// How many numbers a value is read as: its kind and seven parts.
+pub(crate) const NUMBERS: usize = 8;
 
 const NULL: u64 = 1;
 const INT: u64 = 2;

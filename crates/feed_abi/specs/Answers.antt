@@ -25,6 +25,6 @@ statusOf k o out = cond (leb k (length out)) (answerNumber o) 8
 unfoldable pub numbersLeft : ℕ → Outcome (List ℕ) → List ℕ → List ℕ
 numbersLeft k o out = cond (leb k (length out)) (stored (answerNumbers o) out 0) out
 
--- what a writer leaves of the bytes lent to it, which a refusal leaves as they were
+-- what a writer leaves of the bytes lent to it, or of the numbers of values, which a refusal leaves as they were
 unfoldable pub bytesLeft : ℕ → Outcome (List ℕ × List ℕ) → List ℕ → List ℕ → List ℕ
 bytesLeft k o out buf = cond (leb k (length out)) (leftOf o buf) buf

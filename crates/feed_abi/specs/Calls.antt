@@ -23,6 +23,9 @@ use Rattle.map_check.specs.Check.{check}
 use Rattle.image.specs.declared.cursor.Cursor.{Cursor}
 use Rattle.image.specs.Split.{ColumnStepped, null, value, end, cursor, firstCursor, stepFrom}
 use Rattle.image.specs.Puts.{startImage, putFrom}
+use Rattle.row_plan.specs.declared.row.RowCursor.{RowCursor}
+use Rattle.row_plan.specs.Plan.{rowCursor, makePlan}
+use Rattle.row_plan.specs.Runs.{readRun}
 use Rattle.rows_event.specs.declared.parts.Extra.{Extra}
 use Rattle.rows_event.specs.declared.parts.Extra.the-variants.{Absent, Data}
 use Rattle.rows_event.specs.declared.parts.Second.{Second}
@@ -98,6 +101,14 @@ rowsNumbers w =
 abbrev pub imageNumbers : Told₁ → List ℕ
 imageNumbers (imageMet p second next) = 1 ∷ (p .start ∷ (p .len ∷ (oneIf second ∷ (next .at ∷ (oneIf (next .second) ∷ [])))))
 imageNumbers end₁ = 0 ∷ (0 ∷ (0 ∷ (0 ∷ (0 ∷ (0 ∷ [])))))
+
+-- how many bytes a plan has, and how many items
+abbrev pub planNumbers : ℕ × ℕ → List ℕ
+planNumbers x = x .0 ∷ (x .1 ∷ [])
+
+-- how many values were stored, and the cursor of the next
+abbrev pub runNumbers : ℕ × RowCursor → List ℕ
+runNumbers x = x .0 ∷ (x .1 .start ∷ (x .1 .item ∷ (x .1 .offset ∷ [])))
 
 -- ---- maps
 -- whose map it is
@@ -182,3 +193,14 @@ unfolding nextImage
 feedImage profile s firstStart firstLength hasSecond secondStart secondLength offset second =
     said imageNumbers (nextImage profile (setsAsked (part firstStart firstLength) (secondAsked hasSecond secondStart secondLength)) s
     (imagesAt offset second))
+
+-- ---- rows by a plan
+-- the plan's length and its items, with the plan at the buffer's start
+unfoldable pub feedPlan : List ℕ → List ℕ → List ℕ → Outcome (List ℕ × List ℕ)
+unfolding makePlan
+feedPlan profile presence plan = saidWith planNumbers (makePlan profile presence plan)
+
+-- as many values as the buffer of numbers holds, from any cursor, by any plan
+unfoldable pub feedRun : List ℕ → List ℕ → ℕ → ℕ → ℕ → List ℕ → Outcome (List ℕ × List ℕ)
+unfolding readRun
+feedRun plan images start item offset values = saidWith runNumbers (readRun plan images (rowCursor start item offset) values)

@@ -3,6 +3,7 @@
 mod answer;
 mod events;
 mod maps;
+mod plans;
 mod rows;
 
 pub use events::feed_image;
@@ -12,6 +13,8 @@ pub use maps::feed_column;
 pub use maps::feed_map;
 pub use maps::feed_name;
 pub use maps::feed_names;
+pub use plans::feed_plan;
+pub use plans::feed_run;
 pub use rows::feed_first;
 pub use rows::feed_put;
 pub use rows::feed_start;

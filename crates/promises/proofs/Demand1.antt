@@ -3,6 +3,7 @@ pub mod Calls
 pub mod Only
 pub mod Maps
 pub mod Rows
+pub mod Plans
 pub mod Refusals
 pub mod Occurs
 pub mod Buffers

@@ -7,4 +7,5 @@ pub mod Demand3
 pub mod Readings
 pub mod FirstParts
 pub mod Records
+pub mod RowPlans
 pub mod Port

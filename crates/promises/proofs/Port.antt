@@ -7,6 +7,7 @@ use Rattle.promises.proofs.Readings.{readings}
 use Rattle.promises.proofs.RowsEvents.{rows-events}
 use Rattle.promises.proofs.FirstParts.{first-parts}
 use Rattle.promises.proofs.Records.{records}
+use Rattle.promises.proofs.RowPlans.{row-plans}
 
 pub port : Port
 port = record {
@@ -17,4 +18,5 @@ port = record {
   rows-events = rows-events;
   first-parts = first-parts;
   records = records;
+  row-plans = row-plans;
 }

@@ -22,11 +22,13 @@ use Rattle.map_check.specs.Check.{checkMap}
 use Rattle.map_check.specs.Names.{listOf, namesField}
 use Rattle.image.specs.declared.cursor.Cursor.{Cursor}
 use Rattle.image.specs.Split.{null, value, stepFrom}
+use Rattle.row_plan.specs.Plan.{rowCursor}
+use Rattle.row_plan.specs.Runs.{turned}
 use Rattle.feed_abi.specs.Answers.{statusOf, numbersLeft, bytesLeft}
 use Rattle.feed_abi.specs.Calls.{dialectOf, toldNumbers, feedMap, feedCheck, feedColumn, feedNames, feedName, feedFirst, feedStep}
-use Rattle.feed_abi.specs.Calls.{feedStart, feedPut, feedRows, feedImage}
+use Rattle.feed_abi.specs.Calls.{feedStart, feedPut, feedRows, feedImage, feedPlan, feedRun}
 use Rattle.promises.specs.Refusals.{Line, _at_, _below_, part-below, refusalNumbers, Only, eventLines, checkLines, nameLines}
-use Rattle.promises.specs.Refusals.{namesLines, rowsLines}
+use Rattle.promises.specs.Refusals.{namesLines, rowsLines, planLines}
 use Rattle.promises.specs.Buffers.{Touched}
 
 -- the answer is no refusal, and there is room for its k numbers
@@ -80,6 +82,13 @@ pub record AbiCalls : Type 1 where
   pub feed-image : (profile s : List ℕ) (firstStart firstLength hasSecond secondStart secondLength offset second : ℕ)
       → Only (feedImage profile s firstStart firstLength hasSecond secondStart secondLength offset second)
       (11 at 0 ∷ 12 at 0 ∷ 9 at 0 ∷ 9 below countOf profile ∷ part-below (countOf profile) ∷ [])
+  -- ---- rows by a plan
+  -- `feed_plan`: as `make_plan`
+  pub feed-plan : (profile presence plan : List ℕ) → Only (answerOf (feedPlan profile presence plan)) (11 at 0 ∷ 12 at 0 ∷ 8 at 0 ∷ [])
+  -- `feed_run`: as `RowCursor::read`
+  pub feed-run : (plan images : List ℕ) (start item offset : ℕ) (values : List ℕ)
+      → Only (answerOf (feedRun plan images start item offset values))
+      (8 at 0 ∷ planLines plan (turned plan images (rowCursor start item offset)))
   -- ---- what `feed_check` tells of an accepted map: its record's length, and how many columns it has
   pub check-told : (event : List ℕ) (postHeader dialect : ℕ) (buf : List ℕ) (d : Dialect) (es : List Entry) → dialectOf dialect ≡ ok d
       → checkMap d event postHeader ≡ ok es → entryAt (length es) ≤ length buf
@@ -108,7 +117,7 @@ pub record AbiCalls : Type 1 where
   -- and then the numbers are as they were, but for those two
   pub numbers-kept : (k : ℕ) (out : List ℕ) (answer : Outcome (List ℕ)) → 2 ≤ k → (statusOf k answer out ≡ 0 → ⊥)
       → Touched out 0 2 (numbersLeft k answer out)
-  -- and the bytes lent to a writer are as they were
+  -- and the bytes lent to a writer, or the numbers lent for values, are as they were
   pub bytes-kept : (k : ℕ) (out buf : List ℕ) (rule : Outcome (List ℕ × List ℕ)) → (statusOf k (answerOf rule) out ≡ 0 → ⊥)
       → bytesLeft k rule out buf ≡ buf
   -- where there is an answer, and room for its numbers, they stand at the start; and the bytes lent to a writer are what its rule leaves
@@ -130,6 +139,9 @@ pub record AbiCalls : Type 1 where
   pub rows-ten : (code : ℕ) (profile : List ℕ) (id : ℕ) (s : List ℕ) → Counts 10 (feedRows code profile id s)
   pub image-six : (profile s : List ℕ) (firstStart firstLength hasSecond secondStart secondLength offset second : ℕ)
       → Counts 6 (feedImage profile s firstStart firstLength hasSecond secondStart secondLength offset second)
+  pub plan-two : (profile presence plan : List ℕ) → Counts 2 (answerOf (feedPlan profile presence plan))
+  pub run-four : (plan images : List ℕ) (start item offset : ℕ) (values : List ℕ)
+      → Counts 4 (answerOf (feedRun plan images start item offset values))
   -- so many are touched, and no others
   pub numbers-touched : (k : ℕ) (out : List ℕ) (answer : Outcome (List ℕ)) → Counts k answer → Answered k out answer
       → Touched out 0 k (numbersLeft k answer out)

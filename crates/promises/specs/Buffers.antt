@@ -1,7 +1,7 @@
 -- "Success touches only the bytes reported." For every public call that writes: where it went well, the buffer after the call is the buffer
 -- before it, but for the bytes from where the call began to the place that it answers. Where it refused, see `Refusals`. `buffers` in
 -- proofs/Demand1/Buffers.antt proves it. Assumes nothing.
-use Prim.Native.Nat.{ℕ}
+use Prim.Native.Nat.{ℕ, _*_}
 use mathlib.Core.Path.{_≡_}
 use mathlib.Core.List.{List}
 use lib.ListN.{length, getD, take, drop}
@@ -19,7 +19,10 @@ use Rattle.table_map.specs.Writes.{EventParts, writeEvent}
 use Rattle.map_check.specs.Check.{check}
 use Rattle.image.specs.declared.cursor.Cursor.{Cursor}
 use Rattle.image.specs.Puts.{startImage, putFrom}
-use Rattle.feed_abi.specs.Calls.{feedCheck, feedStart, feedPut}
+use Rattle.row_plan.specs.declared.row.RowCursor.{RowCursor}
+use Rattle.row_plan.specs.Plan.{makePlan}
+use Rattle.row_plan.specs.Runs.{readRun}
+use Rattle.feed_abi.specs.Calls.{feedCheck, feedStart, feedPut, feedPlan, feedRun}
 
 -- `left` is `buf` but for the bytes from o to n
 pub record Touched (buf : List ℕ) (o n : ℕ) (left : List ℕ) : Type 0 where
@@ -46,6 +49,12 @@ pub record Buffers : Type 0 where
   pub put-value : (profile presence nulls : List ℕ) (c : Cursor) (lent : List ℕ) (v : Value) (buf : List ℕ) (next : Cursor) (left : List ℕ)
       → putFrom profile presence nulls c lent v buf ≡ ok (next, left)
       → Touched buf (c .offset) (next .offset) left
+  -- `make_plan` answers the place, and how many items there are
+  pub make-plan : (profile presence buf : List ℕ) (n items : ℕ) (left : List ℕ)
+      → makePlan profile presence buf ≡ ok ((n, items), left) → Touched buf 0 n left
+  -- `RowCursor::read` answers how many values it stored, each in eight numbers
+  pub read-run : (plan images : List ℕ) (c : RowCursor) (buf : List ℕ) (values : ℕ) (next : RowCursor) (left : List ℕ)
+      → readRun plan images c buf ≡ ok ((values, next), left) → Touched buf 0 (8 * values) left
   -- `feed_check` answers the place as its number, `feed_start` and `feed_put` as the second of theirs; what is left of the numbers
   -- themselves is in `Abi`
   pub feed-check : (event : List ℕ) (postHeader dialect : ℕ) (buf ns left : List ℕ) → feedCheck event postHeader dialect buf ≡ ok (ns, left)
@@ -55,3 +64,9 @@ pub record Buffers : Type 0 where
   pub feed-put : (profile presence nulls : List ℕ) (column offset sort : ℕ) (parts lent image ns left : List ℕ)
       → feedPut profile presence nulls column offset sort parts lent image ≡ ok (ns, left)
       → Touched image offset (getD ns 1 0) left
+  -- `feed_plan` answers the place as its first number, and `feed_run` how many values it stored as its first
+  pub feed-plan : (profile presence plan ns left : List ℕ) → feedPlan profile presence plan ≡ ok (ns, left)
+      → Touched plan 0 (getD ns 0 0) left
+  pub feed-run : (plan images : List ℕ) (start item offset : ℕ) (values ns left : List ℕ)
+      → feedRun plan images start item offset values ≡ ok (ns, left)
+      → Touched values 0 (8 * getD ns 0 0) left

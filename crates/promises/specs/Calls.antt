@@ -28,6 +28,10 @@ use Rattle.wire.proofs.write_bytes.Statement.{statement as of-write-bytes}
 use Rattle.temporal.proofs.in_domain.Statement.{statement as of-in-domain}
 use Rattle.temporal.proofs.temporal_size.Statement.{statement as of-temporal-size}
 use Rattle.temporal.proofs.read_temporal.Statement.{statement as of-read-temporal}
+use Rattle.temporal.proofs.read_newdate.Statement.{statement as of-read-newdate}
+use Rattle.temporal.proofs.read_timestamp2.Statement.{statement as of-read-timestamp2}
+use Rattle.temporal.proofs.read_datetime2.Statement.{statement as of-read-datetime2}
+use Rattle.temporal.proofs.read_time2.Statement.{statement as of-read-time2}
 use Rattle.temporal.proofs.write_temporal.Statement.{statement as of-write-temporal}
 use Rattle.value.proofs.has_charset.Statement.{statement as of-has-charset}
 use Rattle.value.proofs.has_sign_bit.Statement.{statement as of-has-sign-bit}
@@ -36,12 +40,14 @@ use Rattle.value.proofs.is_enum_or_set.Statement.{statement as of-is-enum-or-se
 use Rattle.value.proofs.declared_length.Statement.{statement as of-declared-length}
 use Rattle.value.proofs.is_accepted.Statement.{statement as of-is-accepted}
 use Rattle.value.proofs.shape_of.Statement.{statement as of-shape-of}
+use Rattle.value.proofs.op_of.Statement.{statement as of-op-of}
 use Rattle.value.proofs.family_of.Statement.{statement as of-family-of}
 use Rattle.value.proofs.is_known.Statement.{statement as of-is-known}
 use Rattle.value.proofs.is_numeric.Statement.{statement as of-is-numeric}
 use Rattle.value.proofs.metadata_bytes.Statement.{statement as of-metadata-bytes}
 use Rattle.value.proofs.real_type.Statement.{statement as of-real-type}
 use Rattle.value.proofs.read_value.Statement.{statement as of-read-value}
+use Rattle.value.proofs.read_op.Statement.{statement as of-read-op}
 use Rattle.value.proofs.write_value.Statement.{statement as of-write-value}
 use Rattle.value.proofs.value_size.Statement.{statement as of-value-size}
 use Rattle.value.proofs.read_lone.Statement.{statement as of-read-lone}
@@ -88,6 +94,9 @@ use Rattle.image.proofs.first_set.Statement.{statement as of-first-set}
 use Rattle.image.proofs.start.Statement.{statement as of-start}
 use Rattle.image.proofs.cursor.Cursor.put.Statement.{statement as of-cursor-put}
 use Rattle.image.proofs.cursor.Cursor.step.Statement.{statement as of-cursor-step}
+use Rattle.row_plan.proofs.make_plan.Statement.{statement as of-make-plan}
+use Rattle.row_plan.proofs.row.RowCursor.step.Statement.{statement as of-row-cursor-step}
+use Rattle.row_plan.proofs.row.RowCursor.read.Statement.{statement as of-row-cursor-read}
 use Rattle.rows_event.proofs.read_rows.Statement.{statement as of-read-rows}
 use Rattle.rows_event.proofs.set_of.Statement.{statement as of-set-of}
 use Rattle.rows_event.proofs.images.Images.next.Statement.{statement as of-images-next}
@@ -102,6 +111,8 @@ use Rattle.feed_abi.proofs.feed_first.Statement.{statement as of-feed-first}
 use Rattle.feed_abi.proofs.feed_step.Statement.{statement as of-feed-step}
 use Rattle.feed_abi.proofs.feed_start.Statement.{statement as of-feed-start}
 use Rattle.feed_abi.proofs.feed_put.Statement.{statement as of-feed-put}
+use Rattle.feed_abi.proofs.feed_plan.Statement.{statement as of-feed-plan}
+use Rattle.feed_abi.proofs.feed_run.Statement.{statement as of-feed-run}
 
 -- the function meets its contract, whatever the model of the machine's memory
 abbrev pub Meets : (Type 1 → Type 2) → Type 2
@@ -135,6 +146,10 @@ pub record Calls : Type 2 where
   pub in-domain : Meets of-in-domain
   pub temporal-size : Meets of-temporal-size
   pub read-temporal : Meets of-read-temporal
+  pub read-newdate : Meets of-read-newdate
+  pub read-timestamp2 : Meets of-read-timestamp2
+  pub read-datetime2 : Meets of-read-datetime2
+  pub read-time2 : Meets of-read-time2
   pub write-temporal : Meets of-write-temporal
   -- `value`: columns and their values
   pub has-charset : Meets of-has-charset
@@ -144,12 +159,14 @@ pub record Calls : Type 2 where
   pub declared-length : Meets of-declared-length
   pub is-accepted : Meets of-is-accepted
   pub shape-of : Meets of-shape-of
+  pub op-of : Meets of-op-of
   pub family-of : Meets of-family-of
   pub is-known : Meets of-is-known
   pub is-numeric : Meets of-is-numeric
   pub metadata-bytes : Meets of-metadata-bytes
   pub real-type : Meets of-real-type
   pub read-value : Meets of-read-value
+  pub read-op : Meets of-read-op
   pub write-value : Meets of-write-value
   pub value-size : Meets of-value-size
   pub read-lone : Meets of-read-lone
@@ -201,6 +218,10 @@ pub record Calls : Type 2 where
   pub start : Meets of-start
   pub cursor-put : Meets of-cursor-put
   pub cursor-step : Meets of-cursor-step
+  -- `row_plan`: plans of rows
+  pub make-plan : Meets of-make-plan
+  pub row-cursor-step : Meets of-row-cursor-step
+  pub row-cursor-read : Meets of-row-cursor-read
   -- `rows_event`: rows events
   pub read-rows : Meets of-read-rows
   pub set-of : Meets of-set-of
@@ -217,3 +238,5 @@ pub record Calls : Type 2 where
   pub feed-step : Meets of-feed-step
   pub feed-start : Meets of-feed-start
   pub feed-put : Meets of-feed-put
+  pub feed-plan : Meets of-feed-plan
+  pub feed-run : Meets of-feed-run

@@ -19,6 +19,7 @@ use Rattle.value.specs.declared.datum.Value.the-variants.{Null, Int}
 use Rattle.value.specs.declared.shape.Shape.{Shape}
 use Rattle.value.specs.declared.shape.Shape.the-variants.{NotTaken}
 use Rattle.value.specs.Columns.{shapeOf}
+use Rattle.value.specs.Ops.{shapeFor}
 use Rattle.value.specs.Reading.{readValue}
 use Rattle.value.specs.Storing.{writeValue, sizeOf}
 use Rattle.value_parts.specs.Parts.{valueOf}
@@ -35,6 +36,8 @@ use Rattle.map_check.specs.Names.{columnName, namesField}
 use Rattle.image.specs.Split.{cursor, headOf, firstCursor, stepFrom}
 use Rattle.image.specs.Walk.{walkImage}
 use Rattle.image.specs.Puts.{startImage, putFrom}
+use Rattle.row_plan.specs.Plan.{rowCursor, makePlan, planStep}
+use Rattle.row_plan.specs.Runs.{readRun}
 use Rattle.rows_event.specs.declared.parts.Extra.the-variants.{Absent}
 use Rattle.rows_event.specs.declared.parts.Second.the-variants.{Absent as Absent₁}
 use Rattle.rows_event.specs.declared.event.Rows.{Rows}
@@ -97,6 +100,10 @@ onlyFirst = 1 ∷ []
 abbrev pub onlySecond : List ℕ
 onlySecond = 2 ∷ []
 
+-- a plan of one item, this op at column 7; op 0 is none, and 24 a DATE
+abbrev pub planned : ℕ → List ℕ
+planned op = op ∷ 7 ∷ 0 ∷ []
+
 -- a rows event whose presence bits are its first bytes, so many, and the cursor of an image
 abbrev pub rowsWith : ℕ → Rows
 rowsWith n = record { flags = 0; extra = Absent; before = part 0 n; after = Absent₁; images = n }
@@ -119,6 +126,9 @@ pub record Occurs : Type 0 where
       × (readValue (shaped 4 0) 7 [] 0 ≡ refuse 5 7)
       × (readValue (shaped 1 0) 7 [] 0 ≡ refuse 9 7)
       × (readValue (shaped 14 0) 7 month13 0 ≡ refused (outOf 7 2))
+  pub read-op : (readValue (shapeFor 0) 7 [] 0 ≡ refuse 11 7)
+      × (readValue (shapeFor 24) 7 [] 0 ≡ refuse 9 7)
+      × (readValue (shapeFor 24) 7 month13 0 ≡ refused (outOf 7 2))
   pub write-value : (writeValue (shaped 6 0) 7 [] Null [] 0 ≡ refuse 4 7)
       × (writeValue (shaped 4 0) 7 [] Null [] 0 ≡ refuse 5 7)
       × (writeValue (shaped 1 0) 7 [] Null [] 0 ≡ refuse 13 7)
@@ -205,6 +215,25 @@ pub record Occurs : Type 0 where
       × (putFrom twoColumns onlySecond (0 ∷ []) (cursor 2 0) [] Null [] ≡ refuse 14 2)
       × (putFrom twoColumns onlySecond (0 ∷ []) (cursor 0 0) [] Null [] ≡ refuse 13 1)
       × (putFrom twoColumns onlyFirst (0 ∷ []) (cursor 0 0) [] (Int (pos 0)) [] ≡ refuse 8 0)
+  -- ---- `row_plan`
+  pub make-plan : (makePlan [] [] [] ≡ refuse 11 0)
+      × (makePlan twoColumns [] [] ≡ refuse 12 0)
+      × (makePlan twoColumns onlySecond [] ≡ refuse 8 0)
+  -- 9 in the null bits, for an offset past the image behind all items, and in a value
+  pub step-plan : (planStep [] [] (rowCursor 0 1 0) ≡ refuse 14 1)
+      × (planStep (planned 24) [] (rowCursor 0 0 0) ≡ refuse 9 0)
+      × (planStep (planned 24) (0 ∷ []) (rowCursor 0 1 2) ≡ refuse 9 1)
+      × (planStep (planned 0) (0 ∷ []) (rowCursor 0 0 1) ≡ refuse 11 7)
+      × (planStep (planned 24) (0 ∷ []) (rowCursor 0 0 1) ≡ refuse 9 7)
+      × (planStep (planned 24) (0 ∷ month13) (rowCursor 0 0 1) ≡ refused (outOf 7 2))
+  -- the same of runs: null bits of an image that would start past the images, and a value of the next image
+  pub read-run : (readRun [] [] (rowCursor 0 0 0) [] ≡ refuse 8 0)
+      × (readRun [] [] (rowCursor 0 1 0) (zeros 8) ≡ refuse 14 1)
+      × (readRun (planned 24) [] (rowCursor 1 0 0) (zeros 8) ≡ refuse 9 0)
+      × (readRun (planned 24) (0 ∷ []) (rowCursor 0 1 2) (zeros 8) ≡ refuse 9 1)
+      × (readRun (planned 0) (0 ∷ []) (rowCursor 0 0 1) (zeros 8) ≡ refuse 11 7)
+      × (readRun (planned 24) (0 ∷ []) (rowCursor 0 1 0) (zeros 8) ≡ refuse 9 7)
+      × (readRun (planned 24) (0 ∷ month13) (rowCursor 0 0 1) (zeros 8) ≡ refused (outOf 7 2))
   -- ---- `rows_event`
   -- 16 for the code, the table id and the count
   pub read-rows : (readRows 23 [] 0 [] ≡ refuse 11 0)

@@ -6,6 +6,7 @@ use Rattle.promises.specs.Readings.{Readings}
 use Rattle.promises.specs.RowsEvents.{RowsEvents}
 use Rattle.promises.specs.FirstParts.{FirstParts}
 use Rattle.promises.specs.Records.{Records}
+use Rattle.promises.specs.RowPlans.{RowPlans}
 
 pub record Port : Type 2 where
   -- the user's three demands
@@ -21,3 +22,5 @@ pub record Port : Type 2 where
   pub first-parts : FirstParts
   -- request 6: more than 255 columns
   pub records : Records
+  -- request 11: faster wide rows
+  pub row-plans : RowPlans

@@ -25,6 +25,7 @@ use Rattle.value.specs.declared.classes.Dialect.{Dialect}
 use Rattle.value.specs.declared.datum.Value.{Value}
 use Rattle.value.specs.declared.shape.Shape.the-variants.{NotTaken}
 use Rattle.value.specs.Columns.{shapeOf}
+use Rattle.value.specs.Ops.{shapeFor}
 use Rattle.value.specs.Reading.{readValue, datumOf}
 use Rattle.value.specs.Storing.{writeValue, sizeOf}
 use Rattle.value_parts.specs.Parts.{valueOf}
@@ -45,6 +46,9 @@ use Rattle.image.specs.Split.{Slot, slotsAt, headOf, firstCursor, stepFrom}
 use Rattle.image.specs.Walk.{walkImage}
 use Rattle.image.specs.Rows.{isNull}
 use Rattle.image.specs.Puts.{startImage, putFrom}
+use Rattle.row_plan.specs.declared.row.RowCursor.{RowCursor}
+use Rattle.row_plan.specs.Plan.{makePlan, itemAt, planStep}
+use Rattle.row_plan.specs.Runs.{turned, readRun}
 use Rattle.rows_event.specs.declared.event.Rows.{Rows}
 use Rattle.rows_event.specs.declared.images.Images.{Images}
 use Rattle.rows_event.specs.Events.{readRows}
@@ -151,6 +155,18 @@ abbrev pub rowsLines : ℕ → List ℕ → List ℕ → List Line
 rowsLines code profile s =
     11 at 0 ∷ 16 at 0 ∷ 15 at 8 ∷ 16 wherever CountUnlike s (rowsLayout code) (countOf profile) ∷ laidOut s (rowsLayout code) 0
 
+-- of a step by a plan, which no record stands behind: 14 at the cursor's item; 9 at 0 in the null bits, and at that item for an offset past
+-- the image; 11 for a byte that is no op, 9 and 10 of the value, at the column that the item names
+abbrev pub planLines : List ℕ → RowCursor → List Line
+planLines plan c =
+    14 at c .item
+    ∷ 9 at 0
+    ∷ 9 at c .item
+    ∷ 11 at itemAt plan (c .item) .column
+    ∷ 9 at itemAt plan (c .item) .column
+    ∷ part-at (itemAt plan (c .item) .column)
+    ∷ []
+
 -- ---- demand 1
 pub record EveryCall : Type 1 where
   -- ---- `wire`. `read_le`, `read_be`, `wide`, `top_of`, `signed_of`, `in_halves`, `twos_of`, `packed_size`, `bytes_for`, `bit_lsb0`,
@@ -166,16 +182,19 @@ pub record EveryCall : Type 1 where
   -- offset on
   pub write-bytes : (buf : List ℕ) (o : ℕ) (bytes : List ℕ) → Only (store bytes buf o) (8 at 0 ∷ [])
   -- ---- `temporal`. The place is the one that the caller names. `temporal_size` and `in_domain` refuse nothing
-  -- `read_temporal`, `write_temporal`
+  -- `read_temporal`, and `read_newdate`, `read_timestamp2`, `read_datetime2` and `read_time2`, each for one storage; `write_temporal`
   pub read-temporal : (k : Storage) (place : ℕ) (s : List ℕ) (o : ℕ) → Only (readTemporal k place s o) (9 at place ∷ part-at place ∷ [])
   pub write-temporal : (k : Storage) (place : ℕ) (buf : List ℕ) (o : ℕ) (t : Temporal)
       → Only (writeTemporal k place t buf o) (13 at place ∷ 8 at 0 ∷ [])
   -- ---- `value`. The place is the one that the caller names, and 0 for a lone value. `is_accepted`, `family_of`, `is_known`,
   -- `declared_length`, `metadata_bytes`, `real_type`, `is_numeric`, `has_sign_bit`,
-  -- `is_character`, `has_charset` and `is_enum_or_set` refuse nothing
+  -- `is_character`, `has_charset`, `is_enum_or_set` and `op_of` refuse nothing
   -- `read_value`, `read_lone`
   pub read-value : (c : Column) (place : ℕ) (s : List ℕ) (o : ℕ)
       → Only (readValue (shapeOf c) place s o) (4 at place ∷ 5 at place ∷ 9 at place ∷ part-at place ∷ [])
+  -- `read_op`: 11 for a byte that is no op
+  pub read-op : (op place : ℕ) (s : List ℕ) (o : ℕ)
+      → Only (readValue (shapeFor op) place s o) (11 at place ∷ 9 at place ∷ part-at place ∷ [])
   -- `write_value`, `write_lone`
   pub write-value : (c : Column) (place : ℕ) (lent : List ℕ) (v : Value) (buf : List ℕ) (o : ℕ)
       → Only (writeValue (shapeOf c) place lent v buf o) (4 at place ∷ 5 at place ∷ 13 at place ∷ 8 at 0 ∷ [])
@@ -258,6 +277,14 @@ pub record EveryCall : Type 1 where
       → c .column ≤ countOf profile
       → slotsAt profile presence nulls (c .column) ≡ i ∷ is
       → (isNull (datumOf lent v) ≡ i .null → ⊥) → putFrom profile presence nulls c lent v buf ≡ refuse 13 (i .present .column)
+  -- ---- `row_plan`
+  -- `make_plan`
+  pub make-plan : (profile presence buf : List ℕ) → Only (makePlan profile presence buf) (11 at 0 ∷ 12 at 0 ∷ 8 at 0 ∷ [])
+  -- `RowCursor::step`
+  pub step-plan : (plan images : List ℕ) (c : RowCursor) → Only (planStep plan images c) (planLines plan c)
+  -- `RowCursor::read`: 8 without room for a value; else those of its first step, from the next image on behind the last item of one
+  pub read-run : (plan images : List ℕ) (c : RowCursor) (buf : List ℕ)
+      → Only (readRun plan images c buf) (8 at 0 ∷ planLines plan (turned plan images c))
   -- ---- `rows_event`
   -- `read_rows`
   pub read-rows : (code : ℕ) (profile : List ℕ) (id : ℕ) (s : List ℕ) → Only (readRows code profile id s) (rowsLines code profile s)

@@ -17,6 +17,8 @@ use Rattle.map_check.specs.Names.{nameTold, namesTold}
 use Rattle.image.specs.Split.{stepTold, firstTold, headTold}
 use Rattle.image.specs.Walk.{endTold}
 use Rattle.image.specs.Puts.{putTold}
+use Rattle.row_plan.specs.Plan.{plannedTold, rowStepTold}
+use Rattle.row_plan.specs.Runs.{ranTold}
 use Rattle.rows_event.specs.Events.{rowsTold}
 use Rattle.rows_event.specs.Images.{imageTold}
 
@@ -31,9 +33,9 @@ pub record Results : Type 0 where
   pub packed : Apart packedTold
   -- every writer of bytes, among them `write_event` and `check`
   pub written : Apart writtenTold
-  -- `read_temporal`
+  -- `read_temporal`, `read_newdate`, `read_timestamp2`, `read_datetime2`, `read_time2`
   pub temporal : Apart temporalTold
-  -- `read_value`, `read_lone`
+  -- `read_value`, `read_lone`, `read_op`
   pub value : Apart readTold
   -- `value_size`, `lone_size`, `event_size`
   pub size : Apart sizeTold
@@ -63,6 +65,10 @@ pub record Results : Type 0 where
   pub step : Apart stepTold
   pub end : Apart endTold
   pub put : Apart putTold
+  -- `make_plan`, `RowCursor::step`, `RowCursor::read`
+  pub planned : Apart plannedTold
+  pub row-step : Apart rowStepTold
+  pub run : Apart ranTold
   -- `read_rows`, `Images::next`
   pub rows : Apart rowsTold
   pub image : Apart imageTold

@@ -1,4 +1,5 @@
 // The stored temporals, read and written. Ports mysql_common 0.38.2: binlog/misc.rs, and the arms of binlog/value.rs for old temporals.
+mod direct;
 mod domain;
 mod fraction;
 mod judge;
@@ -9,6 +10,10 @@ mod sort;
 mod storage;
 mod write;
 
+pub use direct::read_datetime2;
+pub use direct::read_newdate;
+pub use direct::read_time2;
+pub use direct::read_timestamp2;
 pub use domain::in_domain;
 pub use parts::Date;
 pub use parts::Datetime;

@@ -1,6 +1,7 @@
 -- The definitions of the crate: what people must believe. `Types`: the one table of column types. `Columns`: how the values of a column are
 -- stored. `Classes`: the classes by which a map counts columns. `Data`: values, on paper. `Domains`: which values a column can hold.
--- `Shapes`: their stored bytes. `Reading`, `Storing`: values read and written. `Inner`: what the crate's own functions go by, which nobody
+-- `Shapes`: their stored bytes. `Reading`, `Storing`: values read and written. `Ops`: a shape as one byte. `Inner`: what the crate's own
+-- functions go by, which nobody
 -- need believe.
 pub mod Types
 pub mod Columns
@@ -10,4 +11,5 @@ pub mod Domains
 pub mod Shapes
 pub mod Reading
 pub mod Storing
+pub mod Ops
 pub mod Inner

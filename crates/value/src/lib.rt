@@ -3,6 +3,7 @@
 mod classes;
 mod column;
 mod datum;
+mod op;
 mod reading;
 mod shape;
 mod storing;
@@ -18,6 +19,8 @@ pub use column::declared_length;
 pub use column::is_accepted;
 pub use column::shape_of;
 pub use datum::Value;
+pub use op::op_of;
+pub use op::read_op;
 pub use reading::Read;
 use reading::read_shape;
 pub use shape::Shape;

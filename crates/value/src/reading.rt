@@ -53,7 +53,7 @@ pub(crate) fn read_shape(shape: Shape, s: &[u8], at: usize, place: usize) -> Rea
     }
 }
 
-fn read_unsigned(k: usize, s: &[u8], at: usize, place: usize) -> Read
+pub(crate) fn read_unsigned(k: usize, s: &[u8], at: usize, place: usize) -> Read
     requires { ⌜ k ≤ 8 ⌝ }
     ensures { λ r. ⌜ readTold r ≡ readValue (Shape.Unsigned k) place (now (s .entry)) at ⌝ }
 {
@@ -65,7 +65,7 @@ fn read_unsigned(k: usize, s: &[u8], at: usize, place: usize) -> Read
     Read::Got { value, next }
 }
 
-fn read_signed(k: usize, s: &[u8], at: usize, place: usize) -> Read
+pub(crate) fn read_signed(k: usize, s: &[u8], at: usize, place: usize) -> Read
     requires { ⌜ (0 < k) × (k ≤ 8) ⌝ }
     ensures { λ r. ⌜ readTold r ≡ readValue (Shape.Signed k) place (now (s .entry)) at ⌝ }
 {
@@ -78,7 +78,7 @@ fn read_signed(k: usize, s: &[u8], at: usize, place: usize) -> Read
     Read::Got { value, next }
 }
 
-fn read_float(s: &[u8], at: usize, place: usize) -> Read
+pub(crate) fn read_float(s: &[u8], at: usize, place: usize) -> Read
     ensures { λ r. ⌜ readTold r ≡ readValue Shape.FloatBits place (now (s .entry)) at ⌝ }
 {
     if rest(s, at) < 4 {
@@ -90,7 +90,7 @@ fn read_float(s: &[u8], at: usize, place: usize) -> Read
     Read::Got { value, next }
 }
 
-fn read_double(s: &[u8], at: usize, place: usize) -> Read
+pub(crate) fn read_double(s: &[u8], at: usize, place: usize) -> Read
     ensures { λ r. ⌜ readTold r ≡ readValue Shape.DoubleBits place (now (s .entry)) at ⌝ }
 {
     if rest(s, at) < 8 {
@@ -101,7 +101,7 @@ fn read_double(s: &[u8], at: usize, place: usize) -> Read
     Read::Got { value, next }
 }
 
-fn read_year(s: &[u8], at: usize, place: usize) -> Read
+pub(crate) fn read_year(s: &[u8], at: usize, place: usize) -> Read
     ensures { λ r. ⌜ readTold r ≡ readValue Shape.YearByte place (now (s .entry)) at ⌝ }
 {
     if rest(s, at) < 1 {
@@ -114,7 +114,7 @@ fn read_year(s: &[u8], at: usize, place: usize) -> Read
     Read::Got { value, next }
 }
 
-fn read_timed(storage: Storage, s: &[u8], at: usize, place: usize) -> Read
+pub(crate) fn read_timed(storage: Storage, s: &[u8], at: usize, place: usize) -> Read
     ensures { λ r. ⌜ readTold r ≡ readValue (Shape.Timed storage) place (now (s .entry)) at ⌝ }
 {
     match temporal::read_temporal(storage, s, at, place) {
@@ -137,7 +137,7 @@ fn read_fixed(n: usize, s: &[u8], at: usize, place: usize) -> Read
     Read::Got { value, next }
 }
 
-fn read_counted(k: usize, s: &[u8], at: usize, place: usize) -> Read
+pub(crate) fn read_counted(k: usize, s: &[u8], at: usize, place: usize) -> Read
     requires { ⌜ k ≤ 4 ⌝ }
     ensures { λ r. ⌜ readTold r ≡ readValue (Shape.Counted k) place (now (s .entry)) at ⌝ }
 {

@@ -1,14 +1,14 @@
 -- Numbers and bytes, both ways, over every width. What is said of the least significant byte first is said of the most significant first by
 -- the reversed list. Assumes nothing.
-use Prim.Native.Nat.{ℕ, zero, suc, _+_, _*_, _/_, _%_, _^_, _<_}
+use Prim.Native.Nat.{ℕ, zero, suc, _+_, _*_, _/_, _%_, _^_, _≤_, _<_}
 use mathlib.Core.Path.{_≡_, refl, sym, ap, _∙_, subst}
 use mathlib.Core.Bool.{true}
 use mathlib.Core.List.{List, [], _∷_, _++_, reverse, reverse-cons, reverse-append, reverse-reverse}
 use native.Mathlib.Nat.{pow-suc, div-lt-iff-lt-mul, zero-lt-suc}
 use native.Mathlib.Omega.{arith}
 use borrow.Author.Tests.{lt-ltb, ltb-true}
-use lib.ListN.{length, take, drop, length-reverse}
-use lib.Seq.{getD-drop}
+use lib.ListN.{length, take, drop, getD, length-drop, length-reverse}
+use lib.Seq.{getD-drop, drop-cons, drop-drop, take-add, length-take-le}
 use lib.Dec.{ltb}
 use Rattle.wire.specs.Number.{Bytes, areBytes, leValue, leBytes, beValue, beBytes}
 use Rattle.wire.proofs.Outcomes.{both-true}
@@ -124,3 +124,26 @@ be-join x y =
     let p = le-join (reverse y) (reverse x) in
     let e = length-reverse y in
     ap leValue (reverse-append x y) ∙ p ∙ rw e (omega arith)
+
+-- ---- the number of the bytes at a place, in two runs
+pub le-runs : (s : List ℕ) (at j i : ℕ) → at + j ≤ length s
+    → leValue (take (j + i) (drop at s)) ≡ leValue (take j (drop at s)) + 256 ^ j * leValue (take i (drop (at + j) s))
+le-runs s at j i h =
+    let n : length (take j (drop at s)) ≡ j = length-take-le j (drop at s) (rw length-drop (omega arith)) in
+    rw (take-add j i (drop at s), le-join, n, drop-drop j at s)
+
+-- the most significant first
+pub be-runs : (s : List ℕ) (at j i : ℕ) → at + j + i ≤ length s
+    → beValue (take (j + i) (drop at s)) ≡ beValue (take j (drop at s)) * 256 ^ i + beValue (take i (drop (at + j) s))
+be-runs s at j i h =
+    let n : length (take i (drop (at + j) s)) ≡ i = length-take-le i (drop (at + j) s) (rw length-drop (omega arith)) in
+    rw (take-add j i (drop at s), be-join, drop-drop j at s, n)
+
+-- a run of one byte
+pub le-one : (s : List ℕ) (at : ℕ) → at < length s → leValue (take 1 (drop at s)) ≡ getD s at 0
+unfolding leValue
+le-one s at h = rw (drop-cons s at 0 h) (omega arith)
+
+pub be-one : (s : List ℕ) (at : ℕ) → at < length s → beValue (take 1 (drop at s)) ≡ getD s at 0
+unfolding beValue leValue
+be-one s at h = rw (drop-cons s at 0 h) (omega arith)

@@ -4,6 +4,18 @@ use crate::refusal::NO_ROOM;
 use crate::refusal::refuse;
 use crate::store::Written;
 use crate::store::has_room;
+use crate::straight::be2;
+use crate::straight::be3;
+use crate::straight::be4;
+use crate::straight::be5;
+use crate::straight::be6;
+use crate::straight::be7;
+use crate::straight::be8;
+use crate::straight::byte;
+use crate::straight::le2;
+use crate::straight::le3;
+use crate::straight::le4;
+use crate::straight::le8;
 ghost use mathlib.Core.Path.{_≡_};
 ghost use Prim.Native.Nat.{_+_, _-_, _≤_, _<_, _^_, min};
 ghost use lib.ListN.{length, take, drop};
@@ -33,19 +45,43 @@ fn there(s: &[u8], at: usize, k: usize) -> usize
     least(least(k, 8), s.len() - at)
 }
 
-// The number of the k bytes from at, the least significant first: of those that are there.
+// The number of the k bytes from at, the least significant first: of those that are there. The usual widths are read without a loop: where
+// k is a constant, nothing else is left of this.
 pub fn read_le(s: &[u8], at: usize, k: usize) -> u64
     ensures { λ r. ⌜ r ≡ leValue (take (min k 8) (drop at (now (s .entry)))) ⌝ }
     ensures { λ r. ⌜ r < 256 ^ min k 8 ⌝ }
 {
+    if has_room(s.len(), at, k) {
+        match k {
+            1 => return byte(s, at),
+            2 => return le2(s, at),
+            3 => return le3(s, at),
+            4 => return le4(s, at),
+            8 => return le8(s, at),
+            _ => {}
+        }
+    }
     le(s, at, there(s, at, k))
 }
 
-// The number of the k bytes from at, the most significant first: of those that are there.
+// The number of the k bytes from at, the most significant first: of those that are there, and in the same way.
 pub fn read_be(s: &[u8], at: usize, k: usize) -> u64
     ensures { λ r. ⌜ r ≡ beValue (take (min k 8) (drop at (now (s .entry)))) ⌝ }
     ensures { λ r. ⌜ r < 256 ^ min k 8 ⌝ }
 {
+    if has_room(s.len(), at, k) {
+        match k {
+            1 => return byte(s, at),
+            2 => return be2(s, at),
+            3 => return be3(s, at),
+            4 => return be4(s, at),
+            5 => return be5(s, at),
+            6 => return be6(s, at),
+            7 => return be7(s, at),
+            8 => return be8(s, at),
+            _ => {}
+        }
+    }
     be(s, at, there(s, at, k))
 }
 

@@ -7,6 +7,7 @@ mod part;
 pub mod refusal;
 mod signed;
 mod store;
+mod straight;
 
 pub use bits::bit_lsb0;
 pub use bits::bit_msb0;

@@ -33,7 +33,8 @@ use Rattle.image.proofs.StepLaws.Steps.{step-goes}
 use Rattle.image.proofs.CursorLaws.Ways.{walk-on}
 
 -- ---- a value that was read ends within the image
-value-within : (sh : Shape) (j : ℕ) (im : List ℕ) (o : ℕ) (x : Value × ℕ) → o ≤ length im → readValue sh j im o ≡ ok x → x .1 ≤ length im
+pub value-within : (sh : Shape) (j : ℕ) (im : List ℕ) (o : ℕ) (x : Value × ℕ) → o ≤ length im → readValue sh j im o ≡ ok x
+    → x .1 ≤ length im
 unfolding readValue
 value-within sh j im o x l e =
     let a = after-is-ok (readDatum sh j (drop o im)) _ x e in

@@ -1,6 +1,6 @@
 -- Demand 1 for the calls of `feed_abi`: each refuses as the call of the library that it stands over, or before it; and what a caller is
 -- left with. Assumes nothing.
-use Prim.Native.Nat.{ℕ, zero, suc, _+_, _-_, _/_, _≤_}
+use Prim.Native.Nat.{ℕ, suc, _+_, _-_, _/_, _≤_}
 use mathlib.Core.Path.{_≡_, refl, sym, ap, subst, _∙_}
 use mathlib.Core.Bool.{Bool, true, false, true≢false, cond}
 use mathlib.Core.List.{List, [], _∷_}
@@ -17,7 +17,7 @@ use Rattle.wire.proofs.Stores.{stored-part}
 use Rattle.wire.proofs.Outcomes.{after-is-ok, test-is-ok, by-test, ok-not-refused, same-ok}
 use Rattle.value.specs.declared.classes.Dialect.{Dialect}
 use Rattle.value.specs.declared.datum.Value.the-variants.{Null}
-use Rattle.value_parts.specs.Parts.{sortOf, partsOf, padded, valueOf}
+use Rattle.value_parts.specs.Parts.{sortOf, partsOf, valueOf}
 use Rattle.wire.specs.Parts.{part}
 use Rattle.table_map.specs.Events.{readEvent}
 use Rattle.record.specs.Records.{entryAt, readRecord}
@@ -27,12 +27,15 @@ use Rattle.map_check.specs.Check.{check}
 use Rattle.image.specs.declared.cursor.Cursor.{Cursor}
 use Rattle.image.specs.Split.{ColumnStepped, null, value, end, cursor, firstCursor, stepFrom}
 use Rattle.image.specs.Puts.{startImage, putFrom}
+use Rattle.row_plan.specs.Plan.{rowCursor, makePlan}
+use Rattle.row_plan.specs.Runs.{readRun}
 use Rattle.rows_event.specs.Events.{readRows}
 use Rattle.rows_event.specs.Images.{ImageStepped as Told₁, imageMet, end as end₁, nextImage}
 use Rattle.feed_abi.specs.Answers.{answerNumber, answerNumbers, statusOf, numbersLeft, bytesLeft}
 use Rattle.feed_abi.specs.Calls.{said, saidWith, recordNumbers, partNumbers, mapNumbers, namesGiven, givenNumbers, cursorNumbers}
 use Rattle.feed_abi.specs.Calls.{stepNumbers, toldNumbers, rowsNumbers, imageNumbers, dialectOf, secondAsked, setsAsked, imagesAt, feedMap}
 use Rattle.feed_abi.specs.Calls.{feedCheck, feedColumn, feedNames, feedName, feedFirst, feedStep, feedStart, feedPut, feedRows, feedImage}
+use Rattle.feed_abi.specs.Calls.{planNumbers, runNumbers, feedPlan, feedRun}
 use Rattle.feed_abi.proofs.Tells.{names-asked}
 use Rattle.feed_abi.proofs.Backs.{told-back, null-back}
 use Rattle.promises.specs.Refusals.{Line, OneOf, just, later, refusalNumbers, inTable, Only, checkLines, namesLines}
@@ -43,7 +46,7 @@ use Rattle.promises.proofs.Demand2.Values.{value-made}
 use Rattle.promises.proofs.Demand1.Rows.{record-read}
 use Rattle.promises.proofs.Demand3.Checks.{checks}
 use Rattle.promises.proofs.Demand3.Images.{step-held}
-use Rattle.promises.proofs.Demand1.Buffers.{stores}
+use Rattle.promises.proofs.Demand1.Buffers.{stores, padded-length}
 use Rattle.promises.proofs.Demand1.Refusals.{only, second, refusals}
 
 -- ---- answers in numbers refuse as the rule does
@@ -151,12 +154,6 @@ column-counts r j ns e =
     let x = after-is-ok (readRecord r) _ ns e in
     ap length (sym (test-is-ok (ltb j (x .0)) _ _ ns (x .2) .1))
 
-padded-length : (k : ℕ) (ps : List ℕ) → length (padded k ps) ≡ k
-unfolding padded
-padded-length zero ps = refl
-padded-length (suc k) [] = ap suc (padded-length k [])
-padded-length (suc k) (p ∷ ps) = ap suc (padded-length k ps)
-
 step-counts : (sort column : ℕ) (next : Cursor) (ps : List ℕ) → length (stepNumbers sort column next ps) ≡ 11
 step-counts sort column next ps = ap (λ (n : ℕ). suc (suc (suc (suc n)))) (padded-length 7 ps)
 
@@ -190,8 +187,8 @@ columns-told : (n : ℕ) → (entryAt n - 6) / 6 ≡ n
 columns-told n = omega arith
 
 pub abi : AbiCalls
-unfolding feedMap feedCheck feedNames feedName feedFirst feedStep feedStart feedPut feedRows feedImage statusOf numbersLeft bytesLeft
-    inTable isAmong
+unfolding feedMap feedCheck feedNames feedName feedFirst feedStep feedStart feedPut feedRows feedImage feedPlan feedRun statusOf
+    numbersLeft bytesLeft inTable isAmong
 abi = record {
   feed-map = λ event postHeader. only refl (in-numbers mapNumbers (readEvent event postHeader) (refusals .read-event event postHeader));
   feed-check = λ event postHeader dialect buf d e.
@@ -226,6 +223,10 @@ abi = record {
   feed-image = λ r s firstStart firstLength hasSecond secondStart secondLength offset second.
       let w = setsAsked (part firstStart firstLength) (secondAsked hasSecond secondStart secondLength) in
       only refl (in-numbers imageNumbers (nextImage r w s (imagesAt offset second)) (refusals .next-image r w s (imagesAt offset second)));
+  feed-plan = λ r p plan. only refl (answered _ (left-too planNumbers (makePlan r p plan) (refusals .make-plan r p plan)));
+  feed-run = λ plan images start item offset values.
+      let c = rowCursor start item offset in
+      only refl (answered _ (left-too runNumbers (readRun plan images c values) (refusals .read-run plan images c values)));
   check-told = λ event postHeader dialect buf d es q e l.
       rw (q, checks .accepted-written d event postHeader buf es e l)
       (ap (λ (n : ℕ). ok (entryAt (length es) ∷ n ∷ [])) (columns-told (length es)));
@@ -258,6 +259,9 @@ abi = record {
       said-counts 6 imageNumbers
       (nextImage r (setsAsked (part firstStart firstLength) (secondAsked hasSecond secondStart secondLength)) s (imagesAt offset second))
       image-counts;
+  plan-two = λ r p plan. left-counts 2 planNumbers (makePlan r p plan) (λ x. refl);
+  run-four = λ plan images start item offset values.
+      left-counts 4 runNumbers (readRun plan images (rowCursor start item offset) values) (λ x. refl);
   numbers-touched = told-alone;
   value-back = told-back;
   null-back = null-back;

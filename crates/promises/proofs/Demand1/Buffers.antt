@@ -1,13 +1,14 @@
--- Every writer's success is one store, so it touches only the bytes reported. Assumes nothing.
-use Prim.Native.Nat.{ℕ, _+_, _≤_}
-use mathlib.Core.Path.{_≡_, sym, ap, subst, _∙_}
+-- Every writer's success is one store, and that of a run one for each value, so it touches only what is reported. Assumes nothing.
+use Prim.Native.Nat.{ℕ, zero, suc, _+_, _-_, _*_, _/_, _≤_}
+use mathlib.Core.Path.{_≡_, refl, sym, ap, subst, _∙_}
+use mathlib.Core.Bool.{Bool, true, false, cond}
 use mathlib.Core.List.{List, [], _∷_}
 use native.Mathlib.Omega.{arith}
-use borrow.Author.Tests.{leb-true}
+use borrow.Author.Tests.{leb-true, eqb-true}
 use lib.ListN.{length, drop, getD}
 use lib.Seq.{drop-drop, drop-append-seam}
-use lib.Dec.{leb, ltb}
-use Rattle.wire.specs.Outcome.{Outcome, ok, why}
+use lib.Dec.{leb, ltb, eqb}
+use Rattle.wire.specs.Outcome.{Outcome, ok, refused, why}
 use Rattle.wire.specs.Stored.{stored, store}
 use Rattle.wire.proofs.Outcomes.{after-is-ok, test-is-ok, by-test, ok-not-refused, same-ok}
 use Rattle.wire.proofs.Stores.{length-stored, stored-front, stored-from}
@@ -18,19 +19,25 @@ use Rattle.temporal.specs.Reading.{temporalBytes, writeTemporal}
 use Rattle.value.specs.declared.column.Column.{Column}
 use Rattle.value.specs.declared.classes.Dialect.{Dialect}
 use Rattle.value.specs.declared.datum.Value.{Value}
+use Rattle.value.specs.declared.datum.Value.the-variants.{Null}
 use Rattle.value.specs.Columns.{shapeOf}
 use Rattle.value.specs.Storing.{storedBytes, writeValue}
-use Rattle.value_parts.specs.Parts.{valueOf}
+use Rattle.value_parts.specs.Parts.{partsOf, padded, valueOf}
 use Rattle.table_map.specs.Writes.{EventParts, isEvent, eventBytes, writeEvent}
 use Rattle.record.specs.Records.{recordBytes}
 use Rattle.map_check.specs.Check.{checkMap, check}
 use Rattle.image.specs.declared.cursor.Cursor.{Cursor}
-use Rattle.image.specs.Split.{Slot, cursor, slotsAt}
+use Rattle.image.specs.Split.{Slot, cursor, slotsAt, headOf}
 use Rattle.image.specs.Puts.{filled, headNulls, startImage, slotBytes, putOver, putFrom}
 use Rattle.image.proofs.PutLaws.Fills.{fill-length}
 use Rattle.image.proofs.CursorLaws.Heads.{nulls-tested}
 use Rattle.image.proofs.PutLaws.Puts.{nulls-size}
+use Rattle.row_plan.specs.declared.row.RowCursor.{RowCursor}
+use Rattle.row_plan.specs.Plan.{planOf, makePlan, rowCursor, RowStepped, null, value, end, planStep}
+use Rattle.row_plan.specs.Runs.{movedBy, valueNumbers, turned, isOver, RowRan, ran, runOn, runFrom, runAnswer, readRun}
+use Rattle.row_plan.proofs.ReadLaws.{run-kept}
 use Rattle.feed_abi.specs.Calls.{saidWith, recordNumbers, cursorNumbers, dialectOf, feedCheck, feedStart, feedPut}
+use Rattle.feed_abi.specs.Calls.{planNumbers, runNumbers, feedPlan, feedRun}
 use Rattle.promises.specs.Buffers.{Touched, Buffers}
 
 -- a store that went well: where it ended
@@ -40,6 +47,13 @@ store-ends buf o bytes n left e =
     let t = test-is-ok (leb (o + length bytes) (length buf)) (o + length bytes, stored bytes buf o) (why 8 0) (n, left) e in
     ap (λ (x : ℕ × List ℕ). x .0) (sym (t .1))
 
+-- what stands behind stored bytes is as it was
+behind-stored : (buf : List ℕ) (o : ℕ) (bytes : List ℕ) → o + length bytes ≤ length buf
+    → drop (o + length bytes) (stored bytes buf o) ≡ drop (o + length bytes) buf
+behind-stored buf o bytes h =
+    sym (drop-drop (length bytes) o (stored bytes buf o)) ∙ ap (drop (length bytes)) (stored-from buf o bytes (omega arith))
+    ∙ drop-append-seam bytes (drop (o + length bytes) buf)
+
 -- and what it touched
 pub stores : (buf : List ℕ) (o : ℕ) (bytes : List ℕ) (n : ℕ) (left : List ℕ) → store bytes buf o ≡ ok (n, left) → Touched buf o n left
 unfolding store
@@ -47,11 +61,8 @@ stores buf o bytes n left e =
     let t = test-is-ok (leb (o + length bytes) (length buf)) (o + length bytes, stored bytes buf o) (why 8 0) (n, left) e in
     let h = leb-true (o + length bytes) (length buf) (t .0) in
     let l : o ≤ length buf = omega arith in
-    let d : drop (o + length bytes) (stored bytes buf o) ≡ drop (o + length bytes) buf =
-    sym (drop-drop (length bytes) o (stored bytes buf o)) ∙ ap (drop (length bytes)) (stored-from buf o bytes l)
-    ∙ drop-append-seam bytes (drop (o + length bytes) buf) in
     subst (λ (x : ℕ × List ℕ). Touched buf o (x .0) (x .1)) (t .1)
-    (record { size = length-stored buf o bytes h; before = stored-front buf o bytes l; behind = d })
+    (record { size = length-stored buf o bytes h; before = stored-front buf o bytes l; behind = behind-stored buf o bytes h })
 
 temporals : (k : Storage) (place : ℕ) (buf : List ℕ) (o : ℕ) (t : Temporal) (n : ℕ) (left : List ℕ)
     → writeTemporal k place t buf o ≡ ok (n, left) → Touched buf o n left
@@ -122,6 +133,111 @@ puts r p nulls c lent v buf next left e =
     by-test (ltb (a .0 .columns) (c .column)) _ _ _ (a .2) (λ u f. absurd (ok-not-refused (sym f)))
     (λ u f. put-over (slotsAt r p nulls (c .column)) c lent v buf next left f)
 
+-- ---- plans
+plans : (r p buf : List ℕ) (n items : ℕ) (left : List ℕ) → makePlan r p buf ≡ ok ((n, items), left) → Touched buf 0 n left
+unfolding makePlan
+plans r p buf n items left e =
+    let a = after-is-ok (headOf r p) _ ((n, items), left) e in
+    let b = after-is-ok (store (planOf r p) buf 0) _ ((n, items), left) (a .2) in
+    let x = b .0 in
+    let q = same-ok (b .2) in
+    let k : x .0 ≡ n = ap (λ (y : (ℕ × ℕ) × List ℕ). y .0 .0) q in
+    let j : x .1 ≡ left = ap (λ (y : (ℕ × ℕ) × List ℕ). y .1) q in
+    subst (λ (y : List ℕ). Touched buf 0 n y) j
+    (subst (λ (y : ℕ). Touched buf 0 y (x .1)) k (stores buf 0 (planOf r p) (x .0) (x .1) (b .1)))
+
+pub padded-length : (k : ℕ) (ps : List ℕ) → length (padded k ps) ≡ k
+unfolding padded
+padded-length zero ps = refl
+padded-length (suc k) [] = ap suc (padded-length k [])
+padded-length (suc k) (p ∷ ps) = ap suc (padded-length k ps)
+
+eight-numbers : (by : ℕ) (v : Value) → length (valueNumbers by v) ≡ 8
+unfolding valueNumbers
+eight-numbers by v = ap suc (padded-length 7 (partsOf (movedBy by v)))
+
+-- a run leaves the numbers behind those that it reports
+record Behind (d : List ℕ) (w : RowRan) : Type 0 where
+  size : length (w .left) ≡ length d
+  behind : drop (8 * w .values) (w .left) ≡ drop (8 * w .values) d
+
+nothing : (d : List ℕ) (v : ℕ) (c : RowCursor) (stop : Outcome (Unit {0})) → Behind d (ran v c stop d)
+nothing d v c stop = record { size = refl; behind = refl }
+
+-- v values and one more are stored, and then w of them
+one-more : (d ns : List ℕ) (v : ℕ) (w : RowRan) → length ns ≡ 8 → 8 * (v + 1) ≤ length d → v + 1 ≤ w .values
+    → Behind (stored ns d (8 * v)) w → Behind d w
+one-more d ns v w n h m k =
+    let f : 8 * v + length ns ≤ length d = omega (arith, n, h) in
+    let j = 8 * w .values - (8 * v + length ns) in
+    let e : 8 * v + length ns + j ≡ 8 * w .values = omega (arith, n, m) in
+    let drops : (s : List ℕ) → drop j (drop (8 * v + length ns) s) ≡ drop (8 * w .values) s =
+    λ s. drop-drop j (8 * v + length ns) s ∙ ap (λ (i : ℕ). drop i s) e in
+    record {
+      size = k .size ∙ length-stored d (8 * v) ns f;
+      behind = k .behind ∙ sym (drops (stored ns d (8 * v))) ∙ ap (drop j) (behind-stored d (8 * v) ns f) ∙ drops d;
+    }
+
+if-behind : (b : Bool) (d : List ℕ) (x y : RowRan) → Behind d x → Behind d y → Behind d (cond b x y)
+if-behind true d x y h k = h
+if-behind false d x y h k = k
+
+-- what goes on behind a value, whatever was told of it
+abbrev GoesOn : (RowCursor → ℕ → List ℕ → RowRan) → ℕ → ℕ → Type 0
+GoesOn f v size = (n : RowCursor) (d : List ℕ) → length d ≡ size → (v ≤ f n v d .values) × Behind d (f n v d)
+
+told-behind : (f : RowCursor → ℕ → List ℕ → RowRan) (v : ℕ) (d : List ℕ) → 8 * (v + 1) ≤ length d → GoesOn f (v + 1) (length d)
+    → (n : RowCursor) (by : ℕ) (x : Value) → Behind d (f n (v + 1) (stored (valueNumbers by x) d (8 * v)))
+told-behind f v d h k n by x =
+    let ns = valueNumbers by x in
+    let e = eight-numbers by x in
+    let l = length-stored d (8 * v) ns (omega (arith, e, h)) in
+    let g = k n (stored ns d (8 * v)) l in
+    one-more d ns v (f n (v + 1) (stored ns d (8 * v))) e h (g .0) (g .1)
+
+on-behind : (f : RowCursor → ℕ → List ℕ → RowRan) (c : RowCursor) (v : ℕ) (d : List ℕ) → 8 * (v + 1) ≤ length d
+    → GoesOn f (v + 1) (length d) → (x : Outcome RowStepped) → Behind d (runOn f c v d x)
+on-behind f c v d h k (ok (null j n)) = told-behind f v d h k n (c .start) Null
+on-behind f c v d h k (ok (value j x n)) = told-behind f v d h k n (c .start) x
+on-behind f c v d h k (ok (end used)) = nothing d v c (ok tt)
+on-behind f c v d h k (refused w) = nothing d v c (refused w)
+
+run-behind : (m : ℕ) (plan images : List ℕ) (c : RowCursor) (v : ℕ) (d : List ℕ) → 8 * (v + m) ≤ length d
+    → Behind d (runFrom m plan images c v d)
+unfolding runFrom
+run-behind zero plan images c v d h = nothing d v c (ok tt)
+run-behind (suc m) plan images c v d h =
+    let t = turned plan images c in
+    if-behind (isOver images t) d _ _ (nothing d v t (ok tt))
+    (on-behind (runFrom m plan images) t v d (omega (arith, h))
+    (λ n d₁ l. (run-kept m plan images n (v + 1) d₁ .more, run-behind m plan images n (v + 1) d₁ (omega (arith, l, h))))
+    (planStep plan images t))
+
+-- an answer is what the run comes to
+answer-is : (w : RowRan) (values : ℕ) (next : RowCursor) (left : List ℕ) → runAnswer w ≡ ok ((values, next), left)
+    → (w .values ≡ values) × (w .left ≡ left)
+answer-is w values next left e =
+    by-test (eqb (w .values) 0) _ _ _ e
+    (λ u f.
+    let x = same-ok (after-is-ok (w .stop) _ ((values, next), left) f .2) in
+    (eqb-true (w .values) 0 u ∙ ap (λ (y : (ℕ × RowCursor) × List ℕ). y .0 .0) x, ap (λ (y : (ℕ × RowCursor) × List ℕ). y .1) x))
+    (λ u f.
+    let x = same-ok f in
+    (ap (λ (y : (ℕ × RowCursor) × List ℕ). y .0 .0) x, ap (λ (y : (ℕ × RowCursor) × List ℕ). y .1) x))
+
+runs : (plan images : List ℕ) (c : RowCursor) (buf : List ℕ) (values : ℕ) (next : RowCursor) (left : List ℕ)
+    → readRun plan images c buf ≡ ok ((values, next), left)
+    → Touched buf 0 (8 * values) left
+unfolding readRun
+runs plan images c buf values next left e =
+    by-test (ltb (length buf) 8) _ _ _ e (λ u f. absurd (ok-not-refused (sym f)))
+    (λ u f.
+    let w = runFrom (length buf / 8) plan images c 0 buf in
+    let a = answer-is w values next left f in
+    let b = run-behind (length buf / 8) plan images c 0 buf (omega arith) in
+    subst (λ (y : List ℕ). Touched buf 0 (8 * values) y) (a .1)
+    (subst (λ (y : ℕ). Touched buf 0 (8 * y) (w .left)) (a .0) (record { size = b .size; before = refl; behind = b .behind })))
+
 -- ---- the calls of `feed_abi`: an answer in numbers is that of the rule, and the bytes left are the same
 in-numbers : {A : Type 0} (f : A → List ℕ) (o : Outcome (A × List ℕ)) (ns left : List ℕ) → saidWith f o ≡ ok (ns, left)
     → (a : A) × (o ≡ ok (a, left)) × (f a ≡ ns)
@@ -155,6 +271,21 @@ feed-puts r p nulls column offset sort parts lent im ns left e =
     let x = in-numbers cursorNumbers (putFrom r p nulls c lent (v .0) im) ns left (v .2) in
     subst (λ (y : List ℕ). Touched im offset (getD y 1 0) left) (x .2) (puts r p nulls c lent (v .0) im (x .0) left (x .1))
 
+feed-plans : (r p plan ns left : List ℕ) → feedPlan r p plan ≡ ok (ns, left) → Touched plan 0 (getD ns 0 0) left
+unfolding feedPlan
+feed-plans r p plan ns left e =
+    let x = in-numbers planNumbers (makePlan r p plan) ns left e in
+    subst (λ (y : List ℕ). Touched plan 0 (getD y 0 0) left) (x .2) (plans r p plan (x .0 .0) (x .0 .1) left (x .1))
+
+feed-runs : (plan images : List ℕ) (start item offset : ℕ) (values ns left : List ℕ)
+    → feedRun plan images start item offset values ≡ ok (ns, left)
+    → Touched values 0 (8 * getD ns 0 0) left
+unfolding feedRun
+feed-runs plan images start item offset values ns left e =
+    let c = rowCursor start item offset in
+    let x = in-numbers runNumbers (readRun plan images c values) ns left e in
+    subst (λ (y : List ℕ). Touched values 0 (8 * getD y 0 0) left) (x .2) (runs plan images c values (x .0 .0) (x .0 .1) left (x .1))
+
 pub buffers : Buffers
 buffers = record {
   write-bytes = stores;
@@ -164,7 +295,11 @@ buffers = record {
   check-map = maps;
   start-image = starts;
   put-value = puts;
+  make-plan = plans;
+  read-run = runs;
   feed-check = feed-checks;
   feed-start = feed-starts;
   feed-put = feed-puts;
+  feed-plan = feed-plans;
+  feed-run = feed-runs;
 }

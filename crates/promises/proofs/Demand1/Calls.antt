@@ -24,6 +24,10 @@ use Rattle.wire.proofs.write_bytes.Met.{met as of-write-bytes}
 use Rattle.temporal.proofs.in_domain.Met.{met as of-in-domain}
 use Rattle.temporal.proofs.temporal_size.Met.{met as of-temporal-size}
 use Rattle.temporal.proofs.read_temporal.Met.{met as of-read-temporal}
+use Rattle.temporal.proofs.read_newdate.Met.{met as of-read-newdate}
+use Rattle.temporal.proofs.read_timestamp2.Met.{met as of-read-timestamp2}
+use Rattle.temporal.proofs.read_datetime2.Met.{met as of-read-datetime2}
+use Rattle.temporal.proofs.read_time2.Met.{met as of-read-time2}
 use Rattle.temporal.proofs.write_temporal.Met.{met as of-write-temporal}
 use Rattle.value.proofs.has_charset.Met.{met as of-has-charset}
 use Rattle.value.proofs.has_sign_bit.Met.{met as of-has-sign-bit}
@@ -32,12 +36,14 @@ use Rattle.value.proofs.is_enum_or_set.Met.{met as of-is-enum-or-set}
 use Rattle.value.proofs.declared_length.Met.{met as of-declared-length}
 use Rattle.value.proofs.is_accepted.Met.{met as of-is-accepted}
 use Rattle.value.proofs.shape_of.Met.{met as of-shape-of}
+use Rattle.value.proofs.op_of.Met.{met as of-op-of}
 use Rattle.value.proofs.family_of.Met.{met as of-family-of}
 use Rattle.value.proofs.is_known.Met.{met as of-is-known}
 use Rattle.value.proofs.is_numeric.Met.{met as of-is-numeric}
 use Rattle.value.proofs.metadata_bytes.Met.{met as of-metadata-bytes}
 use Rattle.value.proofs.real_type.Met.{met as of-real-type}
 use Rattle.value.proofs.read_value.Met.{met as of-read-value}
+use Rattle.value.proofs.read_op.Met.{met as of-read-op}
 use Rattle.value.proofs.write_value.Met.{met as of-write-value}
 use Rattle.value.proofs.value_size.Met.{met as of-value-size}
 use Rattle.value.proofs.read_lone.Met.{met as of-read-lone}
@@ -84,6 +90,9 @@ use Rattle.image.proofs.first_set.Met.{met as of-first-set}
 use Rattle.image.proofs.start.Met.{met as of-start}
 use Rattle.image.proofs.cursor.Cursor.put.Met.{met as of-cursor-put}
 use Rattle.image.proofs.cursor.Cursor.step.Met.{met as of-cursor-step}
+use Rattle.row_plan.proofs.make_plan.Met.{met as of-make-plan}
+use Rattle.row_plan.proofs.row.RowCursor.step.Met.{met as of-row-cursor-step}
+use Rattle.row_plan.proofs.row.RowCursor.read.Met.{met as of-row-cursor-read}
 use Rattle.rows_event.proofs.read_rows.Met.{met as of-read-rows}
 use Rattle.rows_event.proofs.set_of.Met.{met as of-set-of}
 use Rattle.rows_event.proofs.images.Images.next.Met.{met as of-images-next}
@@ -98,6 +107,8 @@ use Rattle.feed_abi.proofs.feed_first.Met.{met as of-feed-first}
 use Rattle.feed_abi.proofs.feed_step.Met.{met as of-feed-step}
 use Rattle.feed_abi.proofs.feed_start.Met.{met as of-feed-start}
 use Rattle.feed_abi.proofs.feed_put.Met.{met as of-feed-put}
+use Rattle.feed_abi.proofs.feed_plan.Met.{met as of-feed-plan}
+use Rattle.feed_abi.proofs.feed_run.Met.{met as of-feed-run}
 use Rattle.promises.specs.Calls.{Calls}
 
 pub calls : Calls
@@ -127,6 +138,10 @@ calls = record {
   in-domain = λ M. of-in-domain {M = M};
   temporal-size = λ M. of-temporal-size {M = M};
   read-temporal = λ M. of-read-temporal {M = M};
+  read-newdate = λ M. of-read-newdate {M = M};
+  read-timestamp2 = λ M. of-read-timestamp2 {M = M};
+  read-datetime2 = λ M. of-read-datetime2 {M = M};
+  read-time2 = λ M. of-read-time2 {M = M};
   write-temporal = λ M. of-write-temporal {M = M};
   has-charset = λ M. of-has-charset {M = M};
   has-sign-bit = λ M. of-has-sign-bit {M = M};
@@ -135,12 +150,14 @@ calls = record {
   declared-length = λ M. of-declared-length {M = M};
   is-accepted = λ M. of-is-accepted {M = M};
   shape-of = λ M. of-shape-of {M = M};
+  op-of = λ M. of-op-of {M = M};
   family-of = λ M. of-family-of {M = M};
   is-known = λ M. of-is-known {M = M};
   is-numeric = λ M. of-is-numeric {M = M};
   metadata-bytes = λ M. of-metadata-bytes {M = M};
   real-type = λ M. of-real-type {M = M};
   read-value = λ M. of-read-value {M = M};
+  read-op = λ M. of-read-op {M = M};
   write-value = λ M. of-write-value {M = M};
   value-size = λ M. of-value-size {M = M};
   read-lone = λ M. of-read-lone {M = M};
@@ -187,6 +204,9 @@ calls = record {
   start = λ M. of-start {M = M};
   cursor-put = λ M. of-cursor-put {M = M};
   cursor-step = λ M. of-cursor-step {M = M};
+  make-plan = λ M. of-make-plan {M = M};
+  row-cursor-step = λ M. of-row-cursor-step {M = M};
+  row-cursor-read = λ M. of-row-cursor-read {M = M};
   read-rows = λ M. of-read-rows {M = M};
   set-of = λ M. of-set-of {M = M};
   images-next = λ M. of-images-next {M = M};
@@ -201,4 +221,6 @@ calls = record {
   feed-step = λ M. of-feed-step {M = M};
   feed-start = λ M. of-feed-start {M = M};
   feed-put = λ M. of-feed-put {M = M};
+  feed-plan = λ M. of-feed-plan {M = M};
+  feed-run = λ M. of-feed-run {M = M};
 }

@@ -11,6 +11,7 @@ use Rattle.wire.specs.Parts.{within}
 use Rattle.temporal.specs.Ranges.{clockFault, dayFault}
 use Rattle.temporal.specs.Reading.{readTemporal, writeTemporal}
 use Rattle.value.specs.Columns.{shapeOf}
+use Rattle.value.specs.Ops.{shapeFor}
 use Rattle.value.specs.Reading.{readValue}
 use Rattle.value.specs.Storing.{writeValue, sizeOf}
 use Rattle.value_parts.specs.Parts.{valueOf}
@@ -26,6 +27,8 @@ use Rattle.map_check.specs.Names.{columnName}
 use Rattle.image.specs.Split.{headOf, firstCursor, stepFrom}
 use Rattle.image.specs.Walk.{walkImage}
 use Rattle.image.specs.Puts.{startImage, putFrom}
+use Rattle.row_plan.specs.Plan.{makePlan, planStep}
+use Rattle.row_plan.specs.Runs.{readRun}
 use Rattle.rows_event.specs.Events.{readRows}
 use Rattle.rows_event.specs.Images.{nextImage}
 use Rattle.feed_abi.specs.Calls.{feedCheck, feedColumn, feedNames, feedPut}
@@ -38,9 +41,10 @@ no-memory meta h =
     size-over p refl (omega (arith, event-length p, h))
 
 pub occurs : Occurs
-unfolding zeros within readFixed readPacked packedForm longForm store clockFault dayFault readTemporal writeTemporal shapeOf readValue
-    writeValue sizeOf valueOf readEvent writeEvent eventSize step pairItem groupItem longPart cutField judgeField fieldStep readRecord check
-    columnName headOf firstCursor stepFrom walkImage startImage putFrom readRows nextImage feedCheck feedColumn feedNames feedPut
+unfolding zeros within readFixed readPacked packedForm longForm store clockFault dayFault readTemporal writeTemporal shapeOf shapeFor
+    readValue writeValue sizeOf valueOf readEvent writeEvent eventSize step pairItem groupItem longPart cutField judgeField fieldStep
+    readRecord check columnName headOf firstCursor stepFrom walkImage startImage putFrom makePlan planStep readRun readRows nextImage
+    feedCheck feedColumn feedNames feedPut
 occurs = record {
   within-bytes = refl;
   read-fixed = refl;
@@ -49,6 +53,7 @@ occurs = record {
   read-temporal = (refl, refl);
   write-temporal = (refl, refl);
   read-value = (refl, refl, refl, refl);
+  read-op = (refl, refl, refl);
   write-value = (refl, refl, refl, refl);
   value-size = (refl, refl, refl);
   shape-of = (refl, refl);
@@ -77,6 +82,9 @@ occurs = record {
   walk-end = (refl, refl, refl, refl, refl);
   start-image = (refl, refl, refl);
   put-value = (refl, refl, refl, refl, refl, refl);
+  make-plan = (refl, refl, refl);
+  step-plan = (refl, refl, refl, refl, refl, refl);
+  read-run = (refl, refl, refl, refl, refl, refl, refl);
   read-rows = (refl, refl, refl, refl, refl, refl, refl);
   next-image = (refl, refl, refl, refl, refl);
   feed-check = refl;

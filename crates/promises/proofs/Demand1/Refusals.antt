@@ -12,20 +12,23 @@ use Rattle.wire.specs.Stored.{answerOf, leftOf}
 use Rattle.wire.specs.Layouts.{no-byte, few-integer, Layout, here, count, CutShort, cut-at, NotPacked}
 use Rattle.wire.proofs.Outcomes.{ok-not-refused, same-refused, both-true}
 use Rattle.value.specs.Columns.{shapeOf}
+use Rattle.value.specs.Ops.{shapeFor}
 use Rattle.value.proofs.Tables.{four-or-five}
 use Rattle.table_map.specs.Lists.{integerItem, pairItem, stringItem, groupItem}
 use Rattle.table_map.specs.Layouts.{eventLayout, pairLayout, groupLayout}
 use Rattle.map_check.specs.Names.{listOf, columnName}
+use Rattle.row_plan.specs.Runs.{turned}
 use Rattle.promises.specs.Refusals.{Line, _at_, _below_, _wherever_, part-at, part-below, OneOf, just, under, such, just-part}
 use Rattle.promises.specs.Refusals.{under-part, later, refusalNumbers, withoutPart, Parted, no-part, a-part, inTable, Only, EveryCall}
 use Rattle.promises.proofs.Demand1.Only.{Listed, bytes-there, fixed, packed, long-part, Told, room}
 use Rattle.promises.proofs.Demand2.Values.{temporal-read, temporal-written, column-taken, value-read, value-written, value-sized}
-use Rattle.promises.proofs.Demand2.Values.{value-made}
+use Rattle.promises.proofs.Demand2.Values.{op-taken, value-made}
 use Rattle.promises.proofs.Demand1.Maps.{event-read, event-written, event-sized, pair-item, group-item, stepped, field-stepped}
 use Rattle.promises.proofs.Demand1.Maps.{field-cut, field-judged, checked, event-refused, map-refused, string-found, names-found}
 use Rattle.promises.proofs.RowsEvents.{rows-read, image-met}
 use Rattle.promises.proofs.Demand1.Rows.{record-read, head-read, first-read, image-stepped, walk-ended, image-started, image-put}
 use Rattle.promises.proofs.Demand1.Rows.{past-refused, null-refused}
+use Rattle.promises.proofs.Demand1.Plans.{plan-made, plan-stepped, run-read}
 
 -- a refusal that is listed names a part, or has one of the numbers that do not
 parted : (ls : List Line) (w : Refusal) → inTable ls ≡ true → OneOf ls w → Parted w
@@ -121,6 +124,8 @@ refusals = record {
   write-temporal = λ k place buf o t. only refl (temporal-written k place buf o t just (second just));
   read-value = λ c place s o. only refl (value-read (shapeOf c) place s o (column-taken c place just (second just)) (third just)
       (λ part l m. fourth (just-part l m)));
+  read-op = λ op place s o. only refl (value-read (shapeFor op) place s o (op-taken op place just) (second just)
+      (λ part l m. third (just-part l m)));
   write-value =
       λ c place lent v buf o. only refl
       (value-written (shapeOf c) place lent v buf o (column-taken c place just (second just)) (third just) (fourth just));
@@ -171,6 +176,14 @@ refusals = record {
       λ r p nulls c lent v buf. only refl
       (image-put r p nulls c lent v buf just (second just) (third just) (λ j h. fourth (under h)) (fifth just));
   null-told = null-refused;
+  make-plan = λ r p buf. only refl (plan-made r p buf just (second just) (third just));
+  step-plan = λ plan images c.
+      only refl (plan-stepped plan images c just (second just) (third just) (fourth just) (fifth just) (λ part l m. sixth (just-part l m)));
+  read-run = λ plan images c buf.
+      only refl
+      (run-read plan images c buf just
+      (plan-stepped plan images (turned plan images c) (second just) (third just) (fourth just) (fifth just) (sixth just)
+      (λ part l m. seventh (just-part l m))));
   read-rows = λ code r id s.
       only refl
       (rows-read code r id s just (second just) (third just) (λ p x. fourth (such x))

@@ -2,14 +2,14 @@
 -- none are listed. Assumes nothing.
 use Prim.Native.Nat.{ℕ, _+_, _-_, _≤_, _<_}
 use mathlib.Core.Path.{_≡_, refl, sym, ap, subst, _∙_}
-use mathlib.Core.Bool.{Bool, true, false, false≢true}
+use mathlib.Core.Bool.{Bool, true, false, cond, false≢true}
 use mathlib.Core.Logic.{dite, ⊎-elim}
 use mathlib.Core.List.{List, [], _++_}
 use native.Mathlib.Decide.{decLe}
 use native.Mathlib.Omega.{arith}
 use borrow.Author.Tests.{le-leb, leb-true}
 use lib.ListN.{length, take, drop, length-drop}
-use lib.Dec.{leb, eqb}
+use lib.Dec.{leb, ltb, eqb}
 use lib.Seq.{length-take-le, drop-append-seam}
 use Rattle.wire.specs.declared.refusal.Refusal.{Refusal}
 use Rattle.wire.specs.declared.part.Part.{Part}
@@ -31,10 +31,11 @@ use Rattle.value.specs.declared.datum.Value.the-variants.{Null, Int, Uint, Floa
 use Rattle.value.specs.declared.shape.Shape.{Shape}
 use Rattle.value.specs.declared.shape.Shape.the-variants.{Unsigned, Signed, FloatBits, DoubleBits, YearByte, Timed, Fixed, Counted}
 use Rattle.value.specs.declared.shape.Shape.the-variants.{NotTaken}
-use Rattle.value.specs.Columns.{shapeOf, isTaken}
+use Rattle.value.specs.Columns.{shapeOf, isTaken, refusalOf}
 use Rattle.value.specs.Data.{Datum, null, int, uint, float, double, year, temporal, bytes, tag, isBytes, bytesIn}
 use Rattle.value.specs.Domains.{domain}
 use Rattle.value.specs.Shapes.{bytesOf, need, decode, fault}
+use Rattle.value.specs.Ops.{shapeFor}
 use Rattle.value.specs.Reading.{taken, cut, judged, readDatum, readValue, placed, datumOf, Fails, short, range}
 use Rattle.value.specs.Storing.{bytesAt, isLent, isIn, storedBytes, sizeOf, writeValue}
 use Rattle.value.proofs.Facts.{fault-bytes, taken-domain, whole, need-take}
@@ -72,6 +73,33 @@ column-taken {ls} c place four five =
     test (isTaken (shapeOf c)) (λ u. done _)
     (λ u. stop (⊎-elim (λ e. subst (λ (m : ℕ). OneOf ls (why m place)) (sym e) four)
     (λ e. subst (λ (m : ℕ). OneOf ls (why m place)) (sym e) five) (refused-number c u)))
+
+-- of an op: 11, and of 0 alone
+abbrev OpTaken : List Line → ℕ → Shape → Type 1
+OpTaken ls place sh = Listed ls (taken sh place)
+
+either : (P : Shape → Type 1) (b : Bool) {x y : Shape} → P x → P y → P (cond b x y)
+either P true p q = p
+either P false p q = q
+
+pub op-taken : {ls : List Line} (op place : ℕ) → OneOf ls (why 11 place) → Listed ls (taken (shapeFor op) place)
+unfolding shapeFor taken isTaken refusalOf
+op-taken {ls} op place eleven =
+    let P : Shape → Type 1 = OpTaken ls place in
+    either P (ltb op 1) (stop eleven)
+    (either P (ltb op 10) (done _)
+    (either P (ltb op 18) (done _)
+    (either P (ltb op 19) (done _)
+    (either P (ltb op 20) (done _)
+    (either P (ltb op 21) (done _)
+    (either P (ltb op 22) (done _)
+    (either P (ltb op 23) (done _)
+    (either P (ltb op 24) (done _)
+    (either P (ltb op 25) (done _)
+    (either P (ltb op 32) (done _)
+    (either P (ltb op 39) (done _)
+    (either P (ltb op 46) (done _)
+    (either P (ltb op 51) (done _) (done _))))))))))))))
 
 -- and not of a column that there is
 pub there-taken : {ls : List Line} (sh : Shape) (place : ℕ) → isTaken sh ≡ true → Listed ls (taken sh place)

@@ -2,6 +2,7 @@
 use Prim.Native.Nat.{ℕ}
 use mathlib.Core.Bool.{cond}
 use lib.Dec.{eqb}
+use Rattle.wire.specs.Outcome.{Outcome, ok, refused, outOf}
 use Rattle.temporal.specs.declared.parts.Seconds.{Seconds}
 use Rattle.temporal.specs.declared.parts.Date.{Date}
 use Rattle.temporal.specs.declared.parts.Datetime.{Datetime}
@@ -36,3 +37,8 @@ rangedDate d = ranged (dateFault d) (Temporal.Date d)
 unfoldable pub rangedSeconds : Seconds → Ranged
 unfolding clockFault
 rangedSeconds t = ranged (secondsFault t) (Temporal.Seconds t)
+
+-- what a reader tells of it: the temporal and the place after it, or refusal 10
+abbrev pub rangedTold : Ranged → ℕ → ℕ → Outcome (Temporal × ℕ)
+rangedTold (In t) next place = ok (t, next)
+rangedTold (Out part) next place = refused (outOf place part)

@@ -1,0 +1,112 @@
+/*
+ * The sides that are written in C: all values of row images laid end to end, summed up. Each function takes a record, presence bits and
+ * images, and answers in out the sum of the kinds and parts of all values, and place and part of a refusal, whose number it returns.
+ */
+#include "../bindings/feed.h"
+
+/* An image in which no column is present takes no bytes, so bytes are left over. */
+static uint64_t left_over(uint64_t *out)
+{
+    out[1] = 0;
+    out[2] = 0;
+    return FEED_IMAGE_SHORT;
+}
+
+static uint64_t refused(uint64_t status, const uint64_t *answer, uint64_t *out)
+{
+    out[1] = answer[FEED_PLACE];
+    out[2] = answer[FEED_PART];
+    return status;
+}
+
+uint64_t rows_by_steps(const uint8_t *profile, size_t profile_length, const uint8_t *presence, size_t presence_length,
+                       const uint8_t *images, size_t images_length, uint64_t *out)
+{
+    uint64_t answer[FEED_OUT_NUMBERS];
+    uint64_t sum = 0;
+    size_t start = 0;
+
+    out[0] = 0;
+    while (start < images_length) {
+        uint64_t status = feed_first(profile, profile_length, presence, presence_length, answer, FEED_OUT_NUMBERS);
+        size_t column;
+        size_t offset;
+
+        if (status != FEED_OK)
+            return refused(status, answer, out);
+        column = answer[FEED_CURSOR_COLUMN];
+        offset = answer[FEED_CURSOR_OFFSET];
+        for (;;) {
+            size_t i;
+
+            status = feed_step(profile, profile_length, presence, presence_length, images + start, images_length - start, column, offset,
+                               answer, FEED_OUT_NUMBERS);
+            if (status != FEED_OK)
+                return refused(status, answer, out);
+            column = answer[FEED_STEP_NEXT_COLUMN];
+            offset = answer[FEED_STEP_NEXT_OFFSET];
+            if (answer[FEED_STEP_KIND] == FEED_END)
+                break;
+            /* a step tells where bytes start in its image; the sum has where they start in the images */
+            if (answer[FEED_STEP_KIND] == FEED_BYTES)
+                sum += start;
+            sum += answer[FEED_STEP_KIND];
+            for (i = FEED_STEP_PARTS; i < FEED_OUT_NUMBERS; i++)
+                sum += answer[i];
+            out[0] = sum;
+        }
+        if (offset == 0)
+            return left_over(out);
+        start += offset;
+    }
+    return FEED_OK;
+}
+
+#ifdef FEED_PLAN
+/* How many values are asked for at a time. */
+#define BATCH 256
+
+/* Numbers of a value: its kind and seven parts. */
+#define VALUE_NUMBERS 8
+
+/* Bytes of a plan for each present column. */
+#define ITEM_BYTES 3
+
+uint64_t rows_by_run(const uint8_t *profile, size_t profile_length, const uint8_t *presence, size_t presence_length,
+                     const uint8_t *images, size_t images_length, uint64_t *out)
+{
+    static uint8_t plan[ITEM_BYTES * FEED_COLUMNS_MOST];
+    static uint64_t values[VALUE_NUMBERS * BATCH];
+    uint64_t answer[FEED_OUT_NUMBERS];
+    uint64_t sum = 0;
+    size_t plan_length;
+    size_t start = 0;
+    size_t item = 0;
+    size_t offset;
+    uint64_t status = feed_plan(profile, profile_length, presence, presence_length, plan, sizeof plan, answer, FEED_OUT_NUMBERS);
+
+    out[0] = 0;
+    if (status != FEED_OK)
+        return refused(status, answer, out);
+    plan_length = answer[0];
+    offset = FEED_BYTES_FOR(answer[1]);
+    for (;;) {
+        size_t numbers;
+        size_t i;
+
+        status = feed_run(plan, plan_length, images, images_length, start, item, offset, values, VALUE_NUMBERS * BATCH, answer,
+                          FEED_OUT_NUMBERS);
+        if (status != FEED_OK)
+            return refused(status, answer, out);
+        if (answer[0] == 0)
+            return FEED_OK;
+        numbers = VALUE_NUMBERS * answer[0];
+        start = answer[1];
+        item = answer[2];
+        offset = answer[3];
+        for (i = 0; i < numbers; i++)
+            sum += values[i];
+        out[0] = sum;
+    }
+}
+#endif
