@@ -62,21 +62,14 @@ uint64_t rows_by_steps(const uint8_t *profile, size_t profile_length, const uint
     return FEED_OK;
 }
 
-#ifdef FEED_PLAN
 /* How many values are asked for at a time. */
 #define BATCH 256
-
-/* Numbers of a value: its kind and seven parts. */
-#define VALUE_NUMBERS 8
-
-/* Bytes of a plan for each present column. */
-#define ITEM_BYTES 3
 
 uint64_t rows_by_run(const uint8_t *profile, size_t profile_length, const uint8_t *presence, size_t presence_length,
                      const uint8_t *images, size_t images_length, uint64_t *out)
 {
-    static uint8_t plan[ITEM_BYTES * FEED_COLUMNS_MOST];
-    static uint64_t values[VALUE_NUMBERS * BATCH];
+    static uint8_t plan[FEED_PLAN_BYTES(FEED_COLUMNS_MOST)];
+    static uint64_t values[FEED_VALUE_NUMBERS * BATCH];
     uint64_t answer[FEED_OUT_NUMBERS];
     uint64_t sum = 0;
     size_t plan_length;
@@ -88,25 +81,24 @@ uint64_t rows_by_run(const uint8_t *profile, size_t profile_length, const uint8_
     out[0] = 0;
     if (status != FEED_OK)
         return refused(status, answer, out);
-    plan_length = answer[0];
-    offset = FEED_BYTES_FOR(answer[1]);
+    plan_length = answer[FEED_PLAN_LENGTH];
+    offset = FEED_BYTES_FOR(answer[FEED_PLAN_ITEMS]);
     for (;;) {
         size_t numbers;
         size_t i;
 
-        status = feed_run(plan, plan_length, images, images_length, start, item, offset, values, VALUE_NUMBERS * BATCH, answer,
+        status = feed_run(plan, plan_length, images, images_length, start, item, offset, values, FEED_VALUE_NUMBERS * BATCH, answer,
                           FEED_OUT_NUMBERS);
         if (status != FEED_OK)
             return refused(status, answer, out);
-        if (answer[0] == 0)
+        if (answer[FEED_RUN_VALUES] == 0)
             return FEED_OK;
-        numbers = VALUE_NUMBERS * answer[0];
-        start = answer[1];
-        item = answer[2];
-        offset = answer[3];
+        start = answer[FEED_RUN_START];
+        item = answer[FEED_RUN_ITEM];
+        offset = answer[FEED_RUN_OFFSET];
+        numbers = FEED_VALUE_NUMBERS * answer[FEED_RUN_VALUES];
         for (i = 0; i < numbers; i++)
             sum += values[i];
         out[0] = sum;
     }
 }
-#endif

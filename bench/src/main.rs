@@ -34,9 +34,7 @@ fn sides() -> Vec<Box<dyn Side>> {
         Box::new(side::Iterated),
         Box::new(side::Strongest),
         Box::new(side::Stored),
-        #[cfg(feature = "plan")]
         Box::new(port::Run),
-        #[cfg(feature = "plan")]
         Box::new(port::RunFromC),
         Box::new(port::Crate),
         Box::new(port::Steps),

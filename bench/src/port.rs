@@ -1,9 +1,7 @@
 //! The sides of the port: its calls for C and Rust, and the Rust crate over them. All their `unsafe` is here.
 
 use crate::input::Lent;
-#[cfg(feature = "plan")]
-use crate::side::BATCH;
-use crate::side::{sum_of, Ended, Side};
+use crate::side::{sum_of, Ended, Side, BATCH};
 use crate::value::{Refusal, Value};
 
 /// Numbers that are enough for the answer of any call.
@@ -49,10 +47,7 @@ extern "C" {
         out: *mut u64,
         out_length: usize,
     ) -> u64;
-}
 
-#[cfg(feature = "plan")]
-extern "C" {
     fn feed_plan(
         profile: *const u8,
         profile_length: usize,
@@ -92,7 +87,6 @@ extern "C" {
         out: *mut u64,
     ) -> u64;
 
-    #[cfg(feature = "plan")]
     fn rows_by_run(
         profile: *const u8,
         profile_length: usize,
@@ -363,10 +357,6 @@ impl Side for Crate {
         "crate"
     }
 
-    fn is_square(&self) -> bool {
-        true
-    }
-
     fn walk(&self, lent: Lent, told: &mut dyn FnMut([u64; 8])) -> Option<Ended> {
         Some(Crate::each(lent, |value| told(value.numbers(lent.images))))
     }
@@ -379,10 +369,8 @@ impl Side for Crate {
 }
 
 /// The plan made once, and values as many as a lent buffer holds: `feed_plan` and `feed_run`.
-#[cfg(feature = "plan")]
 pub struct Run;
 
-#[cfg(feature = "plan")]
 impl Run {
     #[inline(always)]
     fn each(lent: Lent, mut told: impl FnMut(&[u64])) -> Ended {
@@ -437,7 +425,6 @@ impl Run {
     }
 }
 
-#[cfg(feature = "plan")]
 impl Side for Run {
     fn name(&self) -> &'static str {
         "run"
@@ -460,10 +447,8 @@ impl Side for Run {
 }
 
 /// The same from C, which tells a sum alone.
-#[cfg(feature = "plan")]
 pub struct RunFromC;
 
-#[cfg(feature = "plan")]
 impl Side for RunFromC {
     fn name(&self) -> &'static str {
         "run-c"
