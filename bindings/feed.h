@@ -1,5 +1,7 @@
 /*
- * feed.h: the calls of libfeed_abi.a, which reads MySQL's table map event, rows events and row images, and writes row images.
+ * feed.h: the calls of libfeed_abi.a, which reads MySQL's table map event, rows events and row images, and writes row images. A map is
+ * checked by feed_check, and its columns are told by feed_column and feed_name; the strings of ENUM and SET columns, keys and geometry
+ * types stand in its optional fields (feed_fields, feed_field, feed_item).
  *
  * An event is lent WITHOUT its header of 19 bytes and WITHOUT its checksum (4 bytes at its end, if the format description event says that
  * the log has checksums). No call can tell a checksum from rows: left on, it is read as rows. Under one TINYINT column, a rows event with
@@ -106,6 +108,80 @@ enum {
                           DECIMAL, JSON, geometry, VECTOR */
 };
 
+/*
+ * Types of columns, by MySQL's names for them. feed_column tells the real type: an ENUM has FEED_TYPE_ENUM there, and a DATE
+ * FEED_TYPE_NEWDATE. Among the type bytes that feed_parts finds, an ENUM or SET has FEED_TYPE_STRING, and a DATE FEED_TYPE_DATE.
+ */
+enum {
+    FEED_TYPE_TINY = 1,       /* TINYINT */
+    FEED_TYPE_SHORT = 2,      /* SMALLINT */
+    FEED_TYPE_LONG = 3,       /* INT */
+    FEED_TYPE_FLOAT = 4,
+    FEED_TYPE_DOUBLE = 5,
+    FEED_TYPE_TIMESTAMP = 7,  /* of old */
+    FEED_TYPE_LONGLONG = 8,   /* BIGINT */
+    FEED_TYPE_INT24 = 9,      /* MEDIUMINT */
+    FEED_TYPE_DATE = 10,
+    FEED_TYPE_TIME = 11,      /* of old */
+    FEED_TYPE_DATETIME = 12,  /* of old */
+    FEED_TYPE_YEAR = 13,
+    FEED_TYPE_NEWDATE = 14,   /* DATE */
+    FEED_TYPE_VARCHAR = 15,   /* VARCHAR, VARBINARY */
+    FEED_TYPE_BIT = 16,
+    FEED_TYPE_TIMESTAMP2 = 17,
+    FEED_TYPE_DATETIME2 = 18,
+    FEED_TYPE_TIME2 = 19,
+    FEED_TYPE_VECTOR = 242,
+    FEED_TYPE_JSON = 245,
+    FEED_TYPE_NEWDECIMAL = 246, /* DECIMAL */
+    FEED_TYPE_ENUM = 247,
+    FEED_TYPE_SET = 248,
+    FEED_TYPE_TINY_BLOB = 249,
+    FEED_TYPE_MEDIUM_BLOB = 250,
+    FEED_TYPE_LONG_BLOB = 251,
+    FEED_TYPE_BLOB = 252,       /* BLOB, TEXT of any size */
+    FEED_TYPE_VAR_STRING = 253, /* VARCHAR, VARBINARY */
+    FEED_TYPE_STRING = 254,     /* CHAR, BINARY */
+    FEED_TYPE_GEOMETRY = 255
+};
+
+/* Types of optional fields, and what stands in the value of each. The record of a map has what 1, 2, 3, 10, 11 and 12 say. */
+enum {
+    FEED_OPTIONAL_SIGNEDNESS = 1,        /* bits, highest first: set for an unsigned column */
+    FEED_OPTIONAL_DEFAULT_CHARSET = 2,   /* an integer, and behind it pairs: rank among character columns, charset */
+    FEED_OPTIONAL_COLUMN_CHARSET = 3,    /* integers: a charset for each character column */
+    FEED_OPTIONAL_NAMES = 4,             /* strings: a name for each column */
+    FEED_OPTIONAL_SET_STRINGS = 5,       /* groups: the strings of each SET column. Bit i of a SET's bytes, lowest first, is for string i */
+    FEED_OPTIONAL_ENUM_STRINGS = 6,      /* groups: the strings of each ENUM column. Number i of an ENUM is string i - 1; 0 is none of them */
+    FEED_OPTIONAL_GEOMETRY_TYPES = 7,    /* integers: a FEED_GEOMETRY_ below for each geometry column */
+    FEED_OPTIONAL_SIMPLE_KEY = 8,        /* integers: the columns of the primary key */
+    FEED_OPTIONAL_PREFIX_KEY = 9,        /* pairs: the same, each with the length of its prefix, 0 for the whole column */
+    FEED_OPTIONAL_CHOICE_CHARSET = 10,   /* as 2 and 3, of ENUM and SET columns together */
+    FEED_OPTIONAL_CHOICE_CHARSETS = 11,
+    FEED_OPTIONAL_VISIBILITY = 12,       /* bits, highest first: set for a visible column */
+    FEED_OPTIONAL_DIMENSIONS = 13        /* integers: the dimensions of each VECTOR column */
+};
+
+/* The lists that feed_item steps over, and the two numbers that it tells of an item. */
+enum {
+    FEED_LIST_INTEGERS = 1, /* the integer, 0 */
+    FEED_LIST_PAIRS = 2,    /* both integers */
+    FEED_LIST_STRINGS = 3,  /* start and length of the string in the value */
+    FEED_LIST_GROUPS = 4    /* how many strings, and where the first stands: that many steps over FEED_LIST_STRINGS from there are its strings */
+};
+
+/* Which geometries a geometry column takes. */
+enum {
+    FEED_GEOMETRY_ANY = 0,
+    FEED_GEOMETRY_POINT = 1,
+    FEED_GEOMETRY_LINESTRING = 2,
+    FEED_GEOMETRY_POLYGON = 3,
+    FEED_GEOMETRY_MULTIPOINT = 4,
+    FEED_GEOMETRY_MULTILINESTRING = 5,
+    FEED_GEOMETRY_MULTIPOLYGON = 6,
+    FEED_GEOMETRY_COLLECTION = 7
+};
+
 /* Flags of a column. */
 enum {
     FEED_UNSIGNED = 1,
@@ -158,6 +234,30 @@ enum {
 
     FEED_NAME_START = 0, /* feed_name */
     FEED_NAME_LENGTH = 1,
+
+    FEED_PARTS_TYPES_START = 0, /* feed_parts */
+    FEED_PARTS_TYPES_LENGTH = 1,
+    FEED_PARTS_METADATA_START = 2,
+    FEED_PARTS_METADATA_LENGTH = 3,
+    FEED_PARTS_NULLABLE_START = 4,
+    FEED_PARTS_NULLABLE_LENGTH = 5,
+    FEED_PARTS_OPTIONAL_START = 6,
+    FEED_PARTS_OPTIONAL_LENGTH = 7,
+
+    FEED_FIELDS_OFFSET = 0, /* feed_fields */
+    FEED_FIELDS_NUMERIC = 1,
+    FEED_FIELDS_COLUMNS = 2,
+
+    FEED_FIELD_FOUND = 0, /* feed_field */
+    FEED_FIELD_TYPE = 1,
+    FEED_FIELD_START = 2,
+    FEED_FIELD_LENGTH = 3,
+    FEED_FIELD_NEXT = 4,
+
+    FEED_ITEM_FOUND = 0, /* feed_item */
+    FEED_ITEM_FIRST = 1,
+    FEED_ITEM_SECOND = 2,
+    FEED_ITEM_NEXT = 3,
 
     FEED_ROWS_FLAGS = 0, /* feed_rows */
     FEED_ROWS_HAS_EXTRA = 1,
@@ -288,6 +388,38 @@ uint64_t feed_names(const uint8_t *event, size_t event_length, uint8_t post_head
  */
 uint64_t feed_name(const uint8_t *names, size_t names_length, const uint8_t *fallback, size_t fallback_length,
                    size_t column, uint64_t *out, size_t out_length);
+
+/*
+ * Where the bytes that an event has for its columns stand. Nothing of them is judged; feed_check does that.
+ * Answer, 8 numbers, start and length each: type bytes, one for each column; metadata; nullable bits, one for each column, lowest first,
+ * set where it can be NULL; optional fields.
+ */
+uint64_t feed_parts(const uint8_t *event, size_t event_length, uint8_t post_header, uint64_t *out, size_t out_length);
+
+/*
+ * The cursor that a walk over the optional fields of an event begins with.
+ * Answer, 3 numbers: the offset of the first field, and two numbers that every step is given: how many columns have a signedness bit in
+ * the dialect, and how many columns there are.
+ */
+uint64_t feed_fields(const uint8_t *event, size_t event_length, uint8_t post_header, uint8_t dialect, uint64_t *out, size_t out_length);
+
+/*
+ * The optional field at an offset of the event. numeric and columns are what feed_fields told; only the length of fields 1 and 12 is held
+ * against them.
+ * Answer, 5 numbers: 1, the field's type (a FEED_OPTIONAL_ above), start and length of its value in the event, and the offset of the next
+ * field; or five zeros at the end. Of a map that feed_check accepts no step is refused, and no type stands twice.
+ */
+uint64_t feed_field(const uint8_t *event, size_t event_length, size_t offset, size_t numeric, size_t columns,
+                    uint64_t *out, size_t out_length);
+
+/*
+ * The item at an offset of a list (a FEED_LIST_ above) in the value of an optional field. The first is at 0; in fields 2 and 10 the pairs
+ * begin behind the integer.
+ * Answer, 4 numbers: 1, two numbers of the item, and the offset of the next; or four zeros at the end. Places and offsets are in the
+ * value. Of a map that feed_check accepts no step over a list as it is named with its field is refused, and the lists of fields 5, 6, 7
+ * and 13 have one item for each SET, ENUM, geometry and VECTOR column, in the order of the columns.
+ */
+uint64_t feed_item(uint64_t list, const uint8_t *value, size_t value_length, size_t offset, uint64_t *out, size_t out_length);
 
 /*
  * Reads the parts of a rows event under the record of its map. code is the event's type from its header, table the table id that feed_map

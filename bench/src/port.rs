@@ -299,15 +299,10 @@ impl Crate {
 }
 
 fn our_refusal(theirs: feed::Refusal) -> Refusal {
-    let feed::Refusal {
-        number,
-        place,
-        part,
-    } = theirs;
     Refusal {
-        number,
-        place,
-        part,
+        number: theirs.number(),
+        place: theirs.place() as u64,
+        part: theirs.part(),
     }
 }
 
@@ -353,6 +348,7 @@ fn our_value(theirs: feed::Value) -> Value {
             micros,
         },
         feed::Value::Bytes(bytes) => Value::Bytes(bytes),
+        other => unreachable!("a value of a later crate: {other:?}"),
     }
 }
 

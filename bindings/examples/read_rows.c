@@ -1,6 +1,7 @@
 /*
- * read_rows FILE: prints the tables of FILE, whose lines rows.txt explains: the columns with their types, then a line for each row, and for
- * a rows event a line for each of its images, with the names of the columns that it has.
+ * read_rows FILE: prints the tables of FILE, whose lines rows.txt explains: the columns with their types, the primary key, then a line for
+ * each row, and for a rows event a line for each of its images, with the names of the columns that it has. Values of ENUM and SET columns
+ * are shown as the strings that the map has for them.
  * Every row is also read again step by step, and must have the same values; and written again from its values, and must have the bytes that
  * it was read from, but for the spare null bits.
  */
@@ -18,15 +19,27 @@ struct bytes {
     size_t length;
 };
 
-/* a checked map, with its names, which point into the event */
+/* a part of an event; at is NULL where it is not there */
+struct part {
+    const uint8_t *at;
+    size_t length;
+};
+
+/* a checked map, with the values of its optional fields, by their types */
 struct table {
     struct bytes event;
     uint64_t id;
-    const uint8_t *names;
-    size_t names_length;
+    struct part fields[FEED_OPTIONAL_DIMENSIONS + 1];
     uint8_t record[FEED_RECORD_MOST];
     size_t record_length;
     size_t columns;
+};
+
+/* the strings of an ENUM or SET column: how many, in which value, and where the first stands in it */
+struct strings {
+    uint64_t count;
+    struct part value;
+    size_t first;
 };
 
 struct value {
@@ -107,10 +120,97 @@ static void print_bytes(const uint8_t *bytes, size_t length)
     printf("'");
 }
 
-static void print_value(const struct value *value, const uint8_t *image)
+/* one of the numbers that feed_column tells of a column */
+static uint64_t column_number(const struct table *table, size_t column, int which)
+{
+    uint64_t out[FEED_OUT_NUMBERS];
+
+    answered("feed_column", feed_column(table->record, table->record_length, column, out, FEED_OUT_NUMBERS), out);
+    return out[which];
+}
+
+static uint64_t type_of(const struct table *table, size_t column)
+{
+    return column_number(table, column, FEED_COLUMN_TYPE);
+}
+
+/* The item at an offset of a list, which a checked map has whole. Returns whether there is one. */
+static int item(uint64_t list, const struct part *value, uint64_t offset, uint64_t *out)
+{
+    answered("feed_item", feed_item(list, value->at, value->length, (size_t)offset, out, FEED_OUT_NUMBERS), out);
+    return out[FEED_ITEM_FOUND] != 0;
+}
+
+/* Finds the strings of a column. The groups of its field are in the order of the columns of its type. Returns whether the map has them. */
+static int find_strings(const struct table *table, size_t column, struct strings *strings)
+{
+    uint64_t out[FEED_OUT_NUMBERS] = {0}, type = type_of(table, column);
+    size_t i;
+
+    if (type != FEED_TYPE_ENUM && type != FEED_TYPE_SET)
+        return 0;
+    strings->value = table->fields[type == FEED_TYPE_ENUM ? FEED_OPTIONAL_ENUM_STRINGS : FEED_OPTIONAL_SET_STRINGS];
+    if (strings->value.at == NULL)
+        return 0;
+    for (i = 0; i <= column; i++)
+        if (type_of(table, i) == type && !item(FEED_LIST_GROUPS, &strings->value, out[FEED_ITEM_NEXT], out))
+            return 0;
+    strings->count = out[FEED_ITEM_FIRST];
+    strings->first = (size_t)out[FEED_ITEM_SECOND];
+    return 1;
+}
+
+/* Whether string i is that of an ENUM's number, or its bit is set in a SET's bytes. Without a value every string is. */
+static int is_chosen(const struct value *value, const uint8_t *image, uint64_t i)
+{
+    const uint64_t *p;
+
+    if (value == NULL)
+        return 1;
+    p = value->parts;
+    if (value->kind == FEED_UINT)
+        return p[0] == i + 1;
+    return i / 8 < p[1] && (image[p[0] + i / 8] >> i % 8 & 1) != 0;
+}
+
+/* Prints the strings that are chosen. Returns how many. */
+static int print_strings(const struct strings *strings, const struct value *value, const uint8_t *image)
+{
+    uint64_t out[FEED_OUT_NUMBERS] = {0}, i;
+    int shown = 0;
+
+    out[FEED_ITEM_NEXT] = strings->first;
+    for (i = 0; i < strings->count && item(FEED_LIST_STRINGS, &strings->value, out[FEED_ITEM_NEXT], out); i++) {
+        if (!is_chosen(value, image, i))
+            continue;
+        printf("%s", shown++ ? ", " : "");
+        print_bytes(strings->value.at + out[FEED_ITEM_FIRST], (size_t)out[FEED_ITEM_SECOND]);
+    }
+    return shown;
+}
+
+/* The string of an ENUM, which is empty for number 0, or the strings of a SET. */
+static void print_choice(const struct strings *strings, const struct value *value, const uint8_t *image)
+{
+    if (value->kind == FEED_UINT) {
+        if (print_strings(strings, value, image) == 0)
+            printf("''");
+        return;
+    }
+    printf("(");
+    print_strings(strings, value, image);
+    printf(")");
+}
+
+static void print_value(const struct table *table, const struct value *value, const uint8_t *image)
 {
     const uint64_t *p = value->parts;
+    struct strings strings;
 
+    if (value->kind != FEED_NULL && find_strings(table, (size_t)value->column, &strings)) {
+        print_choice(&strings, value, image);
+        return;
+    }
     switch (value->kind) {
     case FEED_NULL:
         printf("NULL");
@@ -145,6 +245,46 @@ static void print_value(const struct value *value, const uint8_t *image)
     }
 }
 
+/* Where each optional field of a checked map stands. None of them stands twice. */
+static void read_fields(struct table *table, uint8_t dialect)
+{
+    uint64_t at[FEED_OUT_NUMBERS], out[FEED_OUT_NUMBERS];
+    const struct bytes *event = &table->event;
+    struct part *field;
+
+    memset(table->fields, 0, sizeof table->fields);
+    answered("feed_fields", feed_fields(event->at, event->length, POST_HEADER, dialect, at, FEED_OUT_NUMBERS), at);
+    out[FEED_FIELD_NEXT] = at[FEED_FIELDS_OFFSET];
+    for (;;) {
+        answered("feed_field",
+                 feed_field(event->at, event->length, (size_t)out[FEED_FIELD_NEXT], (size_t)at[FEED_FIELDS_NUMERIC],
+                            (size_t)at[FEED_FIELDS_COLUMNS], out, FEED_OUT_NUMBERS), out);
+        if (out[FEED_FIELD_FOUND] == 0)
+            return;
+        field = &table->fields[out[FEED_FIELD_TYPE]];
+        field->at = event->at + out[FEED_FIELD_START];
+        field->length = (size_t)out[FEED_FIELD_LENGTH];
+    }
+}
+
+/* Holds the record of a map against its type bytes and nullable bits: a real type may be another than the type byte has, a flag not. */
+static void check_parts(const struct table *table)
+{
+    uint64_t out[FEED_OUT_NUMBERS], flags;
+    const uint8_t *nullable;
+    size_t i;
+
+    answered("feed_parts", feed_parts(table->event.at, table->event.length, POST_HEADER, out, FEED_OUT_NUMBERS), out);
+    if (out[FEED_PARTS_TYPES_LENGTH] != table->columns)
+        stop("a map has another number of columns than its record");
+    nullable = table->event.at + out[FEED_PARTS_NULLABLE_START];
+    for (i = 0; i < table->columns; i++) {
+        flags = column_number(table, i, FEED_COLUMN_FLAGS);
+        if ((nullable[i / 8] >> i % 8 & 1) != ((flags & FEED_NULLABLE) != 0))
+            stop("a nullable bit of a map is not what its record says");
+    }
+}
+
 static void read_map(struct table *table, uint8_t dialect)
 {
     uint64_t out[FEED_OUT_NUMBERS];
@@ -152,24 +292,68 @@ static void read_map(struct table *table, uint8_t dialect)
 
     answered("feed_map", feed_map(event->at, event->length, POST_HEADER, out, FEED_OUT_NUMBERS), out);
     table->id = out[FEED_MAP_ID];
-    answered("feed_names", feed_names(event->at, event->length, POST_HEADER, dialect, out, FEED_OUT_NUMBERS), out);
-    if (out[FEED_HAS_NAMES] == 0)
-        stop("a map has no names");
-    table->names = event->at + out[FEED_NAMES_START];
-    table->names_length = (size_t)out[FEED_NAMES_LENGTH];
     answered("feed_check",
              feed_check(event->at, event->length, POST_HEADER, dialect, table->record, FEED_RECORD_MOST, out, FEED_OUT_NUMBERS), out);
     table->record_length = (size_t)out[FEED_RECORD_LENGTH];
     table->columns = (size_t)out[FEED_RECORD_COLUMNS];
+    read_fields(table, dialect);
+    answered("feed_names", feed_names(event->at, event->length, POST_HEADER, dialect, out, FEED_OUT_NUMBERS), out);
+    if (out[FEED_HAS_NAMES] == 0)
+        stop("a map has no names");
+    if (table->fields[FEED_OPTIONAL_NAMES].at != event->at + out[FEED_NAMES_START])
+        stop("the names of a map are not where its fields have them");
+    check_parts(table);
 }
 
-/* the real type of a column, and whether it is known to be unsigned */
+static const char *type_name(uint64_t type)
+{
+    switch (type) {
+    case FEED_TYPE_TINY: return "TINY";
+    case FEED_TYPE_SHORT: return "SHORT";
+    case FEED_TYPE_LONG: return "LONG";
+    case FEED_TYPE_FLOAT: return "FLOAT";
+    case FEED_TYPE_DOUBLE: return "DOUBLE";
+    case FEED_TYPE_TIMESTAMP: return "TIMESTAMP";
+    case FEED_TYPE_LONGLONG: return "LONGLONG";
+    case FEED_TYPE_INT24: return "INT24";
+    case FEED_TYPE_TIME: return "TIME";
+    case FEED_TYPE_DATETIME: return "DATETIME";
+    case FEED_TYPE_YEAR: return "YEAR";
+    case FEED_TYPE_NEWDATE: return "NEWDATE";
+    case FEED_TYPE_VARCHAR: return "VARCHAR";
+    case FEED_TYPE_BIT: return "BIT";
+    case FEED_TYPE_TIMESTAMP2: return "TIMESTAMP2";
+    case FEED_TYPE_DATETIME2: return "DATETIME2";
+    case FEED_TYPE_TIME2: return "TIME2";
+    case FEED_TYPE_VECTOR: return "VECTOR";
+    case FEED_TYPE_JSON: return "JSON";
+    case FEED_TYPE_NEWDECIMAL: return "NEWDECIMAL";
+    case FEED_TYPE_ENUM: return "ENUM";
+    case FEED_TYPE_SET: return "SET";
+    case FEED_TYPE_TINY_BLOB: return "TINY_BLOB";
+    case FEED_TYPE_MEDIUM_BLOB: return "MEDIUM_BLOB";
+    case FEED_TYPE_LONG_BLOB: return "LONG_BLOB";
+    case FEED_TYPE_BLOB: return "BLOB";
+    case FEED_TYPE_VAR_STRING: return "VAR_STRING";
+    case FEED_TYPE_STRING: return "STRING";
+    case FEED_TYPE_GEOMETRY: return "GEOMETRY";
+    default: return "?";
+    }
+}
+
+/* the real type of a column, with the strings of an ENUM or SET, and whether it is known to be unsigned and cannot be NULL */
 static void print_type(const struct table *table, size_t column)
 {
-    uint64_t out[FEED_OUT_NUMBERS];
+    uint64_t flags = column_number(table, column, FEED_COLUMN_FLAGS);
+    struct strings strings;
 
-    answered("feed_column", feed_column(table->record, table->record_length, column, out, FEED_OUT_NUMBERS), out);
-    printf(" %" PRIu64 "%s", out[FEED_COLUMN_TYPE], out[FEED_COLUMN_FLAGS] & FEED_UNSIGNED ? " unsigned" : "");
+    printf(" %s", type_name(type_of(table, column)));
+    if (find_strings(table, column, &strings)) {
+        printf("(");
+        print_strings(&strings, NULL, NULL);
+        printf(")");
+    }
+    printf("%s%s", flags & FEED_UNSIGNED ? " unsigned" : "", flags & FEED_NULLABLE ? "" : " not null");
 }
 
 static void print_part(const uint8_t *bytes, const uint64_t *part)
@@ -180,9 +364,10 @@ static void print_part(const uint8_t *bytes, const uint64_t *part)
 static void print_name(const struct table *table, size_t column)
 {
     uint64_t out[FEED_OUT_NUMBERS];
+    const struct part *names = &table->fields[FEED_OPTIONAL_NAMES];
 
-    answered("feed_name", feed_name(table->names, table->names_length, table->names, 0, column, out, FEED_OUT_NUMBERS), out);
-    print_part(table->names, out + FEED_NAME_START);
+    answered("feed_name", feed_name(names->at, names->length, names->at, 0, column, out, FEED_OUT_NUMBERS), out);
+    print_part(names->at, out + FEED_NAME_START);
 }
 
 /* the names of database and table */
@@ -208,13 +393,33 @@ static void print_columns(const struct table *table)
     printf("\n");
 }
 
+/* The columns of the primary key, those with a prefix with its length. A map has one of the two fields at most. */
+static void print_key(const struct table *table)
+{
+    int prefixed = table->fields[FEED_OPTIONAL_PREFIX_KEY].at != NULL;
+    const struct part *key = &table->fields[prefixed ? FEED_OPTIONAL_PREFIX_KEY : FEED_OPTIONAL_SIMPLE_KEY];
+    uint64_t out[FEED_OUT_NUMBERS] = {0};
+    int shown = 0;
+
+    if (key->at == NULL)
+        return;
+    printf("  key ");
+    while (item(prefixed ? FEED_LIST_PAIRS : FEED_LIST_INTEGERS, key, out[FEED_ITEM_NEXT], out)) {
+        printf("%s", shown++ ? ", " : "");
+        print_name(table, (size_t)out[FEED_ITEM_FIRST]);
+        if (out[FEED_ITEM_SECOND] != 0)
+            printf("(%" PRIu64 ")", out[FEED_ITEM_SECOND]);
+    }
+    printf("\n");
+}
+
 /* Reads the values of a row by the plan of its presence bits. Returns the bytes that it took. */
 static size_t read_row(const struct table *table, struct row *row)
 {
     static uint8_t plan[FEED_PLAN_BYTES(FEED_COLUMNS_MOST)];
     static uint64_t values[FEED_VALUE_NUMBERS * FEED_COLUMNS_MOST];
     uint64_t out[FEED_OUT_NUMBERS];
-    size_t plan_length, items, column = 0, item = 0, offset;
+    size_t plan_length, items, column = 0, done = 0, offset;
 
     answered("feed_plan",
              feed_plan(table->record, table->record_length, row->presence.at, row->presence.length, plan, sizeof plan,
@@ -223,13 +428,13 @@ static size_t read_row(const struct table *table, struct row *row)
     items = (size_t)out[FEED_PLAN_ITEMS];
     offset = FEED_BYTES_FOR(items);
     /* a run may stop before a value that is refused: the next one tells why */
-    while (item < items) {
+    while (done < items) {
         answered("feed_run",
-                 feed_run(plan, plan_length, row->image.at, row->image.length, 0, item, offset, values + FEED_VALUE_NUMBERS * item,
-                          FEED_VALUE_NUMBERS * (items - item), out, FEED_OUT_NUMBERS), out);
+                 feed_run(plan, plan_length, row->image.at, row->image.length, 0, done, offset, values + FEED_VALUE_NUMBERS * done,
+                          FEED_VALUE_NUMBERS * (items - done), out, FEED_OUT_NUMBERS), out);
         if (out[FEED_RUN_VALUES] == 0)
             stop("a row has no image");
-        item = (size_t)out[FEED_RUN_ITEM];
+        done = (size_t)out[FEED_RUN_ITEM];
         offset = (size_t)out[FEED_RUN_OFFSET];
     }
     for (row->count = 0; row->count < items; column++)
@@ -279,7 +484,7 @@ static void print_row(const struct table *table, const struct row *row)
     for (column = 0; column < table->columns; column++) {
         printf("%s", column == 0 ? "" : " | ");
         if (next < row->count && row->values[next].column == column)
-            print_value(&row->values[next++], row->image.at);
+            print_value(table, &row->values[next++], row->image.at);
         else
             printf("absent");
     }
@@ -359,7 +564,7 @@ static void print_image(const struct table *table, const struct row *row, int af
         printf("%s", i == 0 ? "" : ", ");
         print_name(table, (size_t)row->values[i].column);
         printf(" = ");
-        print_value(&row->values[i], row->image.at);
+        print_value(table, &row->values[i], row->image.at);
     }
     printf("\n");
 }
@@ -430,6 +635,7 @@ int main(int argc, char **argv)
             from_hex(strtok(NULL, " \n"), &table.event);
             read_map(&table, dialect);
             print_columns(&table);
+            print_key(&table);
             first = checked = 1;
         } else if (strcmp(word, "row") == 0 && checked) {
             from_hex(strtok(NULL, " \n"), &row.presence);

@@ -1,8 +1,9 @@
-//! read_rows FILE: prints the tables of FILE, whose lines rows.txt explains: the columns with their types, then a line for each row, and for
-//! a rows event a line for each of its images, with the names of the columns that it has.
+//! read_rows FILE: prints the tables of FILE, whose lines rows.txt explains: the columns with their types, the primary key, then a line for
+//! each row, and for a rows event a line for each of its images, with the names of the columns that it has. Values of ENUM and SET columns
+//! are shown as the strings that the map has for them.
 //! Every row is also written again from its values, and must have the bytes that it was read from, but for the spare null bits.
 
-use feed::{check, map, name, names, Dialect, Image, Record, Value};
+use feed::{Dialect, Image, Table, TableColumn, Value};
 use std::error::Error;
 use std::{env, fs, process};
 
@@ -32,7 +33,21 @@ fn shown_bytes(bytes: &[u8]) -> String {
     format!("x'{}'", hex(bytes))
 }
 
-fn shown(value: &Value) -> String {
+fn shown_strings<'a>(strings: impl Iterator<Item = &'a [u8]>) -> String {
+    let words: Vec<_> = strings.map(shown_bytes).collect();
+    format!("({})", words.join(", "))
+}
+
+fn shown(column: &TableColumn, value: &Value) -> String {
+    match (column.strings, *value) {
+        // number 0, which has no string, is shown as the empty one
+        (Some(group), Value::Uint(number)) => shown_bytes(group.of_enum(number).unwrap_or(&[])),
+        (Some(group), Value::Bytes(bits)) => shown_strings(group.of_set(bits)),
+        (_, value) => shown_plain(&value),
+    }
+}
+
+fn shown_plain(value: &Value) -> String {
     match *value {
         Value::Null => "NULL".to_string(),
         Value::Int(n) => n.to_string(),
@@ -62,50 +77,54 @@ fn shown(value: &Value) -> String {
             format!("{sign}{hours:02}:{minutes:02}:{seconds:02}.{micros:06}")
         }
         Value::Bytes(bytes) => shown_bytes(bytes),
+        other => format!("{other:?}"),
     }
 }
 
-/// A checked map.
-struct Table {
-    event: Vec<u8>,
-    dialect: Dialect,
-    record: Record,
+fn name(table: &Table, column: usize) -> Result<String, Box<dyn Error>> {
+    let told = table.column(column).ok_or("there is no such column")?;
+    let name = told.name.ok_or("a map has no names")?;
+    Ok(String::from_utf8_lossy(name).into_owned())
 }
 
-impl Table {
-    fn new(event: Vec<u8>, dialect: Dialect) -> Result<Table, Box<dyn Error>> {
-        let record = check(&event, POST_HEADER, dialect)?;
-        Ok(Table {
-            event,
-            dialect,
-            record,
-        })
-    }
-
-    fn name(&self, column: usize) -> Result<String, Box<dyn Error>> {
-        let list = names(&self.event, POST_HEADER, self.dialect)?.ok_or("a map has no names")?;
-        Ok(String::from_utf8_lossy(name(list, &[], column)?).into_owned())
-    }
-}
-
-/// The columns, with their real types, and whether they are known to be unsigned.
+/// The columns, with their real types, the strings of an ENUM or SET, and whether they are known to be unsigned and cannot be NULL.
 fn print_columns(table: &Table) -> Result<(), Box<dyn Error>> {
     let mut words = Vec::new();
-    for i in 0..table.record.columns() {
-        let column = table.record.column(i)?;
+    for (i, told) in table.columns().enumerate() {
+        let column = told.column;
+        let strings = told.strings.map(|group| shown_strings(group.strings()));
         let sign = if column.unsigned { " unsigned" } else { "" };
-        words.push(format!("{} {}{sign}", table.name(i)?, column.real_type));
+        let null = if column.nullable { "" } else { " not null" };
+        words.push(format!(
+            "{} {}{}{sign}{null}",
+            name(table, i)?,
+            column.real_type,
+            strings.unwrap_or_default()
+        ));
     }
     println!("{}", words.join(" | "));
     Ok(())
 }
 
-fn print_row(columns: usize, values: &[(usize, Value)]) {
-    let mut words = vec!["absent".to_string(); columns];
-    for (column, value) in values {
-        words[*column] = shown(value);
+/// The columns of the primary key, those with a prefix with its length.
+fn print_key(table: &Table) -> Result<(), Box<dyn Error>> {
+    let mut words = Vec::new();
+    for key in table.primary_key() {
+        let prefix = key.prefix.map(|length| format!("({length})"));
+        words.push(name(table, key.column)? + &prefix.unwrap_or_default());
     }
-    println!("{}", words.join(" | "));
+    if !words.is_empty() {
+        println!("  key {}", words.join(", "));
+    }
+    Ok(())
+}
+
+fn print_row(table: &Table, values: &[(usize, Value)]) {
+    let words = table.columns().enumerate().map(|(i, told)| {
+        let found = values.iter().find(|(column, _)| *column == i);
+        found.map_or("absent".to_string(), |(_, value)| shown(&told, value))
+    });
+    println!("{}", words.collect::<Vec<_>>().join(" | "));
 }
 
 /// Whether two images of so many present columns are the same but for the spare bits in the last byte of their null bits.
@@ -117,15 +136,11 @@ fn same_row(a: &[u8], b: &[u8], present: usize) -> bool {
     a.len() == b.len() && (0..a.len()).all(|i| a[i] & mask(i) == b[i] & mask(i))
 }
 
-fn do_row(
-    record: &Record,
-    presence: &[u8],
-    image: &[u8],
-    show: bool,
-) -> Result<(), Box<dyn Error>> {
+fn do_row(table: &Table, presence: &[u8], image: &[u8], show: bool) -> Result<(), Box<dyn Error>> {
+    let record = table.record();
     let mut row = record.row(presence, image)?;
     let values = row.by_ref().collect::<Result<Vec<_>, _>>()?;
-    print_row(record.columns(), &values);
+    print_row(table, &values);
     if row.bytes_used() != Some(image.len()) {
         return Err("the row does not take its whole image".into());
     }
@@ -146,7 +161,12 @@ fn print_image(table: &Table, image: &Image, what: &str) -> Result<(), Box<dyn E
     let mut words = Vec::new();
     for item in image.values()? {
         let (column, value) = item?;
-        words.push(format!("{} = {}", table.name(column)?, shown(&value)));
+        let told = table.column(column).ok_or("there is no such column")?;
+        words.push(format!(
+            "{} = {}",
+            name(table, column)?,
+            shown(&told, &value)
+        ));
     }
     println!("  {what:6} {}", words.join(", "));
     Ok(())
@@ -154,8 +174,8 @@ fn print_image(table: &Table, image: &Image, what: &str) -> Result<(), Box<dyn E
 
 /// A rows event: its body, without header and checksum.
 fn do_event(table: &Table, code: u8, body: &[u8]) -> Result<(), Box<dyn Error>> {
-    let whose = map(&table.event, POST_HEADER)?;
-    let event = table.record.rows_event(code, whose.id, body)?;
+    let whose = table.map();
+    let event = table.rows_event(code, body)?;
     let [database, name] = [whose.database, whose.table].map(String::from_utf8_lossy);
     println!("event {code} of {database}.{name}");
     for row in event.rows() {
@@ -192,15 +212,16 @@ fn run() -> Result<(), Box<dyn Error>> {
             (Some(word), _) if word.starts_with('#') => {}
             (Some("server"), _) => dialect = dialect_of(words.next())?,
             (Some("map"), _) => {
-                let checked = Table::new(from_hex(words.next())?, dialect)?;
+                let checked = feed::table(from_hex(words.next())?, POST_HEADER, dialect)?;
                 print_columns(&checked)?;
+                print_key(&checked)?;
                 table = Some(checked);
                 first = true;
             }
             (Some("row"), Some(table)) => {
                 let presence = from_hex(words.next())?;
                 let image = from_hex(words.next())?;
-                do_row(&table.record, &presence, &image, first)?;
+                do_row(table, &presence, &image, first)?;
                 first = false;
                 rows += 1;
             }

@@ -130,6 +130,42 @@ extern "C" {
         out_length: usize,
     ) -> u64;
 
+    fn feed_parts(
+        event: *const u8,
+        event_length: usize,
+        post_header: u8,
+        out: *mut u64,
+        out_length: usize,
+    ) -> u64;
+
+    fn feed_fields(
+        event: *const u8,
+        event_length: usize,
+        post_header: u8,
+        dialect: u8,
+        out: *mut u64,
+        out_length: usize,
+    ) -> u64;
+
+    fn feed_field(
+        event: *const u8,
+        event_length: usize,
+        offset: usize,
+        numeric: usize,
+        columns: usize,
+        out: *mut u64,
+        out_length: usize,
+    ) -> u64;
+
+    fn feed_item(
+        list: u64,
+        value: *const u8,
+        value_length: usize,
+        offset: usize,
+        out: *mut u64,
+        out_length: usize,
+    ) -> u64;
+
     fn feed_rows(
         code: u64,
         profile: *const u8,
@@ -357,6 +393,71 @@ pub(crate) fn name(names: &[u8], fallback: &[u8], column: usize) -> Result<Answe
     answered(status, out)
 }
 
+pub(crate) fn parts(event: &[u8], post_header: u8) -> Result<Answer, Refusal> {
+    let mut out = [0; NUMBERS];
+    let status = unsafe {
+        feed_parts(
+            event.as_ptr(),
+            event.len(),
+            post_header,
+            out.as_mut_ptr(),
+            out.len(),
+        )
+    };
+    answered(status, out)
+}
+
+pub(crate) fn fields(event: &[u8], post_header: u8, dialect: u8) -> Result<Answer, Refusal> {
+    let mut out = [0; NUMBERS];
+    let status = unsafe {
+        feed_fields(
+            event.as_ptr(),
+            event.len(),
+            post_header,
+            dialect,
+            out.as_mut_ptr(),
+            out.len(),
+        )
+    };
+    answered(status, out)
+}
+
+pub(crate) fn field(
+    event: &[u8],
+    offset: usize,
+    numeric: usize,
+    columns: usize,
+) -> Result<Answer, Refusal> {
+    let mut out = [0; NUMBERS];
+    let status = unsafe {
+        feed_field(
+            event.as_ptr(),
+            event.len(),
+            offset,
+            numeric,
+            columns,
+            out.as_mut_ptr(),
+            out.len(),
+        )
+    };
+    answered(status, out)
+}
+
+pub(crate) fn item(list: u64, value: &[u8], offset: usize) -> Result<Answer, Refusal> {
+    let mut out = [0; NUMBERS];
+    let status = unsafe {
+        feed_item(
+            list,
+            value.as_ptr(),
+            value.len(),
+            offset,
+            out.as_mut_ptr(),
+            out.len(),
+        )
+    };
+    answered(status, out)
+}
+
 pub(crate) fn rows(code: u64, profile: &[u8], table: u64, event: &[u8]) -> Result<Answer, Refusal> {
     let mut out = [0; NUMBERS];
     let status = unsafe {
@@ -407,9 +508,5 @@ fn answered(status: u64, out: Answer) -> Result<Answer, Refusal> {
     if status == 0 {
         return Ok(out);
     }
-    Err(Refusal {
-        number: status,
-        place: out[0],
-        part: out[1],
-    })
+    Err(Refusal::of(status, out[0], out[1]))
 }

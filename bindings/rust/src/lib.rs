@@ -3,9 +3,10 @@
 //! An event is given WITHOUT its header of 19 bytes and WITHOUT its checksum. No call can tell a checksum from rows: left on, it is read as
 //! rows, and [`RowsEvent`] shows what comes of it.
 //!
-//! A map is checked once, which gives its [`Record`]; [`map`] tells whose it is. With the record and the map's table id, rows events are read
-//! row by row ([`Record::rows_event`]). Row images are read value by value ([`Record::row`]) and written ([`Record::write_row`]). Every call
-//! answers or refuses; none panics, whatever bytes it is given.
+//! A map is checked once. [`table`] gives a [`Table`]: whose map it is, its columns with their names and types, the strings of ENUM and SET
+//! columns, the primary key, and its [`Record`]. [`check`] gives the record alone, which may be stored. With a table, or a record and the
+//! map's table id, rows events are read row by row ([`Table::rows_event`], [`Record::rows_event`]). Row images are read value by value
+//! ([`Record::row`]) and written ([`Record::write_row`]). Every call answers or refuses; none panics, whatever bytes it is given.
 //!
 //! The library is proved; this crate is not. It is for x86-64 Linux, as the library is. docs/ABI.md tells what each refusal means.
 #![warn(missing_docs)]
@@ -14,124 +15,25 @@
 #[allow(unsafe_code)]
 mod abi;
 mod event;
+mod fields;
 mod plan;
+pub mod refusal;
 mod row;
+mod table;
+mod types;
 mod value;
 
 pub use event::{code, ChangedRow, Image, Rows, RowsEvent};
+pub use fields::{field_type, fields, groups, integers, pairs, strings};
+pub use fields::{Field, Fields, Group, Groups, Integers, Pairs, Strings};
+pub use refusal::{Part, Refusal};
 pub use row::Row;
+pub use table::{table, KeyPart, Table, TableColumn};
+pub use types::{ColumnType, GeometryType};
 pub use value::Value;
 
+use abi::Answer;
 use plan::Plans;
-use std::error::Error;
-use std::fmt;
-
-/// The numbers of refusals.
-pub mod refusal {
-    /// Bytes end inside a part of the event, an optional field, or an item of a list. Place: its first byte, or its length's.
-    pub const SHORT: u64 = 1;
-    /// First byte 251 or 255 of a packed integer. Place: that byte.
-    pub const NOT_PACKED: u64 = 2;
-    /// More than 4,096 columns. Place: 0.
-    pub const TOO_MANY_COLUMNS: u64 = 3;
-    /// A column type that is not taken. Place: the column.
-    pub const TYPE_NOT_TAKEN: u64 = 4;
-    /// Metadata short, not accepted, or left over. Place: the column, or the number of columns if left over.
-    pub const BAD_METADATA: u64 = 5;
-    /// An optional field of unknown type. Place: its type byte.
-    pub const UNKNOWN_FIELD: u64 = 6;
-    /// Contents of an optional field break a rule. Place: its type byte, or the repeated key.
-    pub const BAD_FIELD: u64 = 7;
-    /// A lent buffer is too small. Place: 0. The crate lends enough.
-    pub const NO_ROOM: u64 = 8;
-    /// The image ends early. Place: the column, or 0 in the null bits.
-    pub const IMAGE_SHORT: u64 = 9;
-    /// A part of a date or time is out of range. Place: the column. Part: the first such one, a number of [`part`](crate::part).
-    pub const OUT_OF_RANGE: u64 = 10;
-    /// The record is not valid. Place: 0.
-    pub const BAD_RECORD: u64 = 11;
-    /// Presence bits have the wrong length, or there are more or fewer values than present columns. Place: 0.
-    pub const BAD_BITS: u64 = 12;
-    /// A value that the column cannot hold. Place: the column, or 0 if no column can.
-    pub const NOT_TAKEN: u64 = 13;
-    /// There is no such column. Place: the column asked.
-    pub const NO_COLUMN: u64 = 14;
-    /// The length of a rows event's extra data is below 2. Place: where that length stands, 8.
-    pub const BAD_EXTRA: u64 = 15;
-    /// A rows event of another code, another table id, or another number of columns. Place: 0 for code and table id, else where the event's column count stands.
-    pub const OTHER_EVENT: u64 = 16;
-}
-
-/// The parts of dates and times that a refusal can name. A datetime below zero is told first, and then the others in their order.
-pub mod part {
-    /// The year, over 9999.
-    pub const YEAR: u64 = 1;
-    /// The month, over 12.
-    pub const MONTH: u64 = 2;
-    /// The day, over 31.
-    pub const DAY: u64 = 3;
-    /// The hour, over 23, or over 838 in a time.
-    pub const HOUR: u64 = 4;
-    /// The minute, over 59.
-    pub const MINUTE: u64 = 5;
-    /// The second, over 59.
-    pub const SECOND: u64 = 6;
-    /// The fraction of a second, of 1,000,000 microseconds or more.
-    pub const FRACTION: u64 = 7;
-    /// A datetime below zero.
-    pub const NEGATIVE: u64 = 8;
-}
-
-/// Why a call did not answer: a number of [`refusal`]; a place, which is an offset in the given bytes, a column counted from 0, or 0; and
-/// for a date or time that is out of range, which [`part`] of it is.
-#[derive(Clone, Copy, Debug, PartialEq, Eq)]
-pub struct Refusal {
-    /// Which rule was broken.
-    pub number: u64,
-    /// Where.
-    pub place: u64,
-    /// The first part out of range, if the number is [`refusal::OUT_OF_RANGE`]; else 0.
-    pub part: u64,
-}
-
-impl Refusal {
-    /// A refusal that names no part.
-    const fn at(number: u64, place: u64) -> Refusal {
-        Refusal {
-            number,
-            place,
-            part: 0,
-        }
-    }
-
-    /// The part in words, if the refusal names one.
-    pub fn part_name(&self) -> Option<&'static str> {
-        Some(match self.part {
-            part::YEAR => "year",
-            part::MONTH => "month",
-            part::DAY => "day",
-            part::HOUR => "hour",
-            part::MINUTE => "minute",
-            part::SECOND => "second",
-            part::FRACTION => "fraction",
-            part::NEGATIVE => "negative datetime",
-            _ => return None,
-        })
-    }
-}
-
-/// `refused`, number, place and part, and behind them the part in words: `refused 10 4 2 (month)`, and `refused 9 1 0`.
-impl fmt::Display for Refusal {
-    fn fmt(&self, f: &mut fmt::Formatter<'_>) -> fmt::Result {
-        write!(f, "refused {} {} {}", self.number, self.place, self.part)?;
-        match self.part_name() {
-            Some(name) => write!(f, " ({name})"),
-            None => Ok(()),
-        }
-    }
-}
-
-impl Error for Refusal {}
 
 /// Which columns a server counts where its map has a bit or a charset per column. Use the one of the server that wrote the map.
 #[derive(Clone, Copy, Debug, PartialEq, Eq)]
@@ -177,8 +79,8 @@ impl Record {
 /// One column of a record.
 #[derive(Clone, Copy, Debug, PartialEq, Eq)]
 pub struct Column {
-    /// The real type, as 247 for an ENUM, whatever type byte the map has for it.
-    pub real_type: u8,
+    /// The real type, as ENUM, whatever type byte the map has for it.
+    pub real_type: ColumnType,
     /// Only if `sign_known`.
     pub unsigned: bool,
     /// Whether the column may hold NULL.
@@ -195,7 +97,7 @@ pub struct Column {
     pub charset: u16,
 }
 
-/// Whose map a table map event is.
+/// Whose map a table map event is, and the bytes that it has for its columns. They are not judged; [`check`] does that.
 #[derive(Clone, Copy, Debug, PartialEq, Eq)]
 pub struct Map<'a> {
     /// The table id, which rows events of the table have too.
@@ -206,17 +108,43 @@ pub struct Map<'a> {
     pub database: &'a [u8],
     /// The name of the table, as a part of the event.
     pub table: &'a [u8],
+    /// A type byte for each column, as the map has it: 254 for an ENUM or SET, whose real type is in the metadata.
+    pub types: &'a [u8],
+    /// The metadata of the columns, one behind the other: as many bytes for each as its type has.
+    pub metadata: &'a [u8],
+    /// A bit for each column, lowest first, set if it can be NULL. [`Map::is_nullable`] looks one up.
+    pub nullable: &'a [u8],
+    /// The optional fields. [`fields`] walks over them.
+    pub optional: &'a [u8],
 }
 
-/// Tells whose map it is. `event` and `post_header` are as for [`check`].
+/// Tells whose map it is, and where the bytes for its columns stand. `event` and `post_header` are as for [`check`].
 pub fn map(event: &[u8], post_header: u8) -> Result<Map<'_>, Refusal> {
-    let out = abi::map(event, post_header)?;
-    Ok(Map {
-        id: out[0],
-        flags: out[1] as u16,
-        database: cut(event, out[2], out[3]).unwrap_or(&[]),
-        table: cut(event, out[4], out[5]).unwrap_or(&[]),
-    })
+    let whose = abi::map(event, post_header)?;
+    let parts = abi::parts(event, post_header)?;
+    Ok(Map::told(event, &whose, &parts))
+}
+
+impl<'a> Map<'a> {
+    /// What the library told of an event: whose it is, and its parts.
+    fn told(event: &'a [u8], whose: &Answer, parts: &Answer) -> Map<'a> {
+        let part = |start, length| cut(event, start, length).unwrap_or(&[]);
+        Map {
+            id: whose[0],
+            flags: whose[1] as u16,
+            database: part(whose[2], whose[3]),
+            table: part(whose[4], whose[5]),
+            types: part(parts[0], parts[1]),
+            metadata: part(parts[2], parts[3]),
+            nullable: part(parts[4], parts[5]),
+            optional: part(parts[6], parts[7]),
+        }
+    }
+
+    /// Whether a column can be NULL, counted from 0; not so for one that there is not.
+    pub fn is_nullable(&self, column: usize) -> bool {
+        column < self.types.len() && plan::is_set(self.nullable, column)
+    }
 }
 
 /// Checks the body of a table map event: what follows the 19-byte event header, without a checksum. `post_header` is the event's post-header
@@ -233,7 +161,7 @@ impl Record {
     pub fn from_bytes(bytes: Vec<u8>) -> Result<Record, Refusal> {
         // no record has this column, so a valid one is refused with 14
         match abi::column(&bytes, usize::MAX) {
-            Err(why) if why.number != refusal::NO_COLUMN => Err(why),
+            Err(why) if why.number() != refusal::NO_COLUMN => Err(why),
             _ => Ok(Record::of(bytes)),
         }
     }
@@ -252,8 +180,10 @@ impl Record {
     pub fn column(&self, column: usize) -> Result<Column, Refusal> {
         let out = abi::column(&self.bytes, column)?;
         let flags = out[1];
+        // a valid record has only types that there are
+        let real_type = ColumnType::from_number(out[0] as u8);
         Ok(Column {
-            real_type: out[0] as u8,
+            real_type: real_type.ok_or(Refusal::TypeNotTaken { column })?,
             unsigned: flags & 1 != 0,
             nullable: flags & 2 != 0,
             sign_known: flags & 4 != 0,

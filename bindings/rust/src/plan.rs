@@ -74,7 +74,7 @@ impl Plans {
     }
 }
 
-/// Whether a bit is set, counted from the lowest.
+/// Whether bit `at` is set, from the lowest of the first byte on; one past the bytes is not.
 pub(crate) fn is_set(bits: &[u8], at: usize) -> bool {
     bits.get(at / 8)
         .is_some_and(|byte| byte >> (at % 8) & 1 == 1)

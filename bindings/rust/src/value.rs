@@ -3,8 +3,10 @@
 use crate::abi::Taken;
 use crate::cut;
 
-/// One value of a column. Strings, BLOB, SET, BIT, DECIMAL, JSON, geometry and VECTOR are bytes, as the server stored them.
+/// One value of a column. Strings, BLOB, SET, BIT, DECIMAL, JSON, geometry and VECTOR are bytes, as the server stored them. The strings of
+/// an ENUM's number and of a SET's bytes are in [`TableColumn::strings`](crate::TableColumn::strings).
 #[derive(Clone, Copy, Debug, PartialEq)]
+#[non_exhaustive]
 pub enum Value<'a> {
     /// NULL.
     Null,

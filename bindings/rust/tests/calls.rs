@@ -1,8 +1,8 @@
 //! The calls of the crate, on the worked readings of the specification, on maps that a server logged, and on bytes that are refused.
 
 use feed::{
-    check, code, column_name, map, name, names, part, refusal, Column, Dialect, Image, Map, Record,
-    Refusal, Value,
+    check, code, column_name, map, name, names, refusal, Column, ColumnType, Dialect, Image, Map,
+    Part, Record, Refusal, Value,
 };
 
 // three columns: INT, VARCHAR(20), TINYINT UNSIGNED
@@ -32,19 +32,11 @@ fn record() -> Record {
 }
 
 fn refused<T>(number: u64, place: u64) -> Result<T, Refusal> {
-    Err(Refusal {
-        number,
-        place,
-        part: 0,
-    })
+    Err(Refusal::of(number, place, 0))
 }
 
-fn out_of_range<T>(place: u64, part: u64) -> Result<T, Refusal> {
-    Err(Refusal {
-        number: refusal::OUT_OF_RANGE,
-        place,
-        part,
-    })
+fn out_of_range<T>(column: usize, part: Part) -> Result<T, Refusal> {
+    Err(Refusal::OutOfRange { column, part })
 }
 
 #[test]
@@ -52,7 +44,7 @@ fn a_map_gives_its_record() {
     assert_eq!(record().as_bytes(), RECORD);
     assert_eq!(record().columns(), 3);
     let tiny = Column {
-        real_type: 1,
+        real_type: ColumnType::Tiny,
         unsigned: true,
         nullable: false,
         sign_known: true,
@@ -301,6 +293,10 @@ fn a_map_tells_whose_it_is() {
         flags: 1,
         database: b"t",
         table: b"r",
+        types: &[3, 15, 1],
+        metadata: &[20, 0],
+        nullable: &[2],
+        optional: &[1, 1, 0x40],
     };
     assert_eq!(map(EVENT, 8), Ok(whose));
     assert_eq!(map(&EVENT[..7], 8), refused(refusal::SHORT, 6));
@@ -431,7 +427,7 @@ fn a_map_of_many_columns_gives_a_record_of_kind_2() {
     assert_eq!(head(4097), refused(refusal::TOO_MANY_COLUMNS, 0));
     let record = check(&wide_map(900), 8, Dialect::Mysql).unwrap();
     assert_eq!(record.columns(), 900);
-    assert_eq!(record.column(899).unwrap().real_type, 1);
+    assert_eq!(record.column(899).unwrap().real_type, ColumnType::Tiny);
     assert_eq!(record.column(900), refused(refusal::NO_COLUMN, 900));
     assert_eq!(Record::from_bytes(record.as_bytes().to_vec()), Ok(record));
     // a kind 2 of so few columns is no record
@@ -473,29 +469,29 @@ fn lone(real_type: u8, m0: u8, stored: &[u8]) -> Result<(), Refusal> {
 #[test]
 fn the_first_part_out_of_range_is_named() {
     // DATE: the year 10000, the month 13, and both
-    assert_eq!(lone(14, 0, &[0, 0x20, 0x4e]), out_of_range(0, part::YEAR));
-    assert_eq!(lone(14, 0, &[0xa0, 1, 0]), out_of_range(0, part::MONTH));
+    assert_eq!(lone(14, 0, &[0, 0x20, 0x4e]), out_of_range(0, Part::Year));
+    assert_eq!(lone(14, 0, &[0xa0, 1, 0]), out_of_range(0, Part::Month));
     assert_eq!(
         lone(14, 0, &[0xa0, 0x21, 0x4e]),
-        out_of_range(0, part::YEAR)
+        out_of_range(0, Part::Year)
     );
     // DATETIME of old: the day 32
     let day = 32_000_000u64.to_le_bytes();
-    assert_eq!(lone(12, 0, &day), out_of_range(0, part::DAY));
+    assert_eq!(lone(12, 0, &day), out_of_range(0, Part::Day));
     // TIME: 839 hours, 60 minutes, 60 seconds, the last two together, and a second less 1,000,000 microseconds below zero
-    assert_eq!(lone(19, 0, &[0xb4, 0x70, 0]), out_of_range(0, part::HOUR));
-    assert_eq!(lone(19, 0, &[0x80, 0x0f, 0]), out_of_range(0, part::MINUTE));
-    assert_eq!(lone(19, 0, &[0x80, 0, 0x3c]), out_of_range(0, part::SECOND));
+    assert_eq!(lone(19, 0, &[0xb4, 0x70, 0]), out_of_range(0, Part::Hour));
+    assert_eq!(lone(19, 0, &[0x80, 0x0f, 0]), out_of_range(0, Part::Minute));
+    assert_eq!(lone(19, 0, &[0x80, 0, 0x3c]), out_of_range(0, Part::Second));
     assert_eq!(
         lone(19, 0, &[0x80, 0x0f, 0x3c]),
-        out_of_range(0, part::MINUTE)
+        out_of_range(0, Part::Minute)
     );
     assert_eq!(
         lone(19, 2, &[0x7f, 0xff, 0xff, 0x9c]),
-        out_of_range(0, part::FRACTION)
+        out_of_range(0, Part::Fraction)
     );
     // DATETIME below zero, whatever its other parts are
-    assert_eq!(lone(18, 0, &[0; 5]), out_of_range(0, part::NEGATIVE));
+    assert_eq!(lone(18, 0, &[0; 5]), out_of_range(0, Part::Negative));
     // bytes that are missing come first
     assert_eq!(lone(14, 0, &[0xa0, 1]), refused(refusal::IMAGE_SHORT, 0));
 }
@@ -510,8 +506,8 @@ fn a_part_is_passed_on_by_images_and_rows_events() {
     let month = [0, 0xa0, 1, 0, 0x7f, 0xff, 0xff, 0x9c];
     let fraction = [0, 0x21, 0, 0, 0x7f, 0xff, 0xff, 0x9c];
     let last = |image| record.row(&[3], image).unwrap().last().unwrap();
-    assert_eq!(last(&month), out_of_range(0, part::MONTH));
-    assert_eq!(last(&fraction), out_of_range(1, part::FRACTION));
+    assert_eq!(last(&month), out_of_range(0, Part::Month));
+    assert_eq!(last(&fraction), out_of_range(1, Part::Fraction));
     let head = [0x2a, 0, 0, 0, 0, 0, 1, 0, 2, 0, 2, 3];
     let good = [0, 0x21, 0, 0, 0x80, 0, 0, 0];
     let body = [&head[..], &good, &fraction].concat();
@@ -520,7 +516,7 @@ fn a_part_is_passed_on_by_images_and_rows_events() {
     assert!(rows.next().unwrap().is_ok());
     assert_eq!(
         rows.next().unwrap().err(),
-        out_of_range::<()>(1, part::FRACTION).err()
+        out_of_range::<()>(1, Part::Fraction).err()
     );
     assert!(rows.next().is_none());
 }
@@ -539,21 +535,44 @@ fn a_writer_names_no_part() {
 }
 
 #[test]
-fn a_refusal_tells_its_part_in_words() {
-    let told = |number, place, part| {
-        let refusal = Refusal {
-            number,
-            place,
-            part,
-        };
-        refusal.to_string()
+fn a_refusal_is_a_sentence_with_its_number() {
+    let month = Refusal::OutOfRange {
+        column: 4,
+        part: Part::Month,
     };
-    assert_eq!(told(refusal::OUT_OF_RANGE, 4, 2), "refused 10 4 2 (month)");
-    assert_eq!(
-        told(refusal::OUT_OF_RANGE, 0, 8),
-        "refused 10 0 8 (negative datetime)"
-    );
-    assert_eq!(told(refusal::IMAGE_SHORT, 1, 0), "refused 9 1 0");
+    assert_eq!((month.number(), month.place(), month.part()), (10, 4, 2));
+    let texts = [
+        (
+            Refusal::of(1, 14, 0),
+            "the bytes end inside what starts at byte 14 (refusal 1)",
+        ),
+        (
+            Refusal::of(7, 9, 0),
+            "the optional field or key at byte 9 breaks a rule (refusal 7)",
+        ),
+        (
+            Refusal::of(9, 1, 0),
+            "the image ends early, or has bytes left over, at column 1 (refusal 9)",
+        ),
+        (month, "the month of column 4 is out of range (refusal 10)"),
+        (
+            Refusal::of(10, 0, 8),
+            "the datetime of column 0 is below zero (refusal 10)",
+        ),
+        (
+            Refusal::of(11, 0, 0),
+            "the record is not valid (refusal 11)",
+        ),
+        (
+            Refusal::of(17, 3, 5),
+            "it was refused at 3, part 5 (refusal 17)",
+        ),
+    ];
+    for (refusal, text) in texts {
+        assert_eq!(refusal.to_string(), text);
+    }
+    let source: &dyn std::error::Error = &month;
+    assert!(source.source().is_none());
     let names = [
         "year",
         "month",
@@ -565,13 +584,32 @@ fn a_refusal_tells_its_part_in_words() {
         "negative datetime",
     ];
     for (part, name) in (1..).zip(names) {
-        let why = out_of_range::<()>(0, part).unwrap_err();
-        assert_eq!(why.part_name(), Some(name));
+        match Refusal::of(refusal::OUT_OF_RANGE, 0, part) {
+            Refusal::OutOfRange { column: 0, part } => assert_eq!(part.to_string(), name),
+            other => panic!("{other:?}"),
+        }
     }
-    for part in [0, 9, u64::MAX] {
-        let why = out_of_range::<()>(0, part).unwrap_err();
-        assert_eq!(why.part_name(), None);
+}
+
+#[test]
+fn whatever_the_numbers_are_a_refusal_has_them() {
+    let mut texts = std::collections::HashSet::new();
+    for number in 0..=18 {
+        for place in [0, 1, 8, u64::MAX] {
+            for part in [0, 1, 8, 9, u64::MAX] {
+                let refusal = Refusal::of(number, place, part);
+                let told = (refusal.number(), refusal.place() as u64, refusal.part());
+                assert_eq!(told, (number, place, part));
+                texts.insert(refusal.to_string());
+            }
+        }
+        // every number that is known has a name of its own, where place and part are as the library tells them
+        let part = u64::from(number == refusal::OUT_OF_RANGE);
+        let named = !matches!(Refusal::of(number, 0, part), Refusal::Other { .. });
+        assert_eq!(named, (1..=16).contains(&number), "{number}");
     }
+    // and no two say the same
+    assert_eq!(texts.len(), 19 * 4 * 5);
 }
 
 #[test]

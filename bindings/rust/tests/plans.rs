@@ -1,6 +1,6 @@
 //! Rows read by plans: what the crate gives, and what the two calls that it stands on leave, against the steps over the same images.
 
-use feed::{code, refusal, Record, Refusal, Value};
+use feed::{code, refusal, Part, Record, Refusal, Value};
 
 // the crate has built the library in; these are calls as a program in C makes them
 extern "C" {
@@ -57,11 +57,7 @@ type Numbers = [u64; 11];
 fn answered(status: u64, out: Numbers) -> Result<Numbers, Refusal> {
     match status {
         0 => Ok(out),
-        number => Err(Refusal {
-            number,
-            place: out[0],
-            part: out[1],
-        }),
+        number => Err(Refusal::of(number, out[0], out[1])),
     }
 }
 
@@ -349,10 +345,9 @@ fn a_refusal_inside_a_row_comes_behind_the_values_before_it() {
     let columns: Vec<_> = values.iter().map(|value| value.0).collect();
     assert_eq!(columns, [&[0, 1, 2][..], &Vec::from_iter(4..25)].concat());
     assert_eq!(values[3].1, [1, 0, 0, 0, 0, 0, 0, 0]);
-    let month = Refusal {
-        number: refusal::OUT_OF_RANGE,
-        place: 25,
-        part: 2,
+    let month = Refusal::OutOfRange {
+        column: 25,
+        part: Part::Month,
     };
     assert_eq!(why, Err(month));
     // a run stores what stands before it, and is refused where it stands
@@ -421,13 +416,7 @@ fn a_run_goes_on_through_the_images() {
 
 #[test]
 fn a_made_up_plan_is_read_as_it_stands() {
-    let refused = |number, place| {
-        Err(Refusal {
-            number,
-            place,
-            part: 0,
-        })
-    };
+    let refused = |number, place| Err(Refusal::of(number, place, 0));
     let byte = |n| [3, n, 0, 0, 0, 0, 0, 0];
     // two unsigned bytes said to be the columns 700 and 9; the byte behind the last whole item is none
     let plan = [2, 0xbc, 2, 2, 9, 0, 77];
@@ -475,17 +464,13 @@ fn a_made_up_plan_is_read_as_it_stands() {
 #[test]
 fn room_that_is_missing_is_told() {
     let record = many_forms();
-    let no_room = Refusal {
-        number: refusal::NO_ROOM,
-        place: 0,
-        part: 0,
-    };
+    let no_room = Refusal::NoRoom;
     let all = [0xff; 3];
     assert_eq!(plan(&record, &all, 3 * 20 - 1), Err(no_room));
     assert_eq!(plan(&record, &all, 3 * 20).unwrap().len(), 3 * 20);
     assert_eq!(plan(&record, &[1, 0, 0], 3).unwrap().len(), 3);
     let bad = plan(&record, &[0xff; 2], 60).unwrap_err();
-    assert_eq!(bad.number, refusal::BAD_BITS);
+    assert_eq!(bad, Refusal::BadBits);
     // room for no value, and no room for the answer: nothing is changed
     let plan = [2, 0, 0];
     assert_eq!(run(&plan, &[0, 1], (0, 0, 1), 0), Err(no_room));
@@ -525,5 +510,5 @@ fn presence_bits_may_change_with_every_row() {
     assert_eq!(none.count(), 0);
     assert_eq!(same_as_steps(&record, &[0; 3], &[]), (vec![], Ok(0)));
     let wrong = record.row(&[0; 2], &image).unwrap_err();
-    assert_eq!(wrong.number, refusal::BAD_BITS);
+    assert_eq!(wrong, Refusal::BadBits);
 }

@@ -12,8 +12,13 @@ use Rattle.wire.specs.Stored.{stored, answerOf, leftOf}
 use Rattle.wire.proofs.Outcomes.{ok-not-refused, same-ok, same-refused}
 use Rattle.wire.proofs.Stores.{stored-stored}
 use Rattle.wire.specs.declared.part.Part.{Part}
+use Rattle.wire.specs.Parts.{lentPart}
 use Rattle.value.specs.declared.classes.Dialect.{Dialect}
+use Rattle.table_map.specs.declared.event.Event.{Event}
+use Rattle.table_map.specs.declared.field.Fields.{Fields}
+use Rattle.table_map.specs.Events.{readEvent}
 use Rattle.record.specs.Records.{entryIn, readRecord}
+use Rattle.map_check.specs.Fields.{fieldsAt}
 use Rattle.map_check.specs.Names.{namesField}
 use Rattle.rows_event.specs.declared.parts.Second.{Second}
 use Rattle.rows_event.specs.declared.event.Rows.{Rows}
@@ -23,6 +28,7 @@ use Rattle.feed_abi.specs.Answers.{answerNumber, answerNumbers, statusOf
 use Rattle.image.specs.Split.{ColumnStepped}
 use Rattle.feed_abi.specs.Calls.{said, saidWith, entryNumbers, namesGiven, givenNumbers, toldNumbers, Held, setsAsked, dialectOf}
 use Rattle.feed_abi.specs.Calls.{feedColumn, feedNames}
+use Rattle.feed_abi.specs.Fields.{fieldsNumbers, feedFields}
 
 -- the status s and the numbers x that a call leaves
 abbrev pub Tells : ℕ → List ℕ → Outcome (List ℕ) → ℕ → List ℕ → Type 0
@@ -63,6 +69,13 @@ pub said-refused : {A : Type 0} (k : ℕ) (out : List ℕ) (f : A → List ℕ) 
     → o ≡ refused r → s ≡ r .number
     → x ≡ stored (r .place ∷ r .part ∷ []) out 0 → Tells k out (said f o) s x
 said-refused k out f o r s x h e p q = tells-refused k out (said f o) r s x h (rw e) p q
+
+-- of a call that tells what another answered
+pub tells-told : (k : ℕ) (out : List ℕ) (o a : Outcome (List ℕ)) (s : ℕ) (x : List ℕ) → k ≤ length out → a ≡ o → s ≡ answerNumber a
+    → x ≡ stored (answerNumbers a) out 0
+    → Tells k out o s x
+unfolding statusOf numbersLeft
+tells-told k out o a s x h e p q = rw (le-leb k (length out) h, sym e) (p, q)
 
 -- ---- a writer w, whose answer is said in numbers
 pub wrote-ok : {A : Type 0} (k : ℕ) (out buf : List ℕ) (f : A → List ℕ) (w : Outcome (A × List ℕ)) (o : Outcome (List ℕ × List ℕ)) (a : A)
@@ -124,6 +137,24 @@ names-asked event postHeader n d o e g =
 pub no-dialect : (event : List ℕ) (postHeader n : ℕ) (r : Refusal) → dialectOf n ≡ refused r → feedNames event postHeader n ≡ refused r
 unfolding feedNames
 no-dialect event postHeader n r e = rw e
+
+-- ---- the cursor of a map's fields, asked in the dialect of a number
+pub fields-asked : (event : List ℕ) (postHeader n : ℕ) (d : Dialect) (e : Event) (types : List ℕ) (c : Fields) → dialectOf n ≡ ok d
+    → readEvent event postHeader ≡ ok e → types ≡ lentPart event (e .types) → c ≡ fieldsAt d types (e .optional .start)
+    → feedFields event postHeader n ≡ ok (fieldsNumbers c)
+unfolding feedFields
+fields-asked event postHeader n d e types c g h t f = rw (g, h, f, t)
+
+pub fields-not-read : (event : List ℕ) (postHeader n : ℕ) (d : Dialect) (r : Refusal) → dialectOf n ≡ ok d
+    → readEvent event postHeader ≡ refused r
+    → feedFields event postHeader n ≡ refused r
+unfolding feedFields
+fields-not-read event postHeader n d r g h = rw (g, h)
+
+pub fields-no-dialect : (event : List ℕ) (postHeader n : ℕ) (r : Refusal) → dialectOf n ≡ refused r
+    → feedFields event postHeader n ≡ refused r
+unfolding feedFields
+fields-no-dialect event postHeader n r e = rw e
 
 -- ---- a step, which says too that a value told is one that the machine can hold
 abbrev Steps : List ℕ → Outcome ColumnStepped → ℕ → List ℕ → Type 0

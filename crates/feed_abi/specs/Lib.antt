@@ -1,5 +1,7 @@
 -- The definitions of the crate: what people must believe. `Answers`: what every call leaves. `Calls`: what each call answers, over the rule
--- of the call of the library. `Inner`: what the crate's own functions go by, which nobody need believe.
+-- of the call of the library. `Fields`: the same of the calls over a map's parts, optional fields and lists. `Inner`: what the crate's own
+-- functions go by, which nobody need believe.
 pub mod Answers
 pub mod Calls
+pub mod Fields
 pub mod Inner

@@ -2,12 +2,17 @@
 // of numbers. Each stands over one call of the library.
 mod answer;
 mod events;
+mod fields;
 mod maps;
 mod plans;
 mod rows;
 
 pub use events::feed_image;
 pub use events::feed_rows;
+pub use fields::feed_field;
+pub use fields::feed_fields;
+pub use fields::feed_item;
+pub use fields::feed_parts;
 pub use maps::feed_check;
 pub use maps::feed_column;
 pub use maps::feed_map;

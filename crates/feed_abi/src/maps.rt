@@ -26,12 +26,12 @@ ghost use Rattle.feed_abi.specs.Calls.{feedMap, feedCheck, feedColumn, f
 ghost use Rattle.feed_abi.specs.Inner.Calls.{askedTold};
 
 // The dialect that a number asks for.
-enum Asked {
+pub(crate) enum Asked {
     For(Dialect),
     Refused(Refusal),
 }
 
-fn dialect_of(number: u8) -> Asked
+pub(crate) fn dialect_of(number: u8) -> Asked
     ensures { λ r. ⌜ askedTold r ≡ dialectOf number ⌝ }
 {
     if number == 0 {

@@ -1,9 +1,9 @@
 -- Demand 1 for the calls of `feed_abi`, which programs in C make: which refusals each gives and at which places, and what that means to the
 -- caller, who sees a status, the numbers and the bytes lent. A call stands here by the answer that its contract hands to `statusOf`,
 -- `numbersLeft` and `bytesLeft`, whatever it is lent. `abi` in proofs/Demand1/Abi.antt proves all of it. Assumes nothing.
-use Prim.Native.Nat.{ℕ, _≤_, _<_}
+use Prim.Native.Nat.{ℕ, _+_, _≤_, _<_}
 use mathlib.Core.Path.{_≡_}
-use mathlib.Core.Bool.{true}
+use mathlib.Core.Bool.{true, false}
 use mathlib.Core.List.{List, [], _∷_, _++_}
 use mathlib.Core.Option.{none, some}
 use lib.ListN.{length, getD, take, drop}
@@ -16,6 +16,7 @@ use Rattle.value.specs.declared.classes.Dialect.{Dialect}
 use Rattle.value.specs.declared.datum.Value.{Value}
 use Rattle.value.specs.declared.datum.Value.the-variants.{Null}
 use Rattle.value_parts.specs.Parts.{topOfBits, valueOf, isHeld}
+use Rattle.table_map.specs.Layouts.{pairLayout, groupLayout}
 use Rattle.record.specs.declared.entry.Entry.{Entry}
 use Rattle.record.specs.Records.{countOf, entryAt}
 use Rattle.map_check.specs.Check.{checkMap}
@@ -27,7 +28,8 @@ use Rattle.row_plan.specs.Runs.{turned}
 use Rattle.feed_abi.specs.Answers.{statusOf, numbersLeft, bytesLeft}
 use Rattle.feed_abi.specs.Calls.{dialectOf, toldNumbers, feedMap, feedCheck, feedColumn, feedNames, feedName, feedFirst, feedStep}
 use Rattle.feed_abi.specs.Calls.{feedStart, feedPut, feedRows, feedImage, feedPlan, feedRun}
-use Rattle.promises.specs.Refusals.{Line, _at_, _below_, part-below, refusalNumbers, Only, eventLines, checkLines, nameLines}
+use Rattle.feed_abi.specs.Fields.{feedParts, feedFields, feedField, feedItem}
+use Rattle.promises.specs.Refusals.{Line, _at_, _below_, part-below, refusalNumbers, Only, laidOut, eventLines, checkLines, nameLines}
 use Rattle.promises.specs.Refusals.{namesLines, rowsLines, planLines}
 use Rattle.promises.specs.Buffers.{Touched}
 
@@ -61,6 +63,25 @@ pub record AbiCalls : Type 1 where
       → feedNames event postHeader dialect ≡ refuse 13 0
   -- `feed_name`: as `column_name`
   pub feed-name : (names operator : List ℕ) (column : ℕ) → Only (feedName names operator column) (nameLines (listOf names operator) column)
+  -- ---- what a map says beside its record
+  -- `feed_parts`: as `read_event`
+  pub feed-parts : (event : List ℕ) (postHeader : ℕ) → Only (feedParts event postHeader) (eventLines event postHeader)
+  -- `feed_fields`: as `read_event`; 13 for a number that is no dialect
+  pub feed-fields : (event : List ℕ) (postHeader dialect : ℕ) (d : Dialect) → dialectOf dialect ≡ ok d
+      → Only (feedFields event postHeader dialect) (eventLines event postHeader)
+  pub fields-no-dialect : (event : List ℕ) (postHeader dialect : ℕ) (w : Refusal) → dialectOf dialect ≡ refused w
+      → feedFields event postHeader dialect ≡ refuse 13 0
+  -- `feed_field`: as `Fields::next`
+  pub feed-field : (event : List ℕ) (offset numeric columns : ℕ)
+      → Only (feedField event offset numeric columns)
+      (1 at offset ∷ 1 at (offset + 1) ∷ 2 at (offset + 1) ∷ 6 at offset ∷ 7 at offset ∷ [])
+  -- `feed_item`: as `next` of `Integers`, `Pairs`, `Strings` and `Groups`, which are 1 to 4; 13 for any other number
+  pub integer-item : (value : List ℕ) (offset : ℕ) → Only (feedItem 1 value offset) (1 at offset ∷ 2 at offset ∷ [])
+  pub pair-item : (value : List ℕ) (offset : ℕ) → Only (feedItem 2 value offset) (laidOut value pairLayout offset)
+  pub string-item : (value : List ℕ) (offset : ℕ) → Only (feedItem 3 value offset) (1 at offset ∷ 2 at offset ∷ [])
+  pub group-item : (value : List ℕ) (offset : ℕ) → Only (feedItem 4 value offset) (laidOut value groupLayout offset)
+  pub no-list : (list : ℕ) (value : List ℕ) (offset : ℕ) → isAmong list (1 ∷ 2 ∷ 3 ∷ 4 ∷ []) ≡ false
+      → feedItem list value offset ≡ refuse 13 0
   -- ---- rows; `profile` is the record
   -- `feed_first`: as `first_cursor`
   pub feed-first : (profile presence : List ℕ) → Only (feedFirst profile presence) (11 at 0 ∷ 12 at 0 ∷ [])
@@ -131,6 +152,10 @@ pub record AbiCalls : Type 1 where
   pub column-five : (profile : List ℕ) (column : ℕ) → Counts 5 (feedColumn profile column)
   pub names-three : (event : List ℕ) (postHeader dialect : ℕ) → Counts 3 (feedNames event postHeader dialect)
   pub name-two : (names operator : List ℕ) (column : ℕ) → Counts 2 (feedName names operator column)
+  pub parts-eight : (event : List ℕ) (postHeader : ℕ) → Counts 8 (feedParts event postHeader)
+  pub fields-three : (event : List ℕ) (postHeader dialect : ℕ) → Counts 3 (feedFields event postHeader dialect)
+  pub field-five : (event : List ℕ) (offset numeric columns : ℕ) → Counts 5 (feedField event offset numeric columns)
+  pub item-four : (list : ℕ) (value : List ℕ) (offset : ℕ) → Counts 4 (feedItem list value offset)
   pub first-two : (profile presence : List ℕ) → Counts 2 (feedFirst profile presence)
   pub step-eleven : (profile presence image : List ℕ) (column offset : ℕ) → Counts 11 (feedStep profile presence image column offset)
   pub start-two : (profile presence nulls image : List ℕ) → Counts 2 (answerOf (feedStart profile presence nulls image))

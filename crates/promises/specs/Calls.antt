@@ -107,6 +107,10 @@ use Rattle.feed_abi.proofs.feed_check.Statement.{statement as of-feed-check}
 use Rattle.feed_abi.proofs.feed_column.Statement.{statement as of-feed-column}
 use Rattle.feed_abi.proofs.feed_names.Statement.{statement as of-feed-names}
 use Rattle.feed_abi.proofs.feed_name.Statement.{statement as of-feed-name}
+use Rattle.feed_abi.proofs.feed_parts.Statement.{statement as of-feed-parts}
+use Rattle.feed_abi.proofs.feed_fields.Statement.{statement as of-feed-fields}
+use Rattle.feed_abi.proofs.feed_field.Statement.{statement as of-feed-field}
+use Rattle.feed_abi.proofs.feed_item.Statement.{statement as of-feed-item}
 use Rattle.feed_abi.proofs.feed_first.Statement.{statement as of-feed-first}
 use Rattle.feed_abi.proofs.feed_step.Statement.{statement as of-feed-step}
 use Rattle.feed_abi.proofs.feed_start.Statement.{statement as of-feed-start}
@@ -234,6 +238,10 @@ pub record Calls : Type 2 where
   pub feed-column : Meets of-feed-column
   pub feed-names : Meets of-feed-names
   pub feed-name : Meets of-feed-name
+  pub feed-parts : Meets of-feed-parts
+  pub feed-fields : Meets of-feed-fields
+  pub feed-field : Meets of-feed-field
+  pub feed-item : Meets of-feed-item
   pub feed-first : Meets of-feed-first
   pub feed-step : Meets of-feed-step
   pub feed-start : Meets of-feed-start

@@ -1,5 +1,5 @@
 -- Demand 3, sentence by sentence, and the line that says it.
--- "What the map check passes, a row can rely on": `checks`, `named` and `relied-on`.
+-- "What the map check passes, a row can rely on": `checks`, `named`, `map-walks` and `relied-on`.
 -- "Under an accepted map's record and presence bits of its length, every image either yields one answer per present column, in order, each
 -- NULL or inside its column's domain, and laid end to end over the bytes reported used, or it is refused exactly where 01's split runs out
 -- of bytes or meets a temporal part out of range, the earlier deciding": `walked` and `exactly`; that the walk is the library's steps,
@@ -38,6 +38,7 @@ use Rattle.image.specs.Rows.{Row, inDomains, Says, WalkRefusal}
 use Rattle.image.specs.WriteRow.{LentValue, rowOf, Fit, writeRow, writeLeft, imageSize, Wrote, Stopped}
 use Rattle.promises.specs.Checks.{Checks}
 use Rattle.promises.specs.Names.{Named}
+use Rattle.promises.specs.MapWalks.{MapWalks}
 use Rattle.promises.specs.Values.{Within}
 
 -- a row as a program has it: each value within the bits of its parts, and beside it bytes, fewer than 2^32
@@ -81,6 +82,8 @@ pub record Demand3 : Type 0 where
   pub checks : Checks
   -- and the names of its columns are known
   pub named : Named
+  -- and by the calls for C its fields and their lists are met whole
+  pub map-walks : MapWalks
   -- under every valid record a row can rely on it
   pub relied : (profile : List ℕ) → recordValid profile ≡ true → Relied profile
   -- so under the record that the check left of a map, in whatever dialect

@@ -9,6 +9,7 @@ use Rattle.value.specs.declared.classes.Dialect.the-variants.{Document, Mysql, 
 use Rattle.feed_abi.specs.Answers.{statusOf, numbersLeft, bytesLeft}
 use Rattle.feed_abi.specs.Calls.{dialectOf, feedMap, feedCheck, feedColumn, feedNames, feedName, feedFirst, feedStep, feedStart, feedPut}
 use Rattle.feed_abi.specs.Calls.{feedRows, feedImage}
+use Rattle.feed_abi.specs.Fields.{feedParts, feedFields, feedField, feedItem}
 use Rattle.promises.specs.Tables.{EachRow, worked, workedEvent, workedImage}
 
 -- eleven columns: TINYINT, TINYINT UNSIGNED, FLOAT, DOUBLE, TIMESTAMP(6), YEAR, DATE, DATETIME(6), TIME(6), VARCHAR(276), TINYINT that may
@@ -114,10 +115,21 @@ tinyRecord = 0x0c ∷ 0x00 ∷ 0x01 ∷ 0x00 ∷ 0x01 ∷ 0x00 ∷ 0x01 ∷ 0x08
 abbrev pub imageFrom : ℕ → ℕ → ℕ → Outcome (List ℕ)
 imageFrom hasSecond offset second = feedImage tinyRecord update 11 1 hasSecond 12 1 offset second
 
--- an event of one INT column, with these optional bytes
+-- an event of one column of a type, with these optional bytes
+abbrev pub oneOf : ℕ → List ℕ → List ℕ
+oneOf kind optional =
+    0x2a ∷ 0x00 ∷ 0x00 ∷ 0x00 ∷ 0x00 ∷ 0x00 ∷ 0x01 ∷ 0x00 ∷ 0x01 ∷ 0x74 ∷ 0x00 ∷ 0x01 ∷ 0x72 ∷ 0x00 ∷ 0x01 ∷ kind ∷ 0x00 ∷ 0x00 ∷ optional
+
+-- of an INT, and of a YEAR
 abbrev pub oneInt : List ℕ → List ℕ
-oneInt optional =
-    0x2a ∷ 0x00 ∷ 0x00 ∷ 0x00 ∷ 0x00 ∷ 0x00 ∷ 0x01 ∷ 0x00 ∷ 0x01 ∷ 0x74 ∷ 0x00 ∷ 0x01 ∷ 0x72 ∷ 0x00 ∷ 0x01 ∷ 0x03 ∷ 0x00 ∷ 0x00 ∷ optional
+oneInt optional = oneOf 3 optional
+
+abbrev pub oneYear : List ℕ → List ℕ
+oneYear optional = oneOf 13 optional
+
+-- two groups of strings, "a" and "bc" in the first and "" in the second
+abbrev pub twoGroups : List ℕ
+twoGroups = 0x02 ∷ 0x01 ∷ 0x61 ∷ 0x02 ∷ 0x62 ∷ 0x63 ∷ 0x01 ∷ 0x00 ∷ []
 
 pub record Numbers : Type 0 where
   -- ---- every call
@@ -153,6 +165,32 @@ pub record Numbers : Type 0 where
   pub name-numbers : (feedName (0x01 ∷ 0x61 ∷ 0x02 ∷ 0x62 ∷ 0x63 ∷ []) (0x00 ∷ []) 1 ≡ ok (3 ∷ 2 ∷ []))
       × (feedName [] (0x01 ∷ 0x61 ∷ 0x02 ∷ 0x62 ∷ 0x63 ∷ []) 1 ≡ ok (3 ∷ 2 ∷ []))
       × (feedName (0x01 ∷ 0x61 ∷ []) (0x00 ∷ 0x00 ∷ []) 1 ≡ refuse 14 1)
+  -- ---- what a map says beside its record
+  -- of document 01's event, start and length each: types, metadata, nullable bits, optional fields
+  pub parts-numbers : (feedParts workedEvent 8 ≡ ok (15 ∷ 3 ∷ 19 ∷ 2 ∷ 21 ∷ 1 ∷ 22 ∷ 3 ∷ [])) × (feedParts (0x2a ∷ []) 8 ≡ refuse 1 0)
+  -- where its first optional field stands, how many columns have a signedness bit, and how many there are; of one YEAR by MySQL's counting
+  -- and by the letter
+  pub fields-numbers : (feedFields workedEvent 8 0 ≡ ok (22 ∷ 2 ∷ 3 ∷ [])) × (feedFields (0x2a ∷ []) 8 0 ≡ refuse 1 0)
+      × (feedFields (oneYear []) 8 1 ≡ ok (18 ∷ 1 ∷ 1 ∷ [])) × (feedFields (oneYear []) 8 0 ≡ ok (18 ∷ 0 ∷ 1 ∷ []))
+  -- 1, the field's type, start and length of its value, and where the next stands; zeros at the end; 7 for bits of another number of
+  -- columns
+  pub field-numbers : (feedField workedEvent 22 2 3 ≡ ok (1 ∷ 1 ∷ 24 ∷ 1 ∷ 25 ∷ []))
+      × (feedField workedEvent 25 2 3 ≡ ok (0 ∷ 0 ∷ 0 ∷ 0 ∷ 0 ∷ []))
+      × (feedField workedEvent 22 9 3 ≡ refuse 7 22)
+      × (feedField (oneInt (0x0c ∷ 0x01 ∷ 0x80 ∷ [])) 18 0 9 ≡ refuse 7 18)
+  -- 1, and of an integer itself and 0, of a pair both, of a string start and length, of a group how many strings and where the first
+  -- stands; and where the next item stands. Zeros at the end
+  pub item-numbers : (feedItem 1 (0x07 ∷ 0xfc ∷ 0x01 ∷ 0x01 ∷ []) 1 ≡ ok (1 ∷ 257 ∷ 0 ∷ 4 ∷ []))
+      × (feedItem 2 (0x07 ∷ 0x08 ∷ 0x09 ∷ []) 1 ≡ ok (1 ∷ 8 ∷ 9 ∷ 3 ∷ []))
+      × (feedItem 3 twoGroups 3 ≡ ok (1 ∷ 4 ∷ 2 ∷ 6 ∷ []))
+      × (feedItem 4 twoGroups 0 ≡ ok (1 ∷ 2 ∷ 1 ∷ 6 ∷ []))
+      × (feedItem 4 twoGroups 6 ≡ ok (1 ∷ 1 ∷ 7 ∷ 8 ∷ []))
+  pub items-end : (feedItem 1 twoGroups 8 ≡ ok (0 ∷ 0 ∷ 0 ∷ 0 ∷ [])) × (feedItem 2 twoGroups 8 ≡ ok (0 ∷ 0 ∷ 0 ∷ 0 ∷ []))
+      × (feedItem 3 twoGroups 8 ≡ ok (0 ∷ 0 ∷ 0 ∷ 0 ∷ [])) × (feedItem 4 twoGroups 8 ≡ ok (0 ∷ 0 ∷ 0 ∷ 0 ∷ []))
+  -- an item of each list that is cut short or no packed integer; and a list that there is not
+  pub items-broken : (feedItem 1 (0xfc ∷ []) 0 ≡ refuse 1 0) × (feedItem 2 (0x07 ∷ 0xfb ∷ []) 0 ≡ refuse 2 1)
+      × (feedItem 3 (0x02 ∷ 0x61 ∷ []) 0 ≡ refuse 1 0) × (feedItem 4 (0x02 ∷ 0x01 ∷ 0x61 ∷ 0xfb ∷ []) 0 ≡ refuse 2 3)
+  pub no-list : (feedItem 0 [] 0 ≡ refuse 13 0) × (feedItem 5 [] 0 ≡ refuse 13 0)
   -- ---- rows
   -- column and offset; the start sets spare null bits
   pub first-numbers : feedFirst everyKind allPresent ≡ ok (0 ∷ 2 ∷ [])

@@ -45,6 +45,7 @@ use Rattle.rows_event.specs.declared.images.Images.{Images}
 use Rattle.rows_event.specs.Events.{readRows}
 use Rattle.rows_event.specs.Images.{nextImage}
 use Rattle.feed_abi.specs.Calls.{feedCheck, feedColumn, feedNames, feedPut}
+use Rattle.feed_abi.specs.Fields.{feedFields, feedItem}
 
 -- ---- what calls are lent here
 -- a column of a type, its metadata m0 being this
@@ -252,4 +253,6 @@ pub record Occurs : Type 0 where
   pub feed-check : answerOf (feedCheck [] 8 3 []) ≡ refuse 13 0
   pub feed-column : (feedColumn [] 7 ≡ refuse 11 0) × (feedColumn emptyRecord 7 ≡ refuse 14 7)
   pub feed-names : feedNames [] 8 3 ≡ refuse 13 0
+  pub feed-fields : feedFields [] 8 3 ≡ refuse 13 0
+  pub feed-item : feedItem 0 [] 0 ≡ refuse 13 0
   pub feed-put : answerOf (feedPut [] [] [] 0 0 0 [] [] []) ≡ refuse 13 0

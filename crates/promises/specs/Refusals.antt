@@ -170,8 +170,7 @@ planLines plan c =
 -- ---- demand 1
 pub record EveryCall : Type 1 where
   -- ---- `wire`. `read_le`, `read_be`, `wide`, `top_of`, `signed_of`, `in_halves`, `twos_of`, `packed_size`, `bytes_for`, `bit_lsb0`,
-  -- `bit_msb0`, `part_of` and `has_room` refuse nothing;
-  -- `refuse` makes a refusal
+  -- ---- `bit_msb0`, `part_of` and `has_room` refuse nothing; `refuse` and `refuse_part` make a refusal
   -- `within`: the place that the caller names
   pub within-bytes : (s : List ℕ) (o n place : ℕ) → Only (within s o n place) (1 at place ∷ [])
   -- `read_fixed`: the offset asked
@@ -187,8 +186,8 @@ pub record EveryCall : Type 1 where
   pub write-temporal : (k : Storage) (place : ℕ) (buf : List ℕ) (o : ℕ) (t : Temporal)
       → Only (writeTemporal k place t buf o) (13 at place ∷ 8 at 0 ∷ [])
   -- ---- `value`. The place is the one that the caller names, and 0 for a lone value. `is_accepted`, `family_of`, `is_known`,
-  -- `declared_length`, `metadata_bytes`, `real_type`, `is_numeric`, `has_sign_bit`,
-  -- `is_character`, `has_charset`, `is_enum_or_set` and `op_of` refuse nothing
+  -- ---- `declared_length`, `metadata_bytes`, `real_type`, `is_numeric`, `has_sign_bit`, `is_character`, `has_charset`, `is_enum_or_set`
+  -- ---- and `op_of` refuse nothing
   -- `read_value`, `read_lone`
   pub read-value : (c : Column) (place : ℕ) (s : List ℕ) (o : ℕ)
       → Only (readValue (shapeOf c) place s o) (4 at place ∷ 5 at place ∷ 9 at place ∷ part-at place ∷ [])
@@ -203,11 +202,11 @@ pub record EveryCall : Type 1 where
       → Only (sizeOf (shapeOf c) place lent v) (4 at place ∷ 5 at place ∷ 13 at place ∷ [])
   -- `shape_of`: the number, without a place, for a column that there is not
   pub shape-of : (c : Column) (n : ℕ) → shapeOf c ≡ NotTaken n → (n ≡ 4) ⊎ (n ≡ 5)
-  -- ---- `value_parts`. `kind_of` and `parts_of` refuse nothing
+  -- ---- `value_parts`. `sort_of` and `parts_of` refuse nothing
   -- `value_of`: a sort and parts that make no value
   pub value-of : (sort : ℕ) (parts : List ℕ) → Only (valueOf sort parts) (13 at 0 ∷ [])
   -- ---- `table_map`. `Fields::new` and `flag` refuse nothing; `database_name`, `table_name`, `column_types`, `column_metadata`,
-  -- `nullable_bits` and `optional_metadata` hand back an empty part where the event is refused
+  -- ---- `nullable_bits` and `optional_metadata` hand back an empty part where the event is refused
   -- `read_event`
   pub read-event : (event : List ℕ) (postHeader : ℕ) → Only (readEvent event postHeader) (eventLines event postHeader)
   -- `write_event`, `event_size`

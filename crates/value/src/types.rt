@@ -197,7 +197,8 @@ pub fn real_type(kind: u8, m0: u8) -> u8
     kind
 }
 
-// Whether document 01 gives the type a signedness bit (ColumnType::is_numeric_type).
+// Whether document 01 gives the type a signedness bit. (ColumnType::is_numeric_type counts 13 and 0 as well; servers count 13, and
+// `has_sign_bit` goes by their dialect.)
 pub fn is_numeric(kind: u8) -> bool
     ensures { λ r. ⌜ r ≡ isNumeric (familyOf kind) ⌝ }
 {

@@ -64,7 +64,7 @@ names-of {d} {s} {e} postHeader r x =
     rw r (names-kept (sizesOf d (x .columns)) (fieldsAt d (lentPart s (e .types)) (e .optional .start)) s (x .fields) (x .kept))
 
 -- ---- the fields of bytes are one row: there is no second way to cut them
-fields-same : {s : List ℕ} {at : ℕ} {fs gs : List Field} → FieldsAre s at fs → FieldsAre s at gs → fs ≡ gs
+pub fields-same : {s : List ℕ} {at : ℕ} {fs gs : List Field} → FieldsAre s at fs → FieldsAre s at gs → fs ≡ gs
 fields-same (no-field e) (no-field f) = refl
 fields-same {s} {at} (no-field e) (a-field len start r w rest) =
     let m = read-moves s (at + 1) len start r in

@@ -2,7 +2,7 @@
 -- left with. Assumes nothing.
 use Prim.Native.Nat.{ℕ, suc, _+_, _-_, _/_, _≤_}
 use mathlib.Core.Path.{_≡_, refl, sym, ap, subst, _∙_}
-use mathlib.Core.Bool.{Bool, true, false, true≢false, cond}
+use mathlib.Core.Bool.{Bool, true, false, true≢false, cond, _||_}
 use mathlib.Core.List.{List, [], _∷_}
 use mathlib.Core.Option.{none, some}
 use native.Mathlib.Omega.{arith}
@@ -18,8 +18,12 @@ use Rattle.wire.proofs.Outcomes.{after-is-ok, test-is-ok, by-test, ok-not-refus
 use Rattle.value.specs.declared.classes.Dialect.{Dialect}
 use Rattle.value.specs.declared.datum.Value.the-variants.{Null}
 use Rattle.value_parts.specs.Parts.{sortOf, partsOf, valueOf}
+use Rattle.wire.specs.declared.part.Part.{Part}
 use Rattle.wire.specs.Parts.{part}
+use Rattle.table_map.specs.declared.field.Fields.{Fields}
 use Rattle.table_map.specs.Events.{readEvent}
+use Rattle.table_map.specs.Fields.{fieldStep}
+use Rattle.table_map.specs.Lists.{Stepped, end as end₂, item, step, integerItem, pairItem, stringItem, groupItem}
 use Rattle.record.specs.Records.{entryAt, readRecord}
 use Rattle.map_check.specs.Ranks.{tablePlace}
 use Rattle.map_check.specs.Names.{columnName, namesField}
@@ -36,9 +40,11 @@ use Rattle.feed_abi.specs.Calls.{said, saidWith, recordNumbers, partNumbers, ma
 use Rattle.feed_abi.specs.Calls.{stepNumbers, toldNumbers, rowsNumbers, imageNumbers, dialectOf, secondAsked, setsAsked, imagesAt, feedMap}
 use Rattle.feed_abi.specs.Calls.{feedCheck, feedColumn, feedNames, feedName, feedFirst, feedStep, feedStart, feedPut, feedRows, feedImage}
 use Rattle.feed_abi.specs.Calls.{planNumbers, runNumbers, feedPlan, feedRun}
+use Rattle.feed_abi.specs.Fields.{partsNumbers, fieldsFrom, fieldsNumbers, fieldsOf, fieldNumbers, inTwo, itemAt, itemNumbers, feedParts}
+use Rattle.feed_abi.specs.Fields.{feedFields, feedField, feedItem}
 use Rattle.feed_abi.proofs.Tells.{names-asked}
 use Rattle.feed_abi.proofs.Backs.{told-back, null-back}
-use Rattle.promises.specs.Refusals.{Line, OneOf, just, later, refusalNumbers, inTable, Only, checkLines, namesLines}
+use Rattle.promises.specs.Refusals.{Line, OneOf, just, later, refusalNumbers, inTable, Only, eventLines, checkLines, namesLines}
 use Rattle.promises.specs.Buffers.{Touched}
 use Rattle.promises.specs.Abi.{Answered, Counts, AbiCalls}
 use Rattle.promises.proofs.Demand1.Only.{Listed, done, stop, chain, test}
@@ -75,6 +81,28 @@ no-dialect d w e =
 column-told : {ls : List Line} (r : List ℕ) (j : ℕ) → OneOf ls (why 11 0) → OneOf ls (why 14 j) → Listed ls (feedColumn r j)
 unfolding feedColumn
 column-told r j eleven fourteen = chain (readRecord r) _ (record-read r eleven) (λ n e. test (ltb j n) (λ u. done _) (λ u. stop fourteen))
+
+-- the cursor of a map's fields is asked of an event that was read
+fields-read : (d : Dialect) (event : List ℕ) (postHeader : ℕ) → Only (fieldsOf d event postHeader) (eventLines event postHeader)
+fields-read d event postHeader =
+    let h = refusals .read-event event postHeader in
+    only (h .table) (chain (readEvent event postHeader) _ (h .listed) (λ e u. done _))
+
+-- an item, as two numbers: refused as its rule
+in-two : {A : Type 0} {ls : List Line} (f : A → ℕ × ℕ) (o : Outcome (Stepped A ℕ)) → Only o ls → Listed ls (said itemNumbers (inTwo f o))
+in-two f o h = chain (inTwo f o) _ (chain o _ (h .listed) (λ x e. done _)) (λ x e. done _)
+
+no-item : (list : ℕ) (s : List ℕ) (offset : ℕ) → isAmong list (1 ∷ 2 ∷ 3 ∷ 4 ∷ []) ≡ false → itemAt list s offset ≡ refuse 13 0
+unfolding itemAt isAmong
+no-item list s offset e = go (eqb list 1) (eqb list 2) (eqb list 3) (eqb list 4) _ _ _ _ _ e
+  where
+    go : {A : Type 0} (a b c d : Bool) (w x y z n : A) → (a || (b || (c || (d || false)))) ≡ false
+        → cond a w (cond b x (cond c y (cond d z n))) ≡ n
+    go true b c d w x y z n e = absurd (true≢false e)
+    go false true c d w x y z n e = absurd (true≢false e)
+    go false false true d w x y z n e = absurd (true≢false e)
+    go false false false true w x y z n e = absurd (true≢false e)
+    go false false false false w x y z n e = refl
 
 -- ---- the status
 -- 0 is no number of the table
@@ -167,6 +195,14 @@ image-counts : (t : Told₁) → length (imageNumbers t) ≡ 6
 image-counts (imageMet p second next) = refl
 image-counts end₁ = refl
 
+field-counts : (t : Stepped (ℕ × Part) Fields) → length (fieldNumbers t) ≡ 5
+field-counts end₂ = refl
+field-counts (item f next) = refl
+
+item-counts : (t : Stepped (ℕ × ℕ) ℕ) → length (itemNumbers t) ≡ 4
+item-counts end₂ = refl
+item-counts (item x next) = refl
+
 told-alone : (k : ℕ) (out : List ℕ) (answer : Outcome (List ℕ)) → Counts k answer → Answered k out answer
     → Touched out 0 k (numbersLeft k answer out)
 unfolding numbersLeft
@@ -187,8 +223,8 @@ columns-told : (n : ℕ) → (entryAt n - 6) / 6 ≡ n
 columns-told n = omega arith
 
 pub abi : AbiCalls
-unfolding feedMap feedCheck feedNames feedName feedFirst feedStep feedStart feedPut feedRows feedImage feedPlan feedRun statusOf
-    numbersLeft bytesLeft inTable isAmong
+unfolding feedMap feedCheck feedNames feedName feedParts feedFields feedField feedItem itemAt feedFirst feedStep feedStart feedPut feedRows
+    feedImage feedPlan feedRun statusOf numbersLeft bytesLeft inTable isAmong
 abi = record {
   feed-map = λ event postHeader. only refl (in-numbers mapNumbers (readEvent event postHeader) (refusals .read-event event postHeader));
   feed-check = λ event postHeader dialect buf d e.
@@ -207,6 +243,22 @@ abi = record {
   feed-name =
       λ names operator column. only refl
       (in-numbers partNumbers (columnName names operator (tablePlace column)) (refusals .column-name names operator (tablePlace column)));
+  feed-parts = λ event postHeader. only refl (in-numbers partsNumbers (readEvent event postHeader) (refusals .read-event event postHeader));
+  feed-fields = λ event postHeader dialect d e.
+      only refl
+      (subst (λ (o : Outcome Dialect). Listed (eventLines event postHeader)
+      (after o (λ d. said fieldsNumbers (fieldsOf d event postHeader)))) (sym e)
+      (in-numbers fieldsNumbers (fieldsOf d event postHeader) (fields-read d event postHeader)));
+  fields-no-dialect = λ event postHeader dialect w e. rw (no-dialect dialect w e);
+  feed-field = λ event offset numeric columns.
+      let c = fieldsFrom offset numeric columns in
+      only refl (in-numbers fieldNumbers (fieldStep c event) (refusals .next-field c event));
+  integer-item = λ value offset. only refl (in-two (λ n. (n, 0)) (step integerItem value offset) (refusals .next-integer value offset));
+  pair-item = λ value offset. only refl (in-two (λ p. p) (step pairItem value offset) (refusals .next-pair value offset));
+  string-item =
+      λ value offset. only refl (in-two (λ s. (s .start, s .len)) (step stringItem value offset) (refusals .next-string value offset));
+  group-item = λ value offset. only refl (in-two (λ g. g) (step groupItem value offset) (refusals .next-group value offset));
+  no-list = λ list value offset e. rw (no-item list value offset e);
   feed-first = λ r p. only refl (in-numbers cursorNumbers (firstCursor r p) (refusals .first-cursor r p));
   feed-step =
       λ r p im column offset. only refl
@@ -248,6 +300,13 @@ abi = record {
   names-three =
       λ event postHeader dialect. then-said 3 (dialectOf dialect) _ (λ d. said-counts 3 _ (namesField d event postHeader) (λ f. refl));
   name-two = λ names operator column. said-counts 2 partNumbers (columnName names operator (tablePlace column)) (λ n. refl);
+  parts-eight = λ event postHeader. said-counts 8 partsNumbers (readEvent event postHeader) (λ e. refl);
+  fields-three =
+      λ event postHeader dialect. then-said 3 (dialectOf dialect) _
+      (λ d. said-counts 3 fieldsNumbers (fieldsOf d event postHeader) (λ c. refl));
+  field-five =
+      λ event offset numeric columns. said-counts 5 fieldNumbers (fieldStep (fieldsFrom offset numeric columns) event) field-counts;
+  item-four = λ list value offset. said-counts 4 itemNumbers (itemAt list value offset) item-counts;
   first-two = λ r p. said-counts 2 cursorNumbers (firstCursor r p) (λ c. refl);
   step-eleven = λ r p im column offset. said-counts 11 toldNumbers (stepFrom r p im (cursor column offset)) told-counts;
   start-two = λ r p nulls im. left-counts 2 cursorNumbers (startImage r p nulls im) (λ c. refl);

@@ -103,6 +103,10 @@ use Rattle.feed_abi.proofs.feed_check.Met.{met as of-feed-check}
 use Rattle.feed_abi.proofs.feed_column.Met.{met as of-feed-column}
 use Rattle.feed_abi.proofs.feed_names.Met.{met as of-feed-names}
 use Rattle.feed_abi.proofs.feed_name.Met.{met as of-feed-name}
+use Rattle.feed_abi.proofs.feed_parts.Met.{met as of-feed-parts}
+use Rattle.feed_abi.proofs.feed_fields.Met.{met as of-feed-fields}
+use Rattle.feed_abi.proofs.feed_field.Met.{met as of-feed-field}
+use Rattle.feed_abi.proofs.feed_item.Met.{met as of-feed-item}
 use Rattle.feed_abi.proofs.feed_first.Met.{met as of-feed-first}
 use Rattle.feed_abi.proofs.feed_step.Met.{met as of-feed-step}
 use Rattle.feed_abi.proofs.feed_start.Met.{met as of-feed-start}
@@ -217,6 +221,10 @@ calls = record {
   feed-column = λ M. of-feed-column {M = M};
   feed-names = λ M. of-feed-names {M = M};
   feed-name = λ M. of-feed-name {M = M};
+  feed-parts = λ M. of-feed-parts {M = M};
+  feed-fields = λ M. of-feed-fields {M = M};
+  feed-field = λ M. of-feed-field {M = M};
+  feed-item = λ M. of-feed-item {M = M};
   feed-first = λ M. of-feed-first {M = M};
   feed-step = λ M. of-feed-step {M = M};
   feed-start = λ M. of-feed-start {M = M};

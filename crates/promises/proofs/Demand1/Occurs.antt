@@ -32,6 +32,7 @@ use Rattle.row_plan.specs.Runs.{readRun}
 use Rattle.rows_event.specs.Events.{readRows}
 use Rattle.rows_event.specs.Images.{nextImage}
 use Rattle.feed_abi.specs.Calls.{feedCheck, feedColumn, feedNames, feedPut}
+use Rattle.feed_abi.specs.Fields.{feedFields, feedItem}
 use Rattle.promises.specs.Occurs.{zeros, Occurs}
 
 no-memory : (meta : List ℕ) → 2 ^ 64 ≤ length meta → eventSize (eventParts 0 0 [] [] [] meta [] []) ≡ refuse 8 0
@@ -44,7 +45,7 @@ pub occurs : Occurs
 unfolding zeros within readFixed readPacked packedForm longForm store clockFault dayFault readTemporal writeTemporal shapeOf shapeFor
     readValue writeValue sizeOf valueOf readEvent writeEvent eventSize step pairItem groupItem longPart cutField judgeField fieldStep
     readRecord check columnName headOf firstCursor stepFrom walkImage startImage putFrom makePlan planStep readRun readRows nextImage
-    feedCheck feedColumn feedNames feedPut
+    feedCheck feedColumn feedNames feedFields feedItem feedPut
 occurs = record {
   within-bytes = refl;
   read-fixed = refl;
@@ -90,5 +91,7 @@ occurs = record {
   feed-check = refl;
   feed-column = (refl, refl);
   feed-names = refl;
+  feed-fields = refl;
+  feed-item = refl;
   feed-put = refl;
 }

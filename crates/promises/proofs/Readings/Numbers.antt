@@ -6,6 +6,7 @@ use Rattle.map_check.specs.Check.{check}
 use Rattle.feed_abi.specs.Answers.{statusOf, numbersLeft, bytesLeft}
 use Rattle.feed_abi.specs.Calls.{dialectOf, feedMap, feedCheck, feedColumn, feedNames, feedName, feedFirst, feedStep, feedStart, feedPut}
 use Rattle.feed_abi.specs.Calls.{feedRows, feedImage}
+use Rattle.feed_abi.specs.Fields.{feedParts, feedFields, feedField, feedItem}
 use Rattle.promises.specs.Tables.{EachRow, done, _and_}
 use Rattle.promises.specs.Numbers.{StepTells, steps, PutStores, puts, Numbers}
 
@@ -21,7 +22,7 @@ put-numbers =
 
 pub numbers : Numbers
 unfolding check countSignBits statusOf numbersLeft bytesLeft dialectOf feedMap feedCheck feedColumn feedNames feedName feedFirst feedStep
-    feedStart feedPut feedRows feedImage
+    feedStart feedPut feedRows feedImage feedParts feedFields feedField feedItem
 numbers =
     record {
       answered = (refl, refl);
@@ -36,6 +37,13 @@ numbers =
       no-column = refl;
       names-numbers = (refl, refl, refl, refl);
       name-numbers = (refl, refl, refl);
+      parts-numbers = (refl, refl);
+      fields-numbers = (refl, refl, refl, refl);
+      field-numbers = (refl, refl, refl, refl);
+      item-numbers = (refl, refl, refl, refl, refl);
+      items-end = (refl, refl, refl, refl);
+      items-broken = (refl, refl, refl, refl);
+      no-list = (refl, refl);
       first-numbers = refl;
       start-numbers = refl;
       step-numbers = step-numbers;
