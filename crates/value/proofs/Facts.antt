@@ -90,6 +90,12 @@ year-back (suc n) h =
     let b : suc n ≤ 2155 = leb-true (suc n) 2155 (w .1) in
     rw (le-back 1 (suc n - 1900) (omega arith), ne-eqb (suc n - 1900) 0 (λ e. omega arith)) (omega arith)
 
+-- a year that there is is no later than 2155
+pub year-most : (n : ℕ) → inYears n ≡ true → n ≤ 2155
+year-most zero h = omega arith
+year-most (suc n) h =
+    leb-true (suc n) 2155 (both-true (leb 1901 (suc n)) (leb (suc n) 2155) (rw (ne-eqb (suc n) 0 (λ e. omega arith)) at h) .1)
+
 pub decode-bytes : (sh : Shape) (d : Datum) → domain sh d ≡ true → decode sh (bytesOf sh d) ≡ d
 unfolding decode bytesOf domain
 decode-bytes (Unsigned k) d h = let w = sorted d 2 _ h in ap uint (le-back k (numberIn d) (ltb-true (numberIn d) (256 ^ k) (w .1))) ∙ w .0
