@@ -100,7 +100,7 @@ enum {
     FEED_FLOAT = 4,    /* the 32 bits of a float */
     FEED_DOUBLE = 5,   /* the 64 bits of a double */
     FEED_SECONDS = 6,  /* seconds since 1970, microseconds */
-    FEED_YEAR = 7,     /* year */
+    FEED_YEAR = 7,     /* year: 0 for MySQL's year 0000, else 1901 to 2155 */
     FEED_DATE = 8,     /* year, month, day */
     FEED_DATETIME = 9, /* year, month, day, hour, minute, second, microseconds */
     FEED_TIME = 10,    /* 1 if negative else 0, hours, minutes, seconds, microseconds */

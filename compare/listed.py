@@ -9,6 +9,7 @@ from document.packed import pack as shortest
 EQUAL = "equal"
 BOTH_REFUSE = "refused by both"
 STEPPED_OVER = "equal, but for decimals and JSON, which the comparison steps over"
+YEAR_ZERO = "4d YEAR 0000"
 ERROR, PANIC, ABORT = "error", "panic", "abort"
 NOT_PACKED = (251, 255)
 
@@ -205,6 +206,8 @@ def judge_value(words, ours, rust):
         number = int.from_bytes(stored[:3], "little")
         listed = rust == "ok int:%d 3" % number and ours == "ok int:%d 3" % (number - 2 ** 24)
         return "4a signed INT24 below zero, through a stand-in" if listed else None
+    if kind == 13 and stored[:1] == b"\0":
+        return YEAR_ZERO if (ours, rust) == ("ok year:0 1", "ok year:1900 1") else None
     return BOTH_REFUSE if rust == ERROR and ours == "refused 9 0 0" else None
 
 
@@ -396,6 +399,8 @@ def value_entry(kind, m0, one, other):
         return "4a signed INT24 below zero, through a stand-in"
     if kind == 11 and mine[:2] == theirs[:2] and int(mine[2]) % 256 == int(theirs[2]) and mine[3:] == theirs[3:]:
         return "3d TIME above 255 hours"
+    if kind == 13 and (one, other) == ("year:0", "year:1900"):
+        return YEAR_ZERO
     if kind == 17 and mine[1:] == [str(int(theirs[1]) + 2 ** 32), theirs[2]]:
         return "3j TIMESTAMP2 from 2^31 seconds on"
     if kind == 19 and m0 in (1, 2) and mine[:2] == ["time", "-"] and mine[-1] != "0":

@@ -109,7 +109,7 @@ impl<'a> Bytes<'a> {
             Storage::U64 => Value::Uint(u64::from_le_bytes(self.take()?)),
             Storage::Float => Value::Float(u32::from_le_bytes(self.take()?)),
             Storage::Double => Value::Double(u64::from_le_bytes(self.take()?)),
-            Storage::Year => Value::Year(1900 + u16::from(u8::from_le_bytes(self.take()?))),
+            Storage::Year => year(u8::from_le_bytes(self.take()?)),
             Storage::Date => date(self.u24()?)?,
             Storage::OldTimestamp => Value::Seconds {
                 seconds: u32::from_le_bytes(self.take()?),
@@ -215,6 +215,11 @@ fn datetime(stored: u64, micros: u32) -> Result<Value<'static>, Fault> {
         second: at_most((whole & 63) as u8, 59, Part::Second)?,
         micros: at_most(micros, 999_999, Part::Fraction)?,
     })
+}
+
+// Byte 0 is the year 0000, the others are 1901 to 2155.
+fn year(byte: u8) -> Value<'static> {
+    Value::Year(if byte == 0 { 0 } else { 1900 + u16::from(byte) })
 }
 
 fn date(stored: u32) -> Result<Value<'static>, Fault> {

@@ -196,7 +196,7 @@ fn read<'a>(code: Code, s: &'a [u8], told: impl FnOnce(Value<'a>)) -> Result<&'a
         Code::U64 => number!(Uint, u64),
         Code::Float => number!(Float, u32),
         Code::Double => number!(Double, u64),
-        Code::Year => judged!([a] => Ok(Value::Year(1900 + u16::from(a)))),
+        Code::Year => judged!([a] => Ok(year(a))),
         Code::Date => judged!([a, b, c] => date(u32::from_le_bytes([a, b, c, 0]))),
         Code::OldTimestamp => judged!([a, b, c, d] => seconds(u32::from_le_bytes([a, b, c, d]), 0)),
         Code::OldTime => judged!([a, b, c] => old_time(u32::from_le_bytes([a, b, c, 0]))),
@@ -269,6 +269,12 @@ fn at_most(part: u64, most: u64, which: Part) -> Result<u64, Fault> {
 fn seconds(seconds: u32, micros: u32) -> Result<Value<'static>, Fault> {
     at_most(micros.into(), 999_999, Part::Fraction)?;
     Ok(Value::Seconds { seconds, micros })
+}
+
+// Byte 0 is the year 0000, the others are 1901 to 2155.
+#[inline(always)]
+fn year(byte: u8) -> Value<'static> {
+    Value::Year(if byte == 0 { 0 } else { 1900 + u16::from(byte) })
 }
 
 #[inline(always)]

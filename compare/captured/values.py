@@ -50,8 +50,6 @@ def how_value(entry, got, true):
     if entry[0] in WIDTHS and not entry[1] & SIGN_KNOWN and {name, true_name} <= {"int", "uint"}:
         if (int(value) - int(true_value)) % 2 ** WIDTHS[entry[0]] == 0:
             return "integers whose map tells no signedness, read as signed"
-    if true == "year:0" and got == "year:1900":
-        return "YEAR 0000, read as 1900 until request 2"
     if name == true_name and (got, true) in (("float:2147483648", "float:0"), ("double:9223372036854775808", "double:0")):
         return "a zero whose sign the server's query loses"
     if entry[0] == CHAR and name == true_name == "bytes" and unhex(value).ljust(len(unhex(true_value)), b"\0") == unhex(true_value):

@@ -83,7 +83,8 @@ def read_fixed(column, stored):
     if column.type in FLOATS:
         return FLOATS[column.type][0], number
     if column.type == YEAR:
-        return "year", 1900 + number
+        # "byte 0 the value 0000 and bytes 1 to 255 the years 1901 to 2155" (request 2)
+        return "year", 1900 + number if number else 0
     if column.type == ENUM:
         return "uint", number
     if column.type in FIXED_BYTES:
@@ -108,7 +109,7 @@ def takes(column, value):
     if column.type in INTEGERS and not column.unsigned:
         return kind == "int" and -256 ** size // 2 <= parts[0] < 256 ** size // 2
     if column.type == YEAR:
-        return kind == "year" and 1900 <= parts[0] <= 2155
+        return kind == "year" and (parts[0] == 0 or 1901 <= parts[0] <= 2155)
     named = FLOATS[column.type][0] if column.type in FLOATS else "uint"
     return kind == named and parts[0] < 256 ** size
 
@@ -124,7 +125,7 @@ def stored_value(column, value, place):
         return len(value[1]).to_bytes(k, "little") + value[1]
     if column.type in FIXED_BYTES:
         return value[1]
-    number = value[1] - 1900 if column.type == YEAR else value[1]
+    number = value[1] - 1900 if column.type == YEAR and value[1] else value[1]
     return number.to_bytes(fixed_size(column), "little", signed=number < 0)
 
 

@@ -122,7 +122,7 @@ def edge_numbers(size, signed):
 
 # one of each kind, which most columns do not take
 OTHERS = (
-    ("null",), ("int", 0), ("int", -1), ("uint", 0), ("uint", 1), ("float", 0), ("double", 0), ("seconds", 0, 0), ("year", 1900), ("date", 0, 0, 0),
+    ("null",), ("int", 0), ("int", -1), ("uint", 0), ("uint", 1), ("float", 0), ("double", 0), ("seconds", 0, 0), ("year", 1901), ("date", 0, 0, 0),
     ("datetime", 0, 0, 0, 0, 0, 0, 0), ("time", "+", 0, 0, 0, 0), ("time", "-", 0, 0, 0, 0), ("bytes", b""), ("bytes", b"\0"),
 )
 
@@ -144,7 +144,7 @@ def edge_values(column):
             for byte in (0, 1, 128, 255):
                 yield "bytes", bytes([byte]) * length
     elif kind == values.YEAR:
-        for year in (0, 1899, 1900, 1901, 2155, 2156, 65535):
+        for year in (0, 1, 255, 1899, 1900, 1901, 2155, 2156, 65535):
             yield "year", year
     else:
         signed = kind in values.INTEGERS and not column.unsigned

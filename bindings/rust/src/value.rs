@@ -25,7 +25,7 @@ pub enum Value<'a> {
         /// Microseconds.
         micros: u32,
     },
-    /// YEAR.
+    /// YEAR: 0 for the year 0000, else 1901 to 2155.
     Year(u16),
     /// DATE.
     Date {

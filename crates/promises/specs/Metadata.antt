@@ -1,21 +1,24 @@
 -- Metadata: document 01's table, in numbers. Which types are taken, and with how many bytes; for each, which bytes are accepted, least,
 -- greatest and all between; and how values of it are stored. The real type of 254 and its declared length, which the document tells by
 -- bits, in bits. `metadata` in proofs/Readings/Metadata.antt proves all of it. Assumes nothing.
-use Prim.Native.Nat.{ℕ, _+_, _*_, _<_}
+use Prim.Native.Nat.{ℕ, _+_, _*_, _≤_, _<_}
 use mathlib.Core.Path.{_≡_}
-use mathlib.Core.Bool.{Bool, _&&_, _||_, not}
+use mathlib.Core.Bool.{Bool, false, _&&_, _||_, not}
 use mathlib.Core.List.{List, [], _∷_}
 use lib.Bits.{bitAnd, bitOr, bitXor}
 use lib.Dec.{eqb}
 use lib.IntN.{pos, negsuc}
 use lib.ListN.{length, replicate}
-use Rattle.wire.specs.Outcome.{refuse}
+use Rattle.wire.specs.Outcome.{ok, refuse}
 use Rattle.wire.specs.Bits.{digit}
 use Rattle.wire.specs.Parts.{part}
 use Rattle.value.specs.declared.datum.Value.the-variants.{Null, Int, Uint, Float, Double, Year, Bytes}
 use Rattle.value.specs.Types.{familyOf, metadataBytes, realType}
 use Rattle.value.specs.Columns.{declaredLength, shapeOf, isTaken}
+use Rattle.value.specs.Data.{year}
+use Rattle.value.specs.Domains.{domain}
 use Rattle.value.specs.Shapes.{need}
+use Rattle.value.specs.Reading.{readValue}
 use Rattle.value.specs.Storing.{writeValue}
 use Rattle.map_check.specs.Columns.{takeColumns}
 use Rattle.promises.specs.Tables.{EachRow, bytesThat, isAnswered, refusalNumber, Stored, stored, unread, unwritten, IsStored, column}
@@ -173,11 +176,13 @@ values =
     ∷ unwritten (column 5 8 0) (Float 0)
     ∷ unwritten (column 4 4 0) (Float 0x100000000)
     ∷ unwritten (column 5 8 0) (Double 0x10000000000000000)
-    -- 13: 1900 plus the byte
-    ∷ stored (column 13 0 0) (0x00 ∷ []) (Year 1900)
+    -- 13: byte 0 is the year 0000, any other 1900 plus the byte; so there is no 1900
+    ∷ stored (column 13 0 0) (0x00 ∷ []) (Year 0)
+    ∷ stored (column 13 0 0) (0x01 ∷ []) (Year 1901)
     ∷ stored (column 13 0 0) (0x64 ∷ []) (Year 2000)
     ∷ stored (column 13 0 0) (0xff ∷ []) (Year 2155)
-    ∷ unwritten (column 13 0 0) (Year 1899)
+    ∷ unwritten (column 13 0 0) (Year 1)
+    ∷ unwritten (column 13 0 0) (Year 1900)
     ∷ unwritten (column 13 0 0) (Year 2156)
     ∷ unwritten (column 13 0 0) (Uint 2000)
     -- 247: m1-byte number
@@ -383,6 +388,9 @@ pub record Metadata : Type 0 where
       ≡ 1 ∷ 2 ∷ 3 ∷ 7 ∷ 8 ∷ 9 ∷ 11 ∷ 12 ∷ 13 ∷ 14 ∷ 15 ∷ 17 ∷ 18 ∷ 19 ∷ 253 ∷ []
   pub lone-254 : bytesThat (λ m0. isTaken (shapeOf (column 254 m0 0))) ≡ 0xce ∷ 0xde ∷ 0xee ∷ 0xfe ∷ []
   pub stored-values : EachRow IsStored values
+  -- YEAR: bytes 1 to 255 are the years 1901 to 2155, byte 0 is in the table; and 1900 is no value of its domain
+  pub years : (b : ℕ) → 1 ≤ b → b ≤ 255 → readValue (shapeOf (column 13 0 0)) 0 (b ∷ []) 0 ≡ ok (Year (1900 + b), 1)
+  pub no-1900 : domain (shapeOf (column 13 0 0)) (year 1900) ≡ false
   -- counted bytes: as many as their length byte counts; SET: just as many as m1; of those that are lent
   pub most-bytes : writeValue (shapeOf (column 252 1 0)) 0 (replicate 255 0) (Bytes (part 0 255)) [] 0 ≡ refuse 8 0
   pub more-bytes : writeValue (shapeOf (column 252 1 0)) 0 (replicate 256 0) (Bytes (part 0 256)) [] 0 ≡ refuse 13 0

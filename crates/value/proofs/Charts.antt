@@ -1,11 +1,19 @@
 -- Document 01's own facts of column types, computed. Assumes nothing.
-use Prim.Native.Nat.{ℕ}
+use Prim.Native.Nat.{ℕ, _+_, _≤_}
 use mathlib.Core.Bool.{false}
-use mathlib.Core.Path.{_≡_, refl}
+use mathlib.Core.Path.{_≡_, refl, ap}
+use mathlib.Core.List.{[], _∷_}
+use native.Mathlib.Omega.{arith}
+use borrow.Author.Tests.{ne-eqb}
+use Rattle.wire.specs.Outcome.{ok}
+use Rattle.wire.specs.Number.{leValue}
 use Rattle.value.specs.declared.shape.Shape.the-variants.{Unsigned, Fixed, Counted, NotTaken}
 use Rattle.value.specs.declared.column.Column.{Column}
 use Rattle.value.specs.Types.{realType}
+use Rattle.value.specs.declared.datum.Value.the-variants.{Year}
 use Rattle.value.specs.Columns.{declaredLength, decimalBytes, shapeOf}
+use Rattle.value.specs.Years.{yearOf}
+use Rattle.value.specs.Reading.{readValue}
 
 -- a column that is not flagged unsigned
 abbrev column : ℕ → ℕ → ℕ → Column
@@ -34,6 +42,13 @@ varchars = (refl, refl)
 decimal-20-9 : (decimalBytes 20 9 ≡ 9) × (shapeOf (column 246 20 9) ≡ Fixed 9)
 unfolding shapeOf decimalBytes
 decimal-20-9 = (refl, refl)
+
+-- YEAR: bytes 1 to 255 are 1901 to 2155
+pub year-read : (b : ℕ) → 1 ≤ b → readValue (shapeOf (column 13 0 0)) 0 (b ∷ []) 0 ≡ ok (Year (1900 + b), 1)
+unfolding shapeOf readValue leValue
+year-read b h =
+    let e : yearOf (leValue (b ∷ [])) ≡ 1900 + b = rw (ne-eqb (b + 0) 0 (λ e. omega arith)) (omega arith) in
+    ap (λ (n : ℕ). ok (Year n, 1)) e
 
 -- BIT(1) has m0 = 1, BIT(64) m1 = 8; there is no BIT(0) and no BIT(65)
 bits : (shapeOf (column 16 1 0) ≡ Fixed 1) × (shapeOf (column 16 0 8) ≡ Fixed 8) × (shapeOf (column 16 0 0) ≡ NotTaken 5)

@@ -6,7 +6,7 @@ use mathlib.Core.Path.{_≡_, refl, sym, ap, _∙_, subst}
 use mathlib.Core.Bool.{Bool, true, _&&_, false≢true}
 use mathlib.Core.List.{List, _++_, append-assoc}
 use native.Mathlib.Omega.{arith}
-use borrow.Author.Tests.{lt-ltb, le-leb, ltb-true, leb-true, eq-eqb, eqb-true}
+use borrow.Author.Tests.{lt-ltb, le-leb, ltb-true, leb-true, eq-eqb, ne-eqb, eqb-true}
 use lib.ListN.{length, take, drop, length-append, length-drop, take-append-drop}
 use lib.Seq.{take-at, drop-at, take-take, take-add, drop-drop, length-take-le}
 use lib.Dec.{leb, ltb, eqb}
@@ -22,6 +22,7 @@ use Rattle.value.specs.declared.shape.Shape.{Shape}
 use Rattle.value.specs.declared.shape.Shape.the-variants.{Unsigned, Signed, FloatBits, DoubleBits, YearByte, Timed, Fixed, Counted}
 use Rattle.value.specs.declared.shape.Shape.the-variants.{NotTaken}
 use Rattle.value.specs.Data.{Datum, null, int, uint, float, double, year, temporal, bytes, tag, intIn, numberIn, temporalIn, bytesIn}
+use Rattle.value.specs.Years.{yearOf, byteOfYear, inYears}
 use Rattle.value.specs.Domains.{domain}
 use Rattle.value.specs.Shapes.{bytesOf, need, decode, fault}
 use Rattle.value.specs.Inner.Shapes.{Sized}
@@ -72,7 +73,7 @@ need-bytes (Unsigned k) d rest h = sym (leBytes-length k (numberIn d))
 need-bytes (Signed k) d rest h = sym (leBytes-length k (twosOf (256 ^ k) (intIn d)))
 need-bytes FloatBits d rest h = sym (leBytes-length 4 (numberIn d))
 need-bytes DoubleBits d rest h = sym (leBytes-length 8 (numberIn d))
-need-bytes YearByte d rest h = sym (leBytes-length 1 (numberIn d - 1900))
+need-bytes YearByte d rest h = sym (leBytes-length 1 (byteOfYear (numberIn d)))
 need-bytes (Timed k) d rest h = sym (timed-sized k (temporalIn d))
 need-bytes (Fixed n) d rest h = sym (eqb-true (length (bytesIn d)) n (both-true (areBytes (bytesIn d)) _ (sorted d 7 _ h .1) .1))
 need-bytes (Counted k) d rest h =
@@ -80,12 +81,20 @@ need-bytes (Counted k) d rest h =
 need-bytes (NotTaken n) d rest h = refl
 
 -- ---- (2), and no part of a value in the domain is out of range
-year-back : (n : ℕ) → (leb 1900 n && leb n 2155) ≡ true → 1900 + leValue (leBytes 1 (n - 1900)) ≡ n
-year-back n h =
-    let w = both-true (leb 1900 n) (leb n 2155) h in
-    let a : 1900 ≤ n = leb-true 1900 n (w .0) in
-    let b : n ≤ 2155 = leb-true n 2155 (w .1) in
-    rw (le-back 1 (n - 1900) (omega arith)) (omega arith)
+year-back : (n : ℕ) → inYears n ≡ true → yearOf (leValue (leBytes 1 (byteOfYear n))) ≡ n
+unfolding leBytes leValue
+year-back zero h = refl
+year-back (suc n) h =
+    let w = both-true (leb 1901 (suc n)) (leb (suc n) 2155) (rw (ne-eqb (suc n) 0 (λ e. omega arith)) at h) in
+    let a : 1901 ≤ suc n = leb-true 1901 (suc n) (w .0) in
+    let b : suc n ≤ 2155 = leb-true (suc n) 2155 (w .1) in
+    rw (le-back 1 (suc n - 1900) (omega arith), ne-eqb (suc n - 1900) 0 (λ e. omega arith)) (omega arith)
+
+-- a year that there is is no later than 2155
+pub year-most : (n : ℕ) → inYears n ≡ true → n ≤ 2155
+year-most zero h = omega arith
+year-most (suc n) h =
+    leb-true (suc n) 2155 (both-true (leb 1901 (suc n)) (leb (suc n) 2155) (rw (ne-eqb (suc n) 0 (λ e. omega arith)) at h) .1)
 
 pub decode-bytes : (sh : Shape) (d : Datum) → domain sh d ≡ true → decode sh (bytesOf sh d) ≡ d
 unfolding decode bytesOf domain
@@ -134,8 +143,13 @@ number-whole : (k : ℕ) (b : List ℕ) → Bytes b → k ≡ length b → (leVa
 number-whole k b h n =
     (subst (λ (j : ℕ). leValue b < 256 ^ j) (sym n) (le-bound b h), ap (λ (j : ℕ). leBytes j (leValue b)) n ∙ le-sound b h)
 
-year-whole : (n : ℕ) → n < 256 → (leb 1900 (1900 + n) && leb (1900 + n) 2155) ≡ true
-year-whole n h = rw (le-leb 1900 (1900 + n) (omega arith), le-leb (1900 + n) 2155 (omega arith))
+year-whole : (n : ℕ) → n < 256 → (inYears (yearOf n) ≡ true) × (byteOfYear (yearOf n) ≡ n)
+year-whole zero h = (refl, refl)
+year-whole (suc n) h =
+    let e = ne-eqb (suc n) 0 (λ e. omega arith) in (
+      rw (e, ne-eqb (1900 + suc n) 0 (λ e. omega arith), le-leb 1901 (1900 + suc n) (omega arith), le-leb (1900 + suc n) 2155 (omega arith)),
+      rw e (omega arith),
+    )
 
 counted-whole : (k : ℕ) (b : List ℕ) → Bytes b → k + leValue (take k b) ≡ length b
     → ((areBytes (drop k b) && ltb (length (drop k b)) (256 ^ k)) ≡ true) × (leBytes k (length (drop k b)) ++ drop k b ≡ b)
@@ -159,8 +173,8 @@ whole FloatBits b z h n r t = let w = number-whole 4 b h n in (lt-ltb (leValue b
 whole DoubleBits b z h n r t = let w = number-whole 8 b h n in (lt-ltb (leValue b) (256 ^ 8) (w .0), w .1)
 whole YearByte b z h n r t =
     let w = number-whole 1 b h n in
-    let e : 1900 + leValue b - 1900 ≡ leValue b = omega arith in
-    (year-whole (leValue b) (w .0), ap (leBytes 1) e ∙ w .1)
+    let y = year-whole (leValue b) (w .0) in
+    (y .0, ap (leBytes 1) (y .1) ∙ w .1)
 whole (Timed k) b z h n r t = timed-sound k b (sym n) h r
 whole (Fixed n) b z h e r t = (rw (bytes-are b h) (eq-eqb (length b) n (sym e)), refl)
 whole (Counted k) b z h n r t = counted-whole k b h n

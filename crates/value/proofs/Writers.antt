@@ -29,6 +29,7 @@ use Rattle.value.specs.declared.datum.Value.{Value}
 use Rattle.value.specs.declared.datum.Value.the-variants.{Null, Int, Uint, Float, Double, Year, Bytes}
 use Rattle.value.specs.Data.{Datum, bytes, tag, isInt, isUint, isFloat, isDouble, isYear, isTemporal, isBytes, intIn, numberIn}
 use Rattle.value.specs.Data.{temporalIn, bytesIn}
+use Rattle.value.specs.Years.{byteOfYear, inYears}
 use Rattle.value.specs.Domains.{domain}
 use Rattle.value.specs.Shapes.{bytesOf, need}
 use Rattle.value.specs.Columns.{isTaken, refusalOf}
@@ -130,7 +131,7 @@ unfolding domain
 double-domain d = refl
 
 pub in-year : (s : List ℕ) (v : Value) → isLent s v ≡ true
-    → (isYear (datumOf [] v) && (leb 1900 (numberIn (datumOf [] v)) && leb (numberIn (datumOf [] v)) 2155)) ≡ isIn YearByte s v
+    → (isYear (datumOf [] v) && inYears (numberIn (datumOf [] v))) ≡ isIn YearByte s v
 unfolding isIn domain
 in-year s v h = rw (h, tag-any s v, number-any s v)
 
@@ -194,15 +195,6 @@ size-counted k s v h =
     let l = bytes-length s v (is-in (Counted k) s v h .0) in
     sym (length-append (leBytes k (length (bytesIn (datumOf s v)))) (bytesIn (datumOf s v)) ∙ rw (leBytes-length, l))
 
--- ---- a number that the code may take apart
-pub year-least : (s : List ℕ) (v : Value) → isIn YearByte s v ≡ true → 1900 ≤ numberIn (datumOf [] v)
-unfolding isIn domain
-year-least s v h =
-    let w = both-true (isLent s v) _ h in
-    let d = both-true (isYear (datumOf s v)) _ (w .1) in
-    let t = both-true (leb 1900 (numberIn (datumOf s v))) _ (d .1) in
-    rw (number-any s v) at (leb-true 1900 (numberIn (datumOf s v)) (t .0))
-
 -- ---- and which bytes these are
 pub put-unsigned : (k : ℕ) (s : List ℕ) (v : Value) → k ≤ 8
     → bytesOf (Unsigned k) (datumOf s v) ≡ leBytes (min k 8) (numberIn (datumOf [] v))
@@ -222,9 +214,9 @@ pub put-double : (s : List ℕ) (v : Value) → bytesOf DoubleBits (datumOf s v)
 unfolding bytesOf
 put-double s v = ap (leBytes 8) (number-any s v)
 
-pub put-year : (s : List ℕ) (v : Value) → bytesOf YearByte (datumOf s v) ≡ leBytes 1 (numberIn (datumOf [] v) - 1900)
+pub put-year : (s : List ℕ) (v : Value) → bytesOf YearByte (datumOf s v) ≡ leBytes 1 (byteOfYear (numberIn (datumOf [] v)))
 unfolding bytesOf
-put-year s v = ap (λ (n : ℕ). leBytes 1 (n - 1900)) (number-any s v)
+put-year s v = ap (λ (n : ℕ). leBytes 1 (byteOfYear n)) (number-any s v)
 
 pub put-fixed : (n : ℕ) (s : List ℕ) (v : Value) → bytesOf (Fixed n) (datumOf s v) ≡ leBytes 0 (bytesAt v .len) ++ partOf s (bytesAt v)
 unfolding bytesOf leBytes

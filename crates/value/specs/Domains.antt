@@ -2,7 +2,7 @@
 use Prim.Native.Nat.{_^_}
 use mathlib.Core.Bool.{Bool, false, _&&_}
 use lib.ListN.{length}
-use lib.Dec.{leb, ltb, eqb}
+use lib.Dec.{ltb, eqb}
 use Rattle.wire.specs.Number.{areBytes}
 use Rattle.wire.specs.Signed.{inHalves}
 use Rattle.temporal.specs.Domains.{temporalDomain}
@@ -11,6 +11,7 @@ use Rattle.value.specs.declared.shape.Shape.the-variants.{Unsigned, Sign
 use Rattle.value.specs.declared.shape.Shape.the-variants.{NotTaken}
 use Rattle.value.specs.Data.{Datum, tag, isInt, isUint, isFloat, isDouble, isYear, isTemporal, isBytes, intIn, numberIn, temporalIn}
 use Rattle.value.specs.Data.{bytesIn}
+use Rattle.value.specs.Years.{inYears}
 
 unfoldable pub domain : Shape → Datum → Bool
 unfolding tag intIn numberIn temporalIn bytesIn areBytes inHalves temporalDomain
@@ -21,7 +22,7 @@ domain (Signed k) d = isInt d && inHalves (256 ^ k) (intIn d)
 -- any bits
 domain FloatBits d = isFloat d && ltb (numberIn d) (256 ^ 4)
 domain DoubleBits d = isDouble d && ltb (numberIn d) (256 ^ 8)
-domain YearByte d = isYear d && (leb 1900 (numberIn d) && leb (numberIn d) 2155)
+domain YearByte d = isYear d && inYears (numberIn d)
 domain (Timed k) d = isTemporal d && temporalDomain k (temporalIn d)
 -- just n bytes, whatever they are
 domain (Fixed n) d = isBytes d && (areBytes (bytesIn d) && eqb (length (bytesIn d)) n)

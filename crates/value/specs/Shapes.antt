@@ -1,5 +1,5 @@
 -- The stored bytes of a value, by shape; how many they are, told by the bytes at hand; and what they say. Assumes nothing.
-use Prim.Native.Nat.{ℕ, _+_, _-_, _^_}
+use Prim.Native.Nat.{ℕ, _+_, _^_}
 use mathlib.Core.List.{List, [], _++_}
 use lib.ListN.{length, take, drop}
 use Rattle.wire.specs.Number.{leValue, leBytes}
@@ -9,6 +9,7 @@ use Rattle.value.specs.declared.shape.Shape.{Shape}
 use Rattle.value.specs.declared.shape.Shape.the-variants.{Unsigned, Signed, FloatBits, DoubleBits, YearByte, Timed, Fixed, Counted}
 use Rattle.value.specs.declared.shape.Shape.the-variants.{NotTaken}
 use Rattle.value.specs.Data.{Datum, null, int, uint, float, double, year, temporal, bytes, intIn, numberIn, temporalIn, bytesIn}
+use Rattle.value.specs.Years.{yearOf, byteOfYear}
 
 -- the stored bytes of a value
 unfoldable pub bytesOf : Shape → Datum → List ℕ
@@ -17,7 +18,7 @@ bytesOf (Unsigned k) d = leBytes k (numberIn d)
 bytesOf (Signed k) d = leBytes k (twosOf (256 ^ k) (intIn d))
 bytesOf FloatBits d = leBytes 4 (numberIn d)
 bytesOf DoubleBits d = leBytes 8 (numberIn d)
-bytesOf YearByte d = leBytes 1 (numberIn d - 1900)
+bytesOf YearByte d = leBytes 1 (byteOfYear (numberIn d))
 bytesOf (Timed k) d = temporalBytes k (temporalIn d)
 bytesOf (Fixed n) d = bytesIn d
 bytesOf (Counted k) d = leBytes k (length (bytesIn d)) ++ bytesIn d
@@ -43,7 +44,7 @@ decode (Unsigned k) b = uint (leValue b)
 decode (Signed k) b = int (signedOf (256 ^ k) (leValue b))
 decode FloatBits b = float (leValue b)
 decode DoubleBits b = double (leValue b)
-decode YearByte b = year (1900 + leValue b)
+decode YearByte b = year (yearOf (leValue b))
 decode (Timed k) b = temporal (temporalDecode k b)
 decode (Fixed n) b = bytes b
 decode (Counted k) b = bytes (drop k b)

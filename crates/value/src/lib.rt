@@ -8,6 +8,7 @@ mod reading;
 mod shape;
 mod storing;
 pub mod types;
+mod years;
 
 pub use classes::Dialect;
 pub use classes::has_charset;

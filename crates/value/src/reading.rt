@@ -1,6 +1,7 @@
 // A stored value read, by its shape (binlog/value.rs: BinlogValue::deserialize).
 use crate::datum::Value;
 use crate::shape::Shape;
+use crate::years::year_of;
 use temporal::Storage;
 use temporal::TemporalRead;
 use wire::Part;
@@ -109,8 +110,7 @@ pub(crate) fn read_year(s: &[u8], at: usize, place: usize) -> Read
     }
     let next = at + 1;
     let n = wire::read_le(s, at, 1);
-    let year = (1900 + n) as u16;
-    let value = Value::Year(year);
+    let value = Value::Year(year_of(n));
     Read::Got { value, next }
 }
 

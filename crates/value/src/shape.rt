@@ -10,7 +10,7 @@ pub enum Shape {
     // The bits of a float or a double.
     FloatBits,
     DoubleBits,
-    // One byte, from 1900 on.
+    // One byte: 0 for the year 0000, else the year less 1900.
     YearByte,
     Timed(Storage),
     // Just so many bytes.

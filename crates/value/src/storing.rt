@@ -15,6 +15,8 @@ use crate::datum::temporal_in;
 use crate::shape::Shape;
 use crate::shape::is_taken;
 use crate::shape::refusal_of;
+use crate::years::byte_of_year;
+use crate::years::in_years;
 use temporal::Storage;
 use wire::Size;
 use wire::Written;
@@ -32,7 +34,8 @@ ghost use Rattle.wire.specs.Parts.{partOf};
 ghost use Rattle.wire.specs.Signed.{inHalves};
 ghost use Rattle.wire.specs.Stored.{store, answerOf, leftOf, writtenTold, sizeTold};
 ghost use Rattle.temporal.specs.Domains.{temporalDomain};
-ghost use Rattle.value.specs.Data.{tag, isInt, isTemporal, isBytes, intIn, numberIn, temporalIn};
+ghost use Rattle.value.specs.Data.{tag, isInt, isYear, isTemporal, isBytes, intIn, numberIn, temporalIn};
+ghost use Rattle.value.specs.Years.{inYears};
 ghost use Rattle.value.specs.Shapes.{bytesOf};
 ghost use Rattle.value.specs.Inner.Shapes.{Sized};
 ghost use Rattle.value.specs.Reading.{datumOf};
@@ -51,6 +54,16 @@ fn is_number(value: Value, sort: u8, least: u64, most: u64) -> bool
         return false;
     }
     n <= most
+}
+
+// Whether a value is a year that there is.
+fn is_year(value: Value) -> bool
+    ensures { λ r. ⌜ r ≡ (isYear (datumOf [] value) && inYears (numberIn (datumOf [] value))) ⌝ }
+{
+    if tag_of(value) != TAG_YEAR {
+        return false;
+    }
+    in_years(number_in(value))
 }
 
 // Whether a value is a signed number of k bytes.
@@ -108,7 +121,7 @@ pub(crate) fn is_in(shape: Shape, value: Value, lent: &[u8]) -> bool
         Shape::Signed(k) => is_signed(value, k),
         Shape::FloatBits => is_number(value, TAG_FLOAT, 0, top_of(4)),
         Shape::DoubleBits => is_number(value, TAG_DOUBLE, 0, top_of(8)),
-        Shape::YearByte => is_number(value, TAG_YEAR, 1900, 2155),
+        Shape::YearByte => is_year(value),
         Shape::Timed(storage) => is_timed(value, storage),
         Shape::Fixed(n) => is_bytes(value, n as u64, n as u64),
         Shape::Counted(k) => is_bytes(value, 0, top_of(k)),
@@ -182,7 +195,7 @@ pub(crate) fn store_shape(
         Shape::Signed(k) => wire::write_le(k, wire::twos_of(k, int_in(value)), buf, at),
         Shape::FloatBits => wire::write_le(4, number_in(value), buf, at),
         Shape::DoubleBits => wire::write_le(8, number_in(value), buf, at),
-        Shape::YearByte => wire::write_le(1, number_in(value) - 1900, buf, at),
+        Shape::YearByte => wire::write_le(1, byte_of_year(number_in(value)), buf, at),
         Shape::Timed(storage) => temporal::write_temporal(storage, temporal_in(value), buf, at, 0),
         Shape::Fixed(_) => write_part(0, value, lent, buf, at),
         Shape::Counted(k) => write_part(k, value, lent, buf, at),

@@ -4,7 +4,7 @@ use mathlib.Core.Path.{_≡_, subst}
 use mathlib.Core.Bool.{true, not, false≢true}
 use native.Mathlib.Nat.{pow-le-pow-right, zero-lt-suc}
 use native.Mathlib.Omega.{arith}
-use borrow.Author.Tests.{lt-ltb, ltb-true, leb-true}
+use borrow.Author.Tests.{lt-ltb, ltb-true}
 use lib.IntN.{ℤ, pos, negsuc}
 use lib.ListN.{length}
 use lib.Dec.{leb}
@@ -31,7 +31,7 @@ use Rattle.value.specs.Data.{Datum, intIn, numberIn, temporalIn, bytesIn}
 use Rattle.value.specs.Domains.{domain}
 use Rattle.value.specs.Inner.Shapes.{Sized}
 use Rattle.value.specs.Reading.{placed}
-use Rattle.value.proofs.Facts.{sorted}
+use Rattle.value.proofs.Facts.{sorted, year-most}
 use Rattle.value.proofs.Tables.{sized, few-bytes}
 use Rattle.value_parts.specs.Parts.{topOfBits, isHeld}
 use Rattle.value_parts.proofs.Holds.{held-halves, held-uint, held-float, held-double, held-year, held-bytes, held-seconds, held-date}
@@ -105,8 +105,7 @@ held-by DoubleBits d e z f h l =
     (held-double (numberIn d) (omega (arith, ltb-true (numberIn d) (256 ^ 8) (w .1))))
 held-by YearByte d e z f h l =
     let w = sorted d 5 _ h in
-    let b = both-true (leb 1900 (numberIn d)) (leb (numberIn d) 2155) (w .1) in
-    subst (λ (x : Datum). isHeld (placed e x) ≡ true) (w .0) (held-year (numberIn d) (omega (arith, leb-true (numberIn d) 2155 (b .1))))
+    subst (λ (x : Datum). isHeld (placed e x) ≡ true) (w .0) (held-year (numberIn d) (omega (arith, year-most (numberIn d) (w .1))))
 held-by (Timed k) d e z f h l =
     let w = sorted d 6 _ h in
     subst (λ (x : Datum). isHeld (placed e x) ≡ true) (w .0) (timed-held k (temporalIn d) (w .1))

@@ -2,9 +2,11 @@
 use mathlib.Core.Path.{refl}
 use Rattle.value.specs.Types.{familyOf, metadataBytes}
 use Rattle.value.specs.Columns.{declaredLength, shapeOf, isTaken}
+use Rattle.value.specs.Domains.{domain}
 use Rattle.value.specs.Shapes.{need}
 use Rattle.value.specs.Reading.{readValue}
 use Rattle.value.specs.Storing.{writeValue}
+use Rattle.value.proofs.Charts.{year-read}
 use Rattle.value.proofs.Bits.{real-or, real-small, real-digit, length-xor, xor-small, xor-digit}
 use Rattle.map_check.specs.Columns.{takeColumns}
 use Rattle.promises.specs.Tables.{EachRow, done, _and_, IsStored}
@@ -39,7 +41,7 @@ stored-values =
     and refl and refl and refl and refl and refl and refl and refl and refl and refl and refl and refl and refl and refl
     and refl and refl and refl and refl and refl and refl and refl and refl and refl and refl and refl and refl and refl
     and refl and refl and refl and refl and refl and refl and refl and refl and refl and refl and refl and refl and refl
-    and refl and refl and refl and refl and refl and refl and refl and refl and refl and refl and done
+    and refl and refl and refl and refl and refl and refl and refl and refl and refl and refl and refl and refl and done
 
 decimal-sizes : EachRow DecimalTakes decimals
 unfolding decimals shapeOf need
@@ -59,7 +61,7 @@ bit-sizes =
     and refl and refl and done
 
 pub metadata : Metadata
-unfolding takeColumns shapeOf isTaken writeValue declaredLength familyOf metadataBytes
+unfolding takeColumns shapeOf isTaken domain writeValue declaredLength familyOf metadataBytes
 metadata =
     record {
       types-taken = refl;
@@ -77,6 +79,8 @@ metadata =
       lone-types = refl;
       lone-254 = refl;
       stored-values = stored-values;
+      years = λ b h l. year-read b h;
+      no-1900 = refl;
       most-bytes = refl;
       more-bytes = refl;
       other-size = refl;

@@ -21,6 +21,7 @@ use Rattle.value.proofs.storing.is_lent.Reads as is-lent-reads
 use Rattle.value.proofs.storing.is_number.Reads as is-number-reads
 use Rattle.value.proofs.storing.is_signed.Reads as is-signed-reads
 use Rattle.value.proofs.storing.is_timed.Reads as is-timed-reads
+use Rattle.value.proofs.storing.is_year.Reads as is-year-reads
 
 is-lent-requires : tie.Need-is-lent-requires
 is-lent-requires c κs = search needs
@@ -65,8 +66,8 @@ is-number-requires-3 c κs = search needs
 enum-told-3 : tie.Need-enum-told-3
 enum-told-3 c = search needs
 
-is-number-requires-4 : tie.Need-is-number-requires-4
-is-number-requires-4 c κs = search needs
+is-year-requires : tie.Need-is-year-requires
+is-year-requires c κs = search needs
 
 enum-known-shape-3 : tie.Need-enum-known-shape-3
 enum-known-shape-3 c = search needs
@@ -133,7 +134,7 @@ returns-6 : tie.Need-returns-6
 returns-6 c = let a = c .before .before .before .before .before .before .args in
     let s = a .lent .now in
     let v = a .value in
-    c .is-number4 .ensures ∙ in-year s v
+    c .is-year .ensures ∙ in-year s v
     (sym (c .before .before .before .before .is-lent .ensures) ∙ not-false _ (c .before .before .before .if1 .left))
     ∙ ap (λ (sh : Shape). isIn sh s v) (sym (c .before .enum-told3 .given .1))
 
@@ -193,7 +194,7 @@ is-in-spec =
     top-of-requires-3
     is-number-requires-3
     enum-told-3
-    is-number-requires-4
+    is-year-requires
     enum-known-shape-3
     is-timed-requires
     enum-known-shape-4

@@ -7,7 +7,7 @@ use Rattle.value.specs.Storing.{isIn}
 use mir.Syntax.{w64}
 use mir.ValLaws.{toZ-ofZ}
 use Rattle.value.proofs.Writers.{is-in, none-in, put-unsigned, put-signed, put-float, put-double, put-year, put-fixed, put-counted}
-use Rattle.value.proofs.Writers.{put-timed, year-least}
+use Rattle.value.proofs.Writers.{put-timed}
 use borrow.Author.Needs.{needs}
 use Rattle.value.proofs.storing.store_shape.Statement.{statement}
 use Rattle.value.proofs.storing.store_shape.Tie as tie
@@ -21,6 +21,7 @@ use Rattle.wire.proofs.twos_of.Reads as twos-of-reads
 use Rattle.value.proofs.storing.write_part.Reads as write-part-reads
 use Rattle.wire.proofs.write_le.Reads as write-le-reads
 use Rattle.wire.proofs.refuse.Reads as refuse-reads
+use Rattle.value.proofs.years.byte_of_year.Reads as byte-of-year-reads
 
 enum-known-shape : tie.Need-enum-known-shape
 enum-known-shape c = search needs
@@ -67,12 +68,8 @@ enum-told-3 c = search needs
 number-in-requires-4 : tie.Need-number-in-requires-4
 number-in-requires-4 c κs = search needs
 
-sub-write-le : tie.Need-sub-write-le
-sub-write-le c = let a = c .before .before .before .before .before .args in
-    let h =
-    ap (λ (sh : Shape). isIn sh (a .lent .now) (a .value)) (sym (c .before .enum-told3 .given .1))
-    ∙ c .before .before .before .before .before .pre .1 in
-    omega (arith, year-least (a .lent .now) (a .value) h, c .number-in4 .ensures)
+byte-of-year-requires : tie.Need-byte-of-year-requires
+byte-of-year-requires c κs = search needs
 
 write-le-requires-5 : tie.Need-write-le-requires-5
 write-le-requires-5 c κs = search needs
@@ -175,14 +172,15 @@ same-length-5 : tie.Need-same-length-5
 same-length-5 c = search needs
 
 returns-5 : tie.Need-returns-5
-returns-5 c = let a = c .before .before .before .before .before .before .before .before .before .args in
+returns-5 c = let a = c .before .before .before .before .before .before .before .before .before .before .args in
     let s = a .lent .now in
     let v = a .value in
     let f = c .before .before .write-le5 .ensures in
     rw (
-      c .before .before .before .before .before .enum-told3 .given .1,
+      c .before .before .before .before .before .before .enum-told3 .given .1,
       put-year s v,
-      ← c .before .before .before .before .number-in4 .ensures,
+      ← c .before .before .before .before .before .number-in4 .ensures,
+      ← c .before .before .before .before .byte-of-year .ensures,
     ) (f .0, f .1)
 
 same-length-6 : tie.Need-same-length-6
@@ -251,7 +249,7 @@ store-shape-spec =
     write-le-requires-4
     enum-told-3
     number-in-requires-4
-    sub-write-le
+    byte-of-year-requires
     write-le-requires-5
     enum-known-shape-3
     temporal-in-requires
