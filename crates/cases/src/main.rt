@@ -66,7 +66,7 @@ fn answer_all(
     let mut source = Source { at: 0, have: 0 };
     let mut used: usize = 0;
     let mut turns = u64::MAX;
-    while turns > 0 {
+    while turns > 0 && used != LOST {
         turns -= 1;
         let next = next_line(block, line, source);
         let Next::Line(length, after) = next else {
@@ -74,9 +74,6 @@ fn answer_all(
         };
         source = after;
         used = answer(kinds, line, length, args, room, out, used);
-        if used == LOST {
-            return LOST;
-        }
     }
     LOST
 }
