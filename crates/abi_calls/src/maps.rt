@@ -61,7 +61,7 @@ fn item(list: u64, value: &[u8], offset: usize) -> bool {
 }
 
 fn checks(event: &[u8]) -> bool {
-    check_alone(event, 0) && check_alone(event, 1) && check_alone(event, 2) && check_alone(event, 3)
+    check_alone(event, 0) && check_alone(event, 2) && check_alone(event, 3)
 }
 
 fn names_told(event: &[u8]) -> bool {
@@ -69,7 +69,6 @@ fn names_told(event: &[u8]) -> bool {
         && names(event, 3)
         && name(b"\x01a\x03bcd", b"\x02xy\x00\x01z", 1)
         && name(b"", b"\x02xy\x00\x01z", 2)
-        && name(b"\x01a\x03bcd", b"", 2)
 }
 
 fn fields(event: &[u8]) -> bool {

@@ -53,7 +53,7 @@ fn run(plan: &[u8], images: &[u8], item: usize, offset: usize) -> bool {
 }
 
 fn runs(plan: &[u8], images: &[u8]) -> bool {
-    run(plan, images, 0, 2) && run(plan, images, 7, 30) && run(plan, images, 15, 2)
+    run(plan, images, 0, 2) && run(plan, images, 15, 2)
 }
 
 fn start(record: &[u8], nulls: &[u8]) -> bool {
@@ -97,13 +97,11 @@ fn more_puts(record: &[u8]) -> bool {
         && put(record, 8, 10, &[1, 22, 23, 24, 456700])
         && put(record, 9, 11, &[1, 3])
         && put(record, 11, 1, &[])
-        && put(record, 12, 3, &[2])
         && put(record, 12, 0, &[2])
-        && put(record, 14, 3, &[2])
 }
 
 fn steps(record: &[u8], image: &[u8]) -> bool {
-    step(record, &PRESENCE, image, 7, 30)
+    step(record, &PRESENCE, image, 7, 31)
         && step(record, &PRESENCE, image, 14, 57)
         && step(record, &WRONG_PRESENCE, &WRONG, 1, 5)
 }
