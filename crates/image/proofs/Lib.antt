@@ -1,4 +1,5 @@
--- The laws of the crate, after the modules of src: `PresenceLaws`, `CursorLaws`, `StepLaws`, `EndLaws` and `PutLaws`. `Views`: no two
+-- The laws of the crate, after the modules of src: `PresenceLaws`, `CursorLaws`, `StepLaws`, `EndLaws`, `PutLaws` and
+-- `RoomLaws`. `Views`: no two
 -- answers look the same on paper. `Worked`: document 01's worked reading, computed.
 pub mod Views
 mod Worked
@@ -7,3 +8,4 @@ pub mod CursorLaws
 pub mod StepLaws
 pub mod EndLaws
 pub mod PutLaws
+pub mod RoomLaws
