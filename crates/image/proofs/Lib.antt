@@ -1,6 +1,5 @@
--- The laws of the crate, after the modules of src: `PresenceLaws`, `CursorLaws`, `StepLaws`, `EndLaws`, `PutLaws` and
--- `RoomLaws`. `Views`: no two
--- answers look the same on paper. `Worked`: document 01's worked reading, computed.
+-- The laws of the crate, after the modules of src: `PresenceLaws`, `CursorLaws`, `StepLaws`, `EndLaws`, `PutLaws` and `RoomLaws`. `Views`:
+-- no two answers look the same on paper. `Worked`: document 01's worked reading, computed.
 pub mod Views
 mod Worked
 pub mod PresenceLaws

@@ -1,8 +1,8 @@
 -- How many bytes a value takes at most. What the bytes at hand tell is no more, and so are the stored bytes of a value in the domain; and a
 -- value of each shape has just so many. Assumes nothing.
 use Prim.Native.Nat.{ℕ, zero, suc, _+_, _-_, _/_, _^_, _≤_, _<_, min}
-use mathlib.Core.Path.{_≡_, refl, sym, ap, _∙_}
-use mathlib.Core.Bool.{true, false, _&&_, true≢false}
+use mathlib.Core.Path.{_≡_, refl, sym, _∙_}
+use mathlib.Core.Bool.{true, false, true≢false}
 use mathlib.Core.List.{List, [], _∷_}
 use native.Mathlib.Nat.{zero-mod, add-zero}
 use native.Mathlib.Omega.{arith}
@@ -131,7 +131,7 @@ fullest (Fixed n) = bytes (replicate n 0)
 fullest (Counted k) = bytes (replicate (256 ^ k - 1) 0)
 fullest (NotTaken n) = null
 
-zero-bytes : (n : ℕ) → Bytes (replicate n 0)
+pub zero-bytes : (n : ℕ) → Bytes (replicate n 0)
 zero-bytes zero i = omega arith
 zero-bytes (suc n) zero = omega arith
 zero-bytes (suc n) (suc i) = zero-bytes n i

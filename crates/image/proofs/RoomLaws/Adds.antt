@@ -1,6 +1,6 @@
 -- The room for one image, added up column by column, and that it is a small number. Assumes nothing.
 use Prim.Native.Nat.{ℕ, zero, suc, _+_, _-_, _*_, _≤_, _<_}
-use mathlib.Core.Path.{_≡_, refl, sym, ap, subst, _∙_}
+use mathlib.Core.Path.{_≡_, refl, sym, ap, _∙_}
 use mathlib.Core.Bool.{Bool, true, false, cond}
 use mathlib.Core.List.{List, [], _∷_, _++_}
 use native.Mathlib.Nat.{zero-add, sub-zero}
@@ -8,10 +8,9 @@ use native.Mathlib.Numerals.{add-one}
 use native.Mathlib.Omega.{arith}
 use lib.ListN.{length}
 use Rattle.wire.specs.declared.refusal.Refusal.{Refusal}
-use Rattle.wire.specs.Outcome.{Outcome, ok, refused, after}
+use Rattle.wire.specs.Outcome.{ok, refused}
 use Rattle.wire.specs.Bits.{bytesFor, bitLsb0}
 use Rattle.value.specs.Shapes.{mostOf}
-use Rattle.value.specs.Columns.{shapeOf}
 use Rattle.value.proofs.Tables.{most-few}
 use Rattle.record.specs.Entries.{columnOf}
 use Rattle.record.specs.Records.{countOf, entryIn, recordValid}
@@ -22,7 +21,7 @@ use Rattle.image.specs.Split.{headOf}
 use Rattle.image.specs.Room.{mostOfAll, imageRoom, readRoom}
 use Rattle.image.proofs.PresenceLaws.Firsts.{presentAt, count-at-most}
 use Rattle.image.proofs.PresenceLaws.Presents.{present-length}
-use Rattle.image.proofs.CursorLaws.Heads.{Tested, head-tested}
+use Rattle.image.proofs.CursorLaws.Heads.{head-tested}
 
 -- ---- what a column adds
 unfoldable pub columnRoom : List ℕ → List ℕ → ℕ → ℕ
@@ -78,6 +77,18 @@ pub room-small : (r p : List ℕ) → recordValid r ≡ true → imageRoom r p �
 unfolding imageRoom
 room-small r p v =
     omega (arith, most-small (countOf r) r p 0, present-length r p, count-at-most p (countOf r), valid-few r v)
+
+-- no present column adds nothing
+nothing : (cs : List Present) → length cs ≡ 0 → mostOfAll cs ≡ 0
+unfolding mostOfAll
+nothing [] e = refl
+nothing (c ∷ cs) e = absurd (omega arith)
+
+pub room-none : (r p : List ℕ) → countBits p (countOf r) ≡ 0 → imageRoom r p ≡ 0
+unfolding imageRoom
+room-none r p z =
+    let l : length (present r p) ≡ 0 = present-length r p ∙ z in
+    omega (arith, l, nothing (present r p) l)
 
 -- ---- the loop: what is told so far and what the columns from j on add is all of it, and it is small
 pub record Adding (r p : List ℕ) (n j bytes : ℕ) : Type 0 where

@@ -1,6 +1,6 @@
 -- The room for one image is enough and not too much. No row in the domains takes more, no image that is read took more, and a row takes just
 -- that. A writer that is lent it never refuses for want of room, whatever values it is given. Assumes nothing.
-use Prim.Native.Nat.{ℕ, suc, _+_, _-_, _≤_, _<_}
+use Prim.Native.Nat.{ℕ, suc, _+_, _-_, _≤_}
 use mathlib.Core.Path.{_≡_, refl, sym, ap, subst, _∙_}
 use mathlib.Core.Bool.{Bool, true, false, cond, true≢false}
 use mathlib.Core.Logic.{⊎-elim}
@@ -14,15 +14,15 @@ use Rattle.wire.specs.declared.refusal.Refusal.{Refusal}
 use Rattle.wire.specs.Outcome.{Outcome, ok, refused, refuse, why, after}
 use Rattle.wire.specs.Number.{Bytes}
 use Rattle.wire.specs.Bits.{bytesFor, bitLsb0}
-use Rattle.wire.specs.Stored.{stored, store}
+use Rattle.wire.specs.Stored.{store}
 use Rattle.wire.proofs.Inverse.{bytes-drop}
-use Rattle.wire.proofs.Outcomes.{after-is-ok, after-refuses, test-refuses, same-ok, ok-not-refused, both-true}
+use Rattle.wire.proofs.Outcomes.{after-refuses, test-refuses, same-ok, same-refused, ok-not-refused, both-true}
 use Rattle.wire.proofs.Stores.{length-stored, store-fits}
 use Rattle.value.specs.declared.shape.Shape.{Shape}
 use Rattle.value.specs.declared.datum.Value.{Value}
 use Rattle.value.specs.Columns.{isTaken}
 use Rattle.value.specs.Data.{Datum}
-use Rattle.value.specs.Shapes.{mostOf, bytesOf}
+use Rattle.value.specs.Shapes.{mostOf}
 use Rattle.value.specs.Reading.{datumOf}
 use Rattle.value.specs.Storing.{isIn, storedBytes}
 use Rattle.value.proofs.Laws.{took}
@@ -159,7 +159,7 @@ Few m (ok b) = length b ≤ m
 Few m (refused w) = NotFull w
 
 not-taken : (m j : ℕ) → Few m (refuse 13 j)
-not-taken m j e = let x : 13 ≡ 8 = e in omega arith
+not-taken m j e = let x : _≡_ {A = ℕ} 13 8 = e in omega arith
 
 few-stored : (sh : Shape) (j : ℕ) (lent : List ℕ) (v : Value) → isTaken sh ≡ true → Few (mostOf sh) (storedBytes sh j lent v)
 few-stored sh j lent v t = go (isIn sh lent v) refl
@@ -200,7 +200,7 @@ module _ (r p nulls : List ℕ) {h : Head} (head : headNulls r p nulls ≡ ok h)
       → presentFrom (countOf r - c .column) r p (c .column) ≡ cs → Each Good cs → c .offset + mostOfAll cs ≤ length buf
       → (k : ℕ) → Still (putOver (slots cs k nulls) c lent v buf)
   unfolding putOver slots Each mostOfAll
-  over [] c lent v buf n q g l k e = let x : 14 ≡ 8 = e in omega arith
+  over [] c lent v buf n q g l k = λ e. let x : _≡_ {A = ℕ} 14 8 = e in omega arith
   over (d ∷ cs) c lent v buf n q g l k = go (slotBytes i lent v) (few-slot i lent v (g .0 .taken))
     where
       i : Slot
@@ -276,14 +276,14 @@ head-refuses r p nulls w e =
     ⊎-elim
     (λ (a : readRecord r ≡ refused w).
     let t = test-refuses (recordValid r) (countOf r) (why 11 0) w a .1 in
-    λ (n : w .number ≡ 8). let x : 11 ≡ 8 = ap (λ (y : Refusal). y .number) t ∙ n in omega arith)
+    λ (n : w .number ≡ 8). let x : _≡_ {A = ℕ} 11 8 = ap (λ (y : Refusal). y .number) t ∙ n in omega arith)
     (λ a.
     let t = test-refuses (eqb (length p) (bytesFor (a .0))) (headWith (a .0) (countBits p (a .0))) (why 12 0) w (a .2) .1 in
-    λ (n : w .number ≡ 8). let x : 12 ≡ 8 = ap (λ (y : Refusal). y .number) t ∙ n in omega arith)
+    λ (n : w .number ≡ 8). let x : _≡_ {A = ℕ} 12 8 = ap (λ (y : Refusal). y .number) t ∙ n in omega arith)
     (after-refuses (readRecord r) _ w q))
     (λ b.
     let t = test-refuses (eqb (length nulls) (b .0 .nulls)) (b .0) (why 12 0) w (b .2) .1 in
-    λ (n : w .number ≡ 8). let x : 12 ≡ 8 = ap (λ (y : Refusal). y .number) t ∙ n in omega arith)
+    λ (n : w .number ≡ 8). let x : _≡_ {A = ℕ} 12 8 = ap (λ (y : Refusal). y .number) t ∙ n in omega arith)
     (after-refuses (headOf r p) _ w e)
 
 pub never-for-room : (r p nulls : List ℕ) (gs : List LentValue) (buf : List ℕ) (w : Refusal) → imageRoom r p ≤ length buf
@@ -293,4 +293,6 @@ never-for-room r p nulls gs buf w l e = go (headNulls r p nulls) refl
   where
     go : (x : Outcome Head) → headNulls r p nulls ≡ x → NotFull w
     go (ok h) q = good-head r p nulls q gs buf w l e
-    go (refused v) q = head-refuses r p nulls w (q ∙ (rw q at e))
+    go (refused v) q =
+        let z : v ≡ w = same-refused (rw q at e) in
+        head-refuses r p nulls w (q ∙ ap refused z)
