@@ -27,7 +27,7 @@ fn column_room(profile: &[u8], presence: &[u8], column: usize) -> u64
     0
 }
 
-// Null bits, and the largest value of each present column. It looks at each column once.
+// Null bits, and the largest value of each present column. The record is tested once, so it costs as much as the record has columns.
 pub fn image_room(profile: &[u8], presence: &[u8]) -> Room
     ensures { λ r. ⌜ roomTold r ≡ readRoom (now (profile .entry)) (now (presence .entry)) ⌝ }
 {

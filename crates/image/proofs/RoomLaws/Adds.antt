@@ -10,6 +10,7 @@ use lib.ListN.{length}
 use Rattle.wire.specs.declared.refusal.Refusal.{Refusal}
 use Rattle.wire.specs.Outcome.{ok, refused}
 use Rattle.wire.specs.Bits.{bytesFor, bitLsb0}
+use Rattle.value.specs.declared.shape.Shape.the-variants.{Counted}
 use Rattle.value.specs.Shapes.{mostOf}
 use Rattle.value.proofs.Tables.{most-few}
 use Rattle.record.specs.Entries.{columnOf}
@@ -19,7 +20,7 @@ use Rattle.image.specs.declared.cursor.Head.{Head}
 use Rattle.image.specs.Present.{Present, countBits, shapeAt, presentFrom, present}
 use Rattle.image.specs.Split.{headOf}
 use Rattle.image.specs.Room.{mostOfAll, imageRoom, readRoom}
-use Rattle.image.proofs.PresenceLaws.Firsts.{presentAt, count-at-most}
+use Rattle.image.proofs.PresenceLaws.Firsts.{presentAt, count-set, count-none, count-at-most}
 use Rattle.image.proofs.PresenceLaws.Presents.{present-length}
 use Rattle.image.proofs.CursorLaws.Heads.{head-tested}
 
@@ -77,6 +78,30 @@ pub room-small : (r p : List ℕ) → recordValid r ≡ true → imageRoom r p �
 unfolding imageRoom
 room-small r p v =
     omega (arith, most-small (countOf r) r p 0, present-length r p, count-at-most p (countOf r), valid-few r v)
+
+-- and such a record takes just that, all its columns being LONGBLOB and present
+all-widest : (m : ℕ) (r p : List ℕ) (j : ℕ) → ((i : ℕ) → i < j + m → columnRoom r p i ≡ 4294967299)
+    → mostOfAll (presentFrom m r p j) ≡ m * 4294967299
+all-widest zero r p j h = omega (arith, most-none r p j)
+all-widest (suc m) r p j h =
+    omega (arith, most-more m r p j, h j (omega arith), all-widest m r p (suc j) (λ i l. h i (omega arith)))
+
+all-set : (n : ℕ) (p : List ℕ) → ((i : ℕ) → i < n → bitLsb0 p i ≡ true) → countBits p n ≡ n
+all-set zero p h = count-none p
+all-set (suc n) p h = count-set p n (h n (omega arith)) ∙ ap suc (all-set n p (λ i l. h i (omega arith)))
+
+widest-column : (r p : List ℕ) (i : ℕ) → bitLsb0 p i ≡ true → shapeAt r i ≡ Counted 4 → columnRoom r p i ≡ 4294967299
+unfolding columnRoom mostOf
+widest-column r p i b s = rw (b, s)
+
+pub room-widest : (r p : List ℕ) → countOf r ≡ 4096 → ((i : ℕ) → i < 4096 → (bitLsb0 p i ≡ true) × (shapeAt r i ≡ Counted 4))
+    → imageRoom r p ≡ 512 + 4096 * 4294967299
+unfolding imageRoom
+room-widest r p n h =
+    let m = all-widest (countOf r) r p 0
+    (λ i l. let k : i < 4096 = omega arith in widest-column r p i (h i k .0) (h i k .1)) in
+    let c = all-set (countOf r) p (λ i l. h i (omega arith) .0) in
+    omega (arith, m, c, present-length r p)
 
 -- no present column adds nothing
 nothing : (cs : List Present) → length cs ≡ 0 → mostOfAll cs ≡ 0
