@@ -1,5 +1,5 @@
-// Room for one image: the most bytes that an image under a record and presence bits can take, so that a buffer can be lent before the row is
-// known.
+// Room for one image: the most bytes that an image under a record and presence bits can take, so that a buffer can be lent before the row
+// is known.
 use crate::cursor::HeadRead;
 use crate::cursor::read_head;
 use wire::Refusal;

@@ -1,6 +1,6 @@
--- Request 8: room for one image. "Given a valid record and presence bits, report the most bytes an image under them can take: null bits plus
--- each present column's largest stored size, length bytes included." The definition is `imageRoom` in image/specs/Room, over `mostOf` in
--- value/specs/Shapes. What `image_room` refuses is in `Refusals`. `rooms` in proofs/Room.antt proves all of it. Assumes nothing.
+-- Request 8: room for one image. "Given a valid record and presence bits, report the most bytes an image under them can take: null bits
+-- plus each present column's largest stored size, length bytes included." The definition is `imageRoom` in image/specs/Room, over `mostOf`
+-- in value/specs/Shapes. What `image_room` refuses is in `Refusals`. `rooms` in proofs/Room.antt proves all of it. Assumes nothing.
 use Prim.Native.Nat.{ℕ, _+_, _*_, _^_, _≤_, _<_}
 use mathlib.Core.Path.{_≡_}
 use mathlib.Core.Bool.{true, false}

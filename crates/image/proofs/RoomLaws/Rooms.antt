@@ -1,5 +1,5 @@
--- The room for one image is enough and not too much. No row in the domains takes more, no image that is read took more, and a row takes just
--- that. A writer that is lent it never refuses for want of room, whatever values it is given. Assumes nothing.
+-- The room for one image is enough and not too much. No row in the domains takes more, no image that is read took more, and a row takes
+-- just that. A writer that is lent it never refuses for want of room, whatever values it is given. Assumes nothing.
 use Prim.Native.Nat.{ℕ, suc, _+_, _-_, _≤_}
 use mathlib.Core.Path.{_≡_, refl, sym, ap, subst, _∙_}
 use mathlib.Core.Bool.{Bool, true, false, cond, true≢false}

@@ -225,8 +225,8 @@ columns-told : (n : ℕ) → (entryAt n - 6) / 6 ≡ n
 columns-told n = omega arith
 
 pub abi : AbiCalls
-unfolding feedMap feedCheck feedNames feedName feedParts feedFields feedField feedItem itemAt feedFirst feedStep feedStart feedPut feedRoom feedRows
-    feedImage feedPlan feedRun statusOf numbersLeft bytesLeft inTable isAmong
+unfolding feedMap feedCheck feedNames feedName feedParts feedFields feedField feedItem itemAt feedFirst feedStep feedStart feedPut feedRoom
+    feedRows feedImage feedPlan feedRun statusOf numbersLeft bytesLeft inTable isAmong
 abi = record {
   feed-map = λ event postHeader. only refl (in-numbers mapNumbers (readEvent event postHeader) (refusals .read-event event postHeader));
   feed-check = λ event postHeader dialect buf d e.

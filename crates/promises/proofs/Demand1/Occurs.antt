@@ -45,8 +45,8 @@ no-memory meta h =
 pub occurs : Occurs
 unfolding zeros within readFixed readPacked packedForm longForm store clockFault dayFault readTemporal writeTemporal shapeOf shapeFor
     readValue writeValue sizeOf valueOf readEvent writeEvent eventSize step pairItem groupItem longPart cutField judgeField fieldStep
-    readRecord check columnName headOf firstCursor stepFrom walkImage startImage putFrom readRoom makePlan planStep readRun readRows nextImage
-    feedCheck feedColumn feedNames feedFields feedItem feedPut
+    readRecord check columnName headOf firstCursor stepFrom walkImage startImage putFrom readRoom makePlan planStep readRun readRows
+    nextImage feedCheck feedColumn feedNames feedFields feedItem feedPut
 occurs = record {
   within-bytes = refl;
   read-fixed = refl;

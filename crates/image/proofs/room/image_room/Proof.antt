@@ -1,5 +1,5 @@
--- `image::room::image_room` meets its contract. The loop's invariant: the bytes so far and those of the columns that are left are all of it.
--- Assumes nothing.
+-- `image::room::image_room` meets its contract. The loop's invariant: the bytes so far and those of the columns that are left are all of
+-- it. Assumes nothing.
 use Prim.Native.Nat.{_-_}
 use mathlib.Core.Path.{sym, ap, _∙_}
 use native.Mathlib.Omega.{arith}
