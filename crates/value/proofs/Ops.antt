@@ -18,11 +18,11 @@ use Rattle.value.specs.declared.types.Family.the-variants.{Integer, Floa
 use Rattle.value.specs.declared.types.Family.the-variants.{Datetime2, Time2, Varchar, Char, Blob, Json, Bit, Decimal, Enum, Set}
 use Rattle.value.specs.declared.types.Family.the-variants.{Unknown}
 use Rattle.value.specs.Types.{familyOf, or30}
-use Rattle.value.specs.Columns.{shapeIn, shapeOf, isTaken, decimalBytes}
+use Rattle.value.specs.Columns.{shapeIn, shapeOf, isTaken, leftoverBytes, decimalBytes}
 use Rattle.value.specs.Inner.Shapes.{Sized}
 use Rattle.value.specs.Ops.{shapeFor, within, storageOp, opOf, StorageOpped, Opped}
 use Rattle.wire.proofs.Each.{left, right}
-use Rattle.value.proofs.Tables.{sized, leftover-rule}
+use Rattle.value.proofs.Tables.{sized}
 
 -- ---- an op of a range
 pub above : (op k : ℕ) → k ≤ op → (op ≡ k → ⊥) → k + 1 ≤ op
@@ -212,8 +212,8 @@ pick P true p q = p tt
 pick P false p q = q
 
 decimal-most : (m0 m1 : ℕ) → m0 ≤ 65 → m1 ≤ 30 → decimalBytes m0 m1 ≤ 204
-unfolding decimalBytes
-decimal-most m0 m1 h l = rw (leftover-rule ((m0 - m1) % 9) (omega arith), leftover-rule (m1 % 9) (omega arith)) (omega arith)
+unfolding decimalBytes leftoverBytes
+decimal-most m0 m1 h l = omega arith
 
 set-most : (m1 : ℕ) (a b : Bool) → (T a → m1 ≤ 4) → (T b → m1 ≡ 8) → T (a || b) → m1 ≤ 204
 set-most m1 true b p q t = let h = p tt in omega arith

@@ -1,14 +1,14 @@
 -- What holds of every column: its shape has a width that there is, an accepted column's value takes a byte at least, and a value in its
--- domain has few bytes. The table of a decimal's leftover digits has a rule. Assumes nothing.
+-- domain has few bytes. The rule of a decimal's leftover digits is document 01's table. Assumes nothing.
 use Prim.Native.Nat.{ℕ, _+_, _-_, _*_, _/_, _%_, _^_, _≤_, _<_}
 use mathlib.Core.Bool.{Bool, true, false, cond, _&&_, _||_, true≢false}
-use mathlib.Core.List.{List}
+use mathlib.Core.List.{List, [], _∷_}
 use mathlib.Core.Logic.{_⊎_, inl, inr, dite}
 use mathlib.Core.Path.{_≡_, refl, sym, ap, _∙_, subst}
 use borrow.Author.Tests.{lt-leb, ne-eqb, ltb-true, eqb-true}
 use native.Mathlib.Decide.{decLe}
 use native.Mathlib.Omega.{arith}
-use lib.ListN.{length}
+use lib.ListN.{length, getD}
 use lib.Dec.{T, leb, ltb, eqb, eqb→eq, leb→le}
 use Rattle.wire.specs.Number.{areBytes}
 use Rattle.wire.proofs.Bytes.{wider}
@@ -32,23 +32,27 @@ use Rattle.value.specs.Shapes.{need}
 use Rattle.value.specs.Inner.Shapes.{Sized}
 use Rattle.value.proofs.Facts.{made, sorted}
 
--- ---- the table of a decimal's leftover digits
-pub leftover-rule : (digits : ℕ) → digits < 9 → leftoverBytes digits ≡ (digits + 1) / 2
+-- ---- a decimal's leftover digits
+-- "leftover digits 0 to 8 take 0, 1, 1, 2, 2, 3, 3, 4, 4 bytes"
+pub leftover-table : (digits : ℕ) → digits < 9 → leftoverBytes digits ≡ getD (0 ∷ 1 ∷ 1 ∷ 2 ∷ 2 ∷ 3 ∷ 3 ∷ 4 ∷ 4 ∷ []) digits 0
 unfolding leftoverBytes
-leftover-rule digits h =
-    eqb→eq (leftoverBytes digits) ((digits + 1) / 2)
-    (below (λ (d : ℕ). eqb (leftoverBytes d) ((d + 1) / 2)) 9 tt digits h)
+leftover-table digits h =
+    eqb→eq (leftoverBytes digits) (getD table digits 0) (below (λ (d : ℕ). eqb (leftoverBytes d) (getD table d 0)) 9 tt digits h)
+  where
+    table : List ℕ
+    table = 0 ∷ 1 ∷ 1 ∷ 2 ∷ 2 ∷ 3 ∷ 3 ∷ 4 ∷ 4 ∷ []
 
 pub digits-size : (digits : ℕ) → digitsBytes digits ≡ digits / 9 * 4 + (digits % 9 + 1) / 2
-digits-size digits = rw (leftover-rule (digits % 9) (omega arith)) refl
+unfolding leftoverBytes
+digits-size digits = refl
 
 decimal-some : (m0 m1 : ℕ) → 1 ≤ m0 → m1 ≤ m0 → 0 < decimalBytes m0 m1
-unfolding decimalBytes
-decimal-some m0 m1 h l = rw (leftover-rule ((m0 - m1) % 9) (omega arith), leftover-rule (m1 % 9) (omega arith)) (omega arith)
+unfolding decimalBytes leftoverBytes
+decimal-some m0 m1 h l = omega arith
 
 decimal-few : (m0 m1 : ℕ) → m0 ≤ 65 → m1 ≤ 30 → decimalBytes m0 m1 ≤ 64
-unfolding decimalBytes
-decimal-few m0 m1 h l = rw (leftover-rule ((m0 - m1) % 9) (omega arith), leftover-rule (m1 % 9) (omega arith)) (omega arith)
+unfolding decimalBytes leftoverBytes
+decimal-few m0 m1 h l = omega arith
 
 -- the bytes of a SET
 set-few : (m1 : ℕ) → T (leb m1 4 || eqb m1 8) → m1 ≤ 64

@@ -2,8 +2,6 @@
 -- that they tell. Assumes nothing.
 use Prim.Native.Nat.{ℕ, _+_, _-_, _*_, _/_, _%_}
 use mathlib.Core.Bool.{Bool, true, false, cond, _&&_, _||_}
-use mathlib.Core.List.{[], _∷_}
-use lib.ListN.{getD}
 use lib.Dec.{leb, ltb, eqb}
 use Rattle.temporal.specs.declared.storage.Storage.the-variants.{Timestamp as StoredTimestamp, OldTime, OldDatetime, Newdate}
 use Rattle.temporal.specs.declared.storage.Storage.the-variants.{Timestamp2 as StoredTimestamp2, Datetime2 as StoredDatetime2}
@@ -55,9 +53,9 @@ declaredLength t m0 m1 = declaredIn (familyOf t) m0 m1
 abbrev pub lengthBytes : ℕ → ℕ
 lengthBytes declared = cond (ltb declared 256) 1 2
 
--- "leftover digits 0 to 8 take 0, 1, 1, 2, 2, 3, 3, 4, 4 bytes"
+-- leftover digits take "the half of one more than the digits, rounded down"; for 0 to 8 that is document 01's table (`leftover-table`)
 unfoldable pub leftoverBytes : ℕ → ℕ
-leftoverBytes digits = getD (0 ∷ 1 ∷ 1 ∷ 2 ∷ 2 ∷ 3 ∷ 3 ∷ 4 ∷ 4 ∷ []) digits 0
+leftoverBytes digits = (digits + 1) / 2
 
 -- "integer and fraction digits each take 4 bytes per nine"
 abbrev pub digitsBytes : ℕ → ℕ

@@ -56,14 +56,12 @@ fn length_bytes(declared: usize) -> usize
     2
 }
 
-// How many bytes 0 to 8 digits of a decimal take.
-const LEFTOVER_BYTES: [usize; 9] = [0, 1, 1, 2, 2, 3, 3, 4, 4];
-
+// How many bytes the digits of a decimal beyond nines take: one for two of them, and one for the last of an odd number.
 fn leftover_bytes(digits: usize) -> usize
     requires { ⌜ digits < 9 ⌝ }
     ensures { λ r. ⌜ r ≡ leftoverBytes digits ⌝ }
 {
-    LEFTOVER_BYTES[digits]
+    (digits + 1) / 2
 }
 
 // How many bytes the digits on one side of a decimal's point take.

@@ -1,6 +1,6 @@
--- `value::column::digits_bytes` meets its contract. The table's rule bounds the leftover. Assumes nothing.
-use Rattle.value.proofs.Tables.{leftover-rule}
-use mathlib.Core.Path.{_≡_, refl, _∙_}
+-- `value::column::digits_bytes` meets its contract. Assumes nothing.
+use Rattle.value.specs.Columns.{leftoverBytes}
+use mathlib.Core.Path.{_≡_, refl}
 use native.Mathlib.Omega.{arith}
 use Prim.Native.Nat.{_+_, _/_, _%_}
 use borrow.Author.Needs.{needs}
@@ -21,8 +21,9 @@ leftover-bytes-requires : tie.Need-leftover-bytes-requires
 leftover-bytes-requires c κs = search needs
 
 add-result : tie.Need-add-result
+unfolding leftoverBytes
 add-result c = let d = c .before .wide .result in
-    let e : c .leftover-bytes .result ≡ (d % 9 + 1) / 2 = c .leftover-bytes .ensures ∙ leftover-rule (d % 9) (omega arith) in
+    let e : c .leftover-bytes .result ≡ (d % 9 + 1) / 2 = c .leftover-bytes .ensures in
     omega arith
 
 returns : tie.Need-returns

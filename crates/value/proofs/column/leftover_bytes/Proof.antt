@@ -1,5 +1,5 @@
 -- `value::column::leftover_bytes` meets its contract. Assumes nothing.
-use Rattle.wire.proofs.Rules.{tests}
+use mathlib.Core.Path.{refl}
 use Rattle.value.specs.Columns.{leftoverBytes}
 use borrow.Author.Needs.{needs}
 use Rattle.value.proofs.column.leftover_bytes.Statement.{statement}
@@ -7,15 +7,12 @@ use Rattle.value.proofs.column.leftover_bytes.Tie as tie
 use Rattle.value.proofs.column.leftover_bytes.Reads as reads
 use Rattle.value.proofs.column.leftover_bytes.Lts as lts
 
-mul-result : tie.Need-mul-result
-mul-result c = search needs
-
-array-read-result : tie.Need-array-read-result
-array-read-result c = search needs
+add-result : tie.Need-add-result
+add-result c = search needs
 
 returns : tie.Need-returns
 unfolding leftoverBytes
-returns c = search tests
+returns c = refl
 
 pub leftover-bytes-spec : {M : Type 1} → statement M
-leftover-bytes-spec = tie.close (tie.spec mul-result array-read-result returns)
+leftover-bytes-spec = tie.close (tie.spec add-result returns)
