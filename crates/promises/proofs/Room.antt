@@ -10,7 +10,7 @@ use Rattle.wire.specs.Bits.{bytesFor}
 use Rattle.value.specs.Columns.{shapeOf}
 use Rattle.value.specs.Shapes.{mostOf}
 use Rattle.record.specs.Records.{countOf, recordValid}
-use Rattle.image.specs.Present.{present}
+use Rattle.image.specs.Present.{presentFrom, present}
 use Rattle.image.specs.Rows.{Row}
 use Rattle.image.specs.WriteRow.{rowOf, imageSize}
 use Rattle.image.specs.Room.{imageRoom, readRoom}
@@ -48,7 +48,7 @@ reached r p v b =
     }
 
 worked : (readRoom workedRecord (7 ∷ []) ≡ ok 262) × (readRoom workedRecord (5 ∷ []) ≡ ok 6)
-unfolding readRoom
+unfolding readRoom presentFrom
 worked = (refl, refl)
 
 lengths : (mostOf (shapeOf (columnWith 15 20)) ≡ 256) × (mostOf (shapeOf (columnWith 252 4)) ≡ 2 ^ 32 + 3)
