@@ -1,10 +1,11 @@
 -- The definitions of the crate: what people must believe. `Present`: which columns an image has. `Split`: the split of an image, a step
--- over it. `Walk`: the whole walk. `Rows`: rows on paper, and demand 3. `Puts`: the writer. `WriteRow`: a whole row written. `Inner`: what
--- the crate's own functions go by, which nobody need believe.
+-- over it. `Walk`: the whole walk. `Rows`: rows on paper, and demand 3. `Puts`: the writer. `WriteRow`: a whole row written. `Grown`: what
+-- an answer may become when bytes are put behind the image. `Inner`: what the crate's own functions go by, which nobody need believe.
 pub mod Present
 pub mod Split
 pub mod Walk
 pub mod Rows
 pub mod Puts
 pub mod WriteRow
+pub mod Grown
 pub mod Inner

@@ -8,4 +8,5 @@ pub mod Readings
 pub mod FirstParts
 pub mod Records
 pub mod RowPlans
+pub mod Appended
 pub mod Port

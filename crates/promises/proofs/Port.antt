@@ -8,6 +8,7 @@ use Rattle.promises.proofs.RowsEvents.{rows-events}
 use Rattle.promises.proofs.FirstParts.{first-parts}
 use Rattle.promises.proofs.Records.{records}
 use Rattle.promises.proofs.RowPlans.{row-plans}
+use Rattle.promises.proofs.Appended.{appended}
 
 pub port : Port
 port = record {
@@ -18,5 +19,6 @@ port = record {
   rows-events = rows-events;
   first-parts = first-parts;
   records = records;
+  appended = appended;
   row-plans = row-plans;
 }

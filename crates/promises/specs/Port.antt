@@ -7,6 +7,7 @@ use Rattle.promises.specs.RowsEvents.{RowsEvents}
 use Rattle.promises.specs.FirstParts.{FirstParts}
 use Rattle.promises.specs.Records.{Records}
 use Rattle.promises.specs.RowPlans.{RowPlans}
+use Rattle.promises.specs.Appended.{Appended}
 
 pub record Port : Type 2 where
   -- the user's three demands
@@ -22,5 +23,7 @@ pub record Port : Type 2 where
   pub first-parts : FirstParts
   -- request 6: more than 255 columns
   pub records : Records
+  -- request 9: bytes after an image
+  pub appended : Appended
   -- request 11: faster wide rows
   pub row-plans : RowPlans

@@ -66,7 +66,7 @@ pick P true p q = p tt
 pick P false p q = q
 
 -- ---- what holds of the shape of a column
-abbrev Fine : Shape → Type 0
+abbrev pub Fine : Shape → Type 0
 Fine (Unsigned k) = (0 < k) × (k ≤ 8)
 Fine (Signed k) = (0 < k) × (k ≤ 8)
 Fine FloatBits = Unit {0}
@@ -162,7 +162,7 @@ fine-in Set m0 m1 u w =
     (λ e. (leb→le 1 m1 (left (leb 1 m1) _ e), set-few m1 (right (leb 1 m1) _ e))) (inr refl)
 fine-in Unknown m0 m1 u w = inl refl
 
-fine : (c : Column) → Fine (shapeOf c)
+pub fine : (c : Column) → Fine (shapeOf c)
 unfolding shapeOf
 fine c =
     pick Fine (eqb (c .real) 10) (λ e. inl refl)

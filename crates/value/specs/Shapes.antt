@@ -37,6 +37,18 @@ need (Fixed n) s = n
 need (Counted k) s = k + leValue (take k s)
 need (NotTaken n) s = 0
 
+-- how many bytes tell the length of a value: those of a counted one, else none
+unfoldable pub prefix : Shape → ℕ
+prefix (Unsigned k) = 0
+prefix (Signed k) = 0
+prefix FloatBits = 0
+prefix DoubleBits = 0
+prefix YearByte = 0
+prefix (Timed k) = 0
+prefix (Fixed n) = 0
+prefix (Counted k) = k
+prefix (NotTaken n) = 0
+
 -- what stored bytes say
 unfoldable pub decode : Shape → List ℕ → Datum
 unfolding leValue signedOf temporalDecode

@@ -190,7 +190,7 @@ long-back pre rest t k v h =
     let f : length pre + 1 + k ≤ length (pre ++ (t ∷ (leBytes k v ++ rest))) = simp (length-append, leBytes-length) (omega arith) in
     rw (le-leb _ _ f, drop-append-add, take-at (leBytes k v) rest k (leBytes-length k v), le-back k v h)
 
-tag-form : {first k least : ℕ} → Tag first k least → (s : List ℕ) (at : ℕ) → packedForm s at first ≡ longForm s at k
+pub tag-form : {first k least : ℕ} → Tag first k least → (s : List ℕ) (at : ℕ) → packedForm s at first ≡ longForm s at k
 unfolding packedForm
 tag-form two s at = refl
 tag-form three s at = refl

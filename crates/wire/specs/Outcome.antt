@@ -1,6 +1,7 @@
 -- What a call answers, on paper: something, or a refusal, which is a number of document 01's table and a place, and for refusal 10 the part
 -- of a temporal that is out of its range; for all others the part is 0. Assumes nothing.
 use Prim.Native.Nat.{ℕ}
+use mathlib.Core.Path.{_≡_}
 use Rattle.wire.specs.declared.refusal.Refusal.{Refusal}
 
 pub data Outcome (A : Type 0) : Type 0 where
@@ -23,3 +24,8 @@ refuse number place = refused (why number place)
 abbrev pub after : {A B : Type 0} → Outcome A → (A → Outcome B) → Outcome B
 after (ok a) f = f a
 after (refused w) f = refused w
+
+-- what an answer may become when bytes are put behind those that it was read from: itself, unless it is a refusal with this number
+pub data Stays {A : Type 0} (n : ℕ) : Outcome A → Outcome A → Type 0 where
+  same : (o : Outcome A) → Stays n o o
+  ended : (w : Refusal) (o : Outcome A) → w .number ≡ n → Stays n (refused w) o

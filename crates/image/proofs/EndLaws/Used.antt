@@ -26,7 +26,7 @@ use Rattle.image.proofs.PresenceLaws.Presents.{present-length}
 use Rattle.image.proofs.EndLaws.Images.{walk-read, walk-short}
 
 -- a slot takes bytes that are there
-slot-fits : (i : Slot) (s : List ℕ) (d : Datum) (n : ℕ) → readSlot i s ≡ ok (d, n) → n ≤ length s
+pub slot-fits : (i : Slot) (s : List ℕ) (d : Datum) (n : ℕ) → readSlot i s ≡ ok (d, n) → n ≤ length s
 unfolding readSlot
 slot-fits i s d n e = go (i .null) refl
   where
@@ -42,7 +42,7 @@ pub record Within (o room u : ℕ) : Type 0 where
   pub from : o ≤ u
   pub most : u ≤ o + room
 
-slots-used : (is : List Slot) (s : List ℕ) (o u : ℕ) → readSlots is s o .how ≡ ok u → Within o (length s) u
+pub slots-used : (is : List Slot) (s : List ℕ) (o u : ℕ) → readSlots is s o .how ≡ ok u → Within o (length s) u
 unfolding readSlots
 slots-used [] s o u e = let z : o ≡ u = same-ok e in record { from = omega arith; most = omega arith }
 slots-used (i ∷ is) s o u e = go (λ n. slots-used is (drop n s) (o + n) u) (readSlot i s) refl e

@@ -18,7 +18,7 @@ use Rattle.image.proofs.PresenceLaws.Firsts.{presentAt, count-set, coun
 use Rattle.image.proofs.StepLaws.Splits.{Each, Good}
 
 -- ---- how many
-present-count : (m : ℕ) (r p : List ℕ) (j : ℕ) → countBits p j + length (presentFrom m r p j) ≡ countBits p (j + m)
+pub present-count : (m : ℕ) (r p : List ℕ) (j : ℕ) → countBits p j + length (presentFrom m r p j) ≡ countBits p (j + m)
 unfolding presentFrom
 present-count zero r p j = let e : j + 0 ≡ j = omega arith in rw (e, add-zero)
 present-count (suc m) r p j = go (present-count m r p (suc j)) (bitLsb0 p j) refl
@@ -82,7 +82,7 @@ unfolding slots
 slots-same [] k a b h = refl
 slots-same (c ∷ cs) k a b h = rw (h k (omega arith), slots-same cs (suc k) a b (λ i l. h i (omega arith)))
 
-bit-front : (a b : List ℕ) (i : ℕ) → i < 8 * length a → bitLsb0 (a ++ b) i ≡ bitLsb0 a i
+pub bit-front : (a b : List ℕ) (i : ℕ) → i < 8 * length a → bitLsb0 (a ++ b) i ≡ bitLsb0 a i
 unfolding bitLsb0
 bit-front a b i h = rw (List·getD-append a b 0 (i / 8) (omega arith))
 
