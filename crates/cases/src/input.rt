@@ -9,16 +9,18 @@ pub(crate) struct Source {
 }
 
 // What came: a line of so many bytes, which stands at the start of the line buffer without its
-// newline, or the end of the input. A line that the buffer cannot hold comes as an empty one, which is
-// as bad.
+// newline, the end of the input, or nothing, as a read failed. A line that the buffer cannot hold
+// comes as an empty one, which is as bad.
 pub(crate) enum Next {
     Line(usize, Source),
     End,
+    Failed,
 }
 
 enum Byte {
     Got(u8, Source),
     End,
+    Failed,
 }
 
 // The byte at `at` of a block's filled part.
@@ -35,7 +37,7 @@ fn byte_at(filled: &[u8], at: usize) -> Byte {
     )
 }
 
-// The next byte of the input. A read that fails counts as the end.
+// The next byte of the input.
 fn next_byte(block: &mut [u8], source: Source) -> Byte {
     let at = source.at;
     let have = source.have;
@@ -43,6 +45,10 @@ fn next_byte(block: &mut [u8], source: Source) -> Byte {
         return byte_at(part(block, 0, have), at);
     }
     let got = libc::read(STDIN_FILENO, block);
+    if got < 0 {
+        os::fail(b"cases: standard input cannot be read");
+        return Byte::Failed;
+    }
     let filled = io::count(got, block);
     byte_at(part(block, 0, filled), 0)
 }
@@ -55,6 +61,19 @@ fn ended(length: usize, is_too_long: bool, source: Source) -> Next {
     Next::Line(length, source)
 }
 
+// What came where no byte did: a line without a newline, where some bytes came before.
+fn stopped(came: Byte, length: usize, is_too_long: bool, source: Source) -> Next {
+    match came {
+        Byte::Failed => Next::Failed,
+        _ => {
+            if length == 0 {
+                return Next::End;
+            }
+            ended(length, is_too_long, source)
+        }
+    }
+}
+
 // Reads the next line into `line`. The last may lack its newline. A proved loop has to end, and
 // nothing says that the input does: so the loop counts its turns down, from a number that no run
 // uses up.
@@ -65,11 +84,9 @@ pub(crate) fn next_line(block: &mut [u8], line: &mut [u8], start: Source) -> Nex
     let mut turns = u64::MAX;
     while turns > 0 {
         turns -= 1;
-        let Byte::Got(byte, after) = next_byte(block, source) else {
-            if length == 0 {
-                return Next::End;
-            }
-            return ended(length, is_too_long, source);
+        let came = next_byte(block, source);
+        let Byte::Got(byte, after) = came else {
+            return stopped(came, length, is_too_long, source);
         };
         source = after;
         if byte == b'\n' {

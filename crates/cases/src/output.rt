@@ -4,9 +4,19 @@ use crate::slices::part;
 use libc::STDOUT_FILENO;
 ghost use Prim.Native.Nat.{_<_};
 
+// The count once output was lost, which no buffer has: it stays.
+pub(crate) const LOST: usize = usize::MAX;
+
 // Writes what waits.
-pub(crate) fn flush(out: &[u8], used: usize) {
-    io::write_all(STDOUT_FILENO, part(out, 0, used));
+pub(crate) fn flush(out: &[u8], used: usize) -> usize {
+    if used == LOST {
+        return LOST;
+    }
+    if io::write_all(STDOUT_FILENO, part(out, 0, used)) {
+        return 0;
+    }
+    os::fail(b"cases: standard output cannot be written");
+    LOST
 }
 
 // Writes what waits where there is no room for one byte more.
@@ -14,15 +24,14 @@ fn with_room(out: &[u8], used: usize) -> usize {
     if used < out.len() {
         return used;
     }
-    flush(out, used);
-    0
+    flush(out, used)
 }
 
-// One byte. Only a buffer of no bytes at all would still have no room for it, and lose it.
+// One byte. A buffer of no bytes at all would have no room for it.
 pub(crate) fn put_byte(b: u8, out: &mut [u8], used: usize) -> usize {
     let at = with_room(out, used);
     if out.len() <= at {
-        return at;
+        return LOST;
     }
     out[at] = b;
     at + 1

@@ -1,149 +1,137 @@
 // Reads the body of a table map event from standard input, checks it, and prints a line for each
 // column: place, real type, flags, m0, m1, charset. A refusal prints its number and its place. A word
-// chooses the dialect.
+// chooses the dialect. What is wrong with a run is said on standard error, and its status is told to
+// `./run` if that asks for it.
+mod input;
 mod output;
+mod words;
 
-use libc::STDIN_FILENO;
+use input::read_input;
+use libc::STDERR_FILENO;
 use libc::STDOUT_FILENO;
-use output::put_number;
-use output::put_text;
-use record::Entry;
+use output::MOST_INPUT;
+use output::MOST_OUTPUT;
+use output::Text;
+use output::put_profile;
 use value::Dialect;
-use wire::Refusal;
-use wire::Written;
-use wire::refusal::NO_ROOM;
+use words::Asked;
+use words::asked_behind;
+use words::is_status_asked;
+use words::same;
 
-// The longest input that is taken. The buffer for it has a byte more, so that a longer one is told.
-const MOST_INPUT: usize = 65536;
+// The statuses: of a map that was accepted, of one that was refused, and of a run without an answer.
+const ACCEPTED: u64 = 0;
 
-// More than the longest output: a line for each column, of six numbers of up to three digits, four for the
-// place and five for the charset, with a byte behind each.
-const MOST_OUTPUT: usize = 32 * record::MOST_COLUMNS;
+const REFUSED: u64 = 1;
 
-const POST_HEADER: u8 = 8;
+const FAILED: u64 = 2;
 
-// What the word asks for.
-enum Asked {
-    For(Dialect),
-    Unknown,
-}
+// Where `./run` reads the status.
+const STATUS_FILENO: i32 = 3;
 
-// Whether the two hold the same bytes.
-fn same(a: &[u8], b: &[u8]) -> bool {
-    if a.len() != b.len() {
-        return false;
-    }
-    let mut i: usize = 0;
-    while i < a.len() {
-        if a[i] != b[i] {
-            return false;
-        }
-        i += 1;
-    }
-    true
-}
-
-fn dialect_of(word: &[u8]) -> Asked {
-    if same(word, b"document") {
-        return Asked::For(Dialect::Document);
-    }
-    if same(word, b"mysql") {
-        return Asked::For(Dialect::Mysql);
-    }
-    if same(word, b"mariadb") {
-        return Asked::For(Dialect::Mariadb);
-    }
-    Asked::Unknown
-}
-
-// The dialect that the program was asked for; without a word, document 01 to the letter.
-fn word_asked() -> Asked {
-    let words = os::arg_count();
-    if words < 2 {
-        return Asked::For(Dialect::Document);
-    }
-    if words > 2 {
-        return Asked::Unknown;
-    }
-    let mut word = [0u8; 16];
-    let length = os::arg(1, &mut word);
-    dialect_of(&word[..length])
-}
-
-fn put_refused(refusal: Refusal, out: &mut [u8], used: usize) -> usize {
-    let used = put_text(b"refused ", out, used);
-    let used = put_number(refusal.number as u64, b' ', out, used);
-    put_number(refusal.place as u64, b'\n', out, used)
-}
-
-// Three numbers, and the byte behind the last.
-fn put_three(a: u64, b: u64, c: u64, behind: u8, out: &mut [u8], used: usize) -> usize {
-    let used = put_number(a, b' ', out, used);
-    let used = put_number(b, b' ', out, used);
-    put_number(c, behind, out, used)
-}
-
-fn put_column(place: usize, entry: Entry, out: &mut [u8], used: usize) -> usize {
-    let used = put_three(
-        place as u64,
-        entry.real as u64,
-        entry.flags as u64,
-        b' ',
-        out,
-        used,
-    );
-    put_three(
-        entry.m0 as u64,
-        entry.m1 as u64,
-        entry.charset as u64,
-        b'\n',
-        out,
-        used,
+// How the program is used.
+fn put_usage(fd: i32) -> bool {
+    io::write_all(
+        fd,
+        b"usage: profile [document | mysql | mariadb] < EVENT\n\
+        Checks the body of a table map event, without header and checksum, and prints a line for each\n\
+        column: place, real type, flags, m0, m1, charset; or `refused`, number, place. The word names the\n\
+        server that wrote the map. Without a word it is document, which is document 01 to the letter.\n\
+        Status: 0 if the map is accepted, 1 if it is refused, 2 if there is no answer.\n",
     )
 }
 
-// A line for each column whose entry stands within a record of so many bytes.
-fn put_columns(profile: &[u8], length: usize, out: &mut [u8]) -> usize {
-    let mut used: usize = 0;
-    let mut j: usize = 0;
-    while record::entry_at(j) < length {
-        used = put_column(j, record::entry_in(profile, j), out, used);
-        j += 1;
+// The status of a run whose output was printed, all of it or not.
+fn status_if(is_printed: bool, status: u64) -> u64 {
+    if is_printed {
+        return status;
     }
-    used
+    os::fail(b"profile: standard output cannot be written");
+    FAILED
 }
 
-// The lines for an event.
-fn put_profile(event: &[u8], dialect: Dialect, out: &mut [u8]) -> usize {
-    if MOST_INPUT < event.len() {
-        return put_refused(wire::refuse(NO_ROOM, 0), out, 0);
+fn status_of(text: Text) -> u64 {
+    if text.is_refusal {
+        return REFUSED;
     }
-    let mut profile = [0u8; record::MOST_BYTES];
-    match map_check::check(event, POST_HEADER, dialect, &mut profile) {
-        Written::Done { next } => put_columns(&profile, next, out),
-        Written::Refused(refusal) => put_refused(refusal, out, 0),
+    ACCEPTED
+}
+
+// Whether the answer in a dialect is another text.
+fn is_other(event: &[u8], dialect: Dialect, text: &[u8]) -> bool {
+    let mut out = [0u8; MOST_OUTPUT];
+    let other = put_profile(event, dialect, &mut out);
+    let len = other.len;
+    !same(&out[..len], text)
+}
+
+// The words of these servers.
+fn say_words(mysql: bool, mariadb: bool) {
+    if mysql {
+        io::write_all(STDERR_FILENO, b"mysql");
+    }
+    if mysql && mariadb {
+        io::write_all(STDERR_FILENO, b" or ");
+    }
+    if mariadb {
+        io::write_all(STDERR_FILENO, b"mariadb");
     }
 }
 
-// Prints what waits.
-fn print(out: &[u8], used: usize) {
-    if out.len() < used {
+// Says that a server's map would be answered otherwise than by the letter, if it would.
+fn say_others(event: &[u8], text: &[u8]) {
+    let mysql = is_other(event, Dialect::Mysql, text);
+    let mariadb = is_other(event, Dialect::Mariadb, text);
+    if !mysql && !mariadb {
         return;
     }
-    io::write_all(STDOUT_FILENO, &out[0..used]);
+    io::write_all(
+        STDERR_FILENO,
+        b"profile: no server was named, so this is document 01 to the letter; with the word ",
+    );
+    say_words(mysql, mariadb);
+    io::write_all(STDERR_FILENO, b" the answer would be another one\n");
+}
+
+// Answers the input in a dialect, which was named or not.
+fn answer(dialect: Dialect, is_named: bool) -> u64 {
+    let mut event = [0u8; MOST_INPUT + 1];
+    let mut out = [0u8; MOST_OUTPUT];
+    let input = read_input(&mut event);
+    if !input.is_read {
+        os::fail(b"profile: standard input cannot be read");
+        return FAILED;
+    }
+    let size = input.len;
+    let text = put_profile(&event[..size], dialect, &mut out);
+    let len = text.len;
+    if !is_named {
+        say_others(&event[..size], &out[..len]);
+    }
+    status_if(io::write_all(STDOUT_FILENO, &out[..len]), status_of(text))
+}
+
+fn run(asked: Asked) -> u64 {
+    match asked {
+        Asked::For(dialect) => answer(dialect, true),
+        Asked::Letter => answer(Dialect::Document, false),
+        Asked::Help => status_if(put_usage(STDOUT_FILENO), ACCEPTED),
+        Asked::Unknown => {
+            io::write_all(
+                STDERR_FILENO,
+                b"profile: one word is taken, document, mysql or mariadb, or none\n",
+            );
+            put_usage(STDERR_FILENO);
+            FAILED
+        }
+    }
 }
 
 fn main() {
-    let Asked::For(dialect) = word_asked() else {
-        io::write_all(
-            STDOUT_FILENO,
-            b"profile takes one word, document, mysql or mariadb, or none, which is document\n",
-        );
+    if !is_status_asked() {
+        run(asked_behind(1));
         return;
-    };
-    let mut event = [0u8; MOST_INPUT + 1];
-    let mut out = [0u8; MOST_OUTPUT];
-    let length = io::read_full(STDIN_FILENO, &mut event);
-    let used = put_profile(&event[..length], dialect, &mut out);
-    print(&out, used);
+    }
+    let status = run(asked_behind(2));
+    io::print_decimal(STATUS_FILENO, status);
 }

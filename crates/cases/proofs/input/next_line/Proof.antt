@@ -22,11 +22,11 @@ sub-turns c = search needs
 next-byte-requires : tie.Need-next-byte-requires Inv-loop μ-loop
 next-byte-requires c κs = search needs
 
-enum-known-byte : tie.Need-enum-known-byte Inv-loop μ-loop
-enum-known-byte c = search needs
+enum-known-came : tie.Need-enum-known-came Inv-loop μ-loop
+enum-known-came c = search needs
 
-enum-told : tie.Need-enum-told Inv-loop μ-loop
-enum-told c = search needs
+stopped-requires : tie.Need-stopped-requires Inv-loop μ-loop
+stopped-requires c κs = search needs
 
 same-length : tie.Need-same-length Inv-loop μ-loop
 same-length c = search needs
@@ -49,18 +49,6 @@ same-length-4 c = search needs
 returns-2 : tie.Need-returns-2 Inv-loop μ-loop
 returns-2 c = search needs
 
-ended-requires-2 : tie.Need-ended-requires-2 Inv-loop μ-loop
-ended-requires-2 c κs = search needs
-
-same-length-5 : tie.Need-same-length-5 Inv-loop μ-loop
-same-length-5 c = search needs
-
-same-length-6 : tie.Need-same-length-6 Inv-loop μ-loop
-same-length-6 c = search needs
-
-returns-3 : tie.Need-returns-3 Inv-loop μ-loop
-returns-3 c = search needs
-
 slice-write-line : tie.Need-slice-write-line Inv-loop μ-loop
 slice-write-line c = search needs
 
@@ -79,14 +67,14 @@ loop-less-2 c = search needs
 loop-again-2 : tie.Need-loop-again-2 Inv-loop μ-loop
 loop-again-2 c = search needs
 
-same-length-7 : tie.Need-same-length-7 Inv-loop μ-loop
-same-length-7 c = search needs
+same-length-5 : tie.Need-same-length-5 Inv-loop μ-loop
+same-length-5 c = search needs
 
-same-length-8 : tie.Need-same-length-8 Inv-loop μ-loop
-same-length-8 c = search needs
+same-length-6 : tie.Need-same-length-6 Inv-loop μ-loop
+same-length-6 c = search needs
 
-returns-4 : tie.Need-returns-4 Inv-loop μ-loop
-returns-4 c = search needs
+returns-3 : tie.Need-returns-3 Inv-loop μ-loop
+returns-3 c = search needs
 
 pub next-line-spec : {M : Type 1} → statement M
 next-line-spec =
@@ -97,8 +85,8 @@ next-line-spec =
     loop-holds
     sub-turns
     next-byte-requires
-    enum-known-byte
-    enum-told
+    enum-known-came
+    stopped-requires
     same-length
     same-length-2
     returns
@@ -106,16 +94,12 @@ next-line-spec =
     same-length-3
     same-length-4
     returns-2
-    ended-requires-2
-    same-length-5
-    same-length-6
-    returns-3
     slice-write-line
     add-length
     loop-less
     loop-again
     loop-less-2
     loop-again-2
-    same-length-7
-    same-length-8
-    returns-4)
+    same-length-5
+    same-length-6
+    returns-3)

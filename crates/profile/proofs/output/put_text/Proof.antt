@@ -1,53 +1,28 @@
--- `profile::output::put_text` is safe and ends. The measure is the number of bytes that are left; a turn keeps the length of the slice that
--- it writes to. Assumes nothing.
-use Prim.Native.Nat.{_-_}
-use mathlib.Core.Path.{_≡_}
+-- `profile::output::put_text` meets its contract. Assumes nothing.
+use mathlib.Core.Path.{refl, _∙_}
+use native.Mathlib.Omega.{arith}
 use borrow.Author.Needs.{needs}
-use lib.ListN.{length}
+use Rattle.wire.proofs.Stores.{store-fits}
 use Rattle.profile.proofs.output.put_text.Statement.{statement}
 use Rattle.profile.proofs.output.put_text.Tie as tie
+use Rattle.profile.proofs.output.put_text.Reads as reads
+use Rattle.profile.proofs.output.put_text.Lts as lts
+use Rattle.wire.proofs.write_bytes.Reads as write-bytes-reads
 
-abbrev Inv-loop : tie.InvT-loop
-Inv-loop text out₀ used now₀ i₀ out now i = length out ≡ length out₀
+write-bytes-requires : tie.Need-write-bytes-requires
+write-bytes-requires c κs = search needs
 
-abbrev μ-loop : tie.MeasureT-loop
-μ-loop text out₀ used now₀ i₀ out now i = length text - i
+add-result : tie.Need-add-result
+add-result c = search needs
 
-loop-holds : tie.Need-loop-holds Inv-loop μ-loop
-loop-holds c = search needs
-
-shared-slice-read-put-byte : tie.Need-shared-slice-read-put-byte Inv-loop μ-loop
-shared-slice-read-put-byte c = search needs
-
-put-byte-requires : tie.Need-put-byte-requires Inv-loop μ-loop
-put-byte-requires c κs = search needs
-
-add-i : tie.Need-add-i Inv-loop μ-loop
-add-i c = search needs
-
-loop-less : tie.Need-loop-less Inv-loop μ-loop
-loop-less c = search needs
-
-loop-again : tie.Need-loop-again Inv-loop μ-loop
-loop-again c = search needs
-
-same-length : tie.Need-same-length Inv-loop μ-loop
+same-length : tie.Need-same-length
 same-length c = search needs
 
-returns : tie.Need-returns Inv-loop μ-loop
-returns c = search needs
+returns : tie.Need-returns
+returns c =
+    let write-bytes = c .before .before .write-bytes in
+    let args = c .before .before .before .before .before .before .args in
+    (refl, write-bytes .ensures .1 ∙ rw (store-fits (args .out .now) (args .text .now) (args .at) (omega arith)))
 
 pub put-text-spec : {M : Type 1} → statement M
-put-text-spec =
-    tie.close
-    (tie.spec
-    Inv-loop
-    μ-loop
-    loop-holds
-    shared-slice-read-put-byte
-    put-byte-requires
-    add-i
-    loop-less
-    loop-again
-    same-length
-    returns)
+put-text-spec = tie.close (tie.spec write-bytes-requires add-result same-length returns)

@@ -1,10 +1,10 @@
--- `profile::same` is safe and ends. The measure is the number of bytes that are left; nothing has to hold from turn to turn. Assumes
+-- `abi_calls::words::same` is safe and ends. The measure is the number of bytes that are left; nothing has to hold from turn to turn. Assumes
 -- nothing.
 use Prim.Native.Nat.{_-_}
 use borrow.Author.Needs.{needs}
 use lib.ListN.{length}
-use Rattle.profile.proofs.same.Statement.{statement}
-use Rattle.profile.proofs.same.Tie as tie
+use Rattle.abi_calls.proofs.words.same.Statement.{statement}
+use Rattle.abi_calls.proofs.words.same.Tie as tie
 
 abbrev Inv-loop : tie.InvT-loop
 Inv-loop a b i₀ i = Unit {0}
