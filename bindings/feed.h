@@ -214,6 +214,8 @@ enum {
     FEED_CURSOR_COLUMN = 0, /* feed_first, feed_start, feed_put */
     FEED_CURSOR_OFFSET = 1,
 
+    FEED_ROOM_BYTES = 0, /* feed_room */
+
     FEED_STEP_KIND = 0, /* feed_step: the number of the value's sort, as above */
     FEED_STEP_COLUMN = 1,
     FEED_STEP_NEXT_COLUMN = 2,
@@ -372,6 +374,16 @@ uint64_t feed_put(const uint8_t *profile, size_t profile_length, const uint8_t *
                   const uint8_t *nulls, size_t nulls_length, size_t column, size_t offset, uint64_t kind,
                   const uint64_t *parts, size_t parts_length, const uint8_t *lent, size_t lent_length,
                   uint8_t *image, size_t image_length, uint64_t *out, size_t out_length);
+
+/*
+ * The most bytes that a row image under these presence bits can take: null bits, and the largest value of each present column, its length
+ * bytes included. An image of feed_start and feed_put that is lent so many is never refused with FEED_NO_ROOM, whatever its values.
+ * A string counts as long as its length bytes can tell, and not as long as the column declares: a VARCHAR(20) takes up to 256 bytes, a
+ * LONGBLOB up to 4,294,967,299.
+ * Answer, 2 numbers: the bytes, and 0.
+ */
+uint64_t feed_room(const uint8_t *profile, size_t profile_length, const uint8_t *presence, size_t presence_length,
+                   uint64_t *out, size_t out_length);
 
 /*
  * Where the column names of an event stand. Answer, 3 numbers: 1, and start and length, in the event, of the value of its first names field,

@@ -497,7 +497,7 @@ static size_t write_row(const struct table *table, const struct row *row, uint8_
     uint64_t out[FEED_OUT_NUMBERS];
     uint8_t nulls[FEED_BYTES_FOR(FEED_COLUMNS_MOST)] = {0};
     size_t nulls_length = FEED_BYTES_FOR(row->count);
-    size_t i;
+    size_t i, length;
 
     for (i = 0; i < row->count; i++)
         if (row->values[i].kind == FEED_NULL)
@@ -510,7 +510,12 @@ static size_t write_row(const struct table *table, const struct row *row, uint8_
                  feed_put(table->record, table->record_length, row->presence.at, row->presence.length, nulls, nulls_length,
                           (size_t)out[FEED_CURSOR_COLUMN], (size_t)out[FEED_CURSOR_OFFSET], row->values[i].kind,
                           row->values[i].parts, PARTS, row->image.at, row->image.length, written, room, out, FEED_OUT_NUMBERS), out);
-    return (size_t)out[FEED_CURSOR_OFFSET];
+    length = (size_t)out[FEED_CURSOR_OFFSET];
+    answered("feed_room",
+             feed_room(table->record, table->record_length, row->presence.at, row->presence.length, out, FEED_OUT_NUMBERS), out);
+    if (out[FEED_ROOM_BYTES] < length)
+        stop("an image is larger than its room");
+    return length;
 }
 
 /* Whether two images of so many present columns are the same but for the spare bits in the last byte of their null bits. */

@@ -146,6 +146,9 @@ fn do_row(table: &Table, presence: &[u8], image: &[u8], show: bool) -> Result<()
     }
     let alone: Vec<Value> = values.iter().map(|(_, value)| *value).collect();
     let written = record.write_row(presence, &alone)?;
+    if record.image_room(presence)? < written.len() as u64 {
+        return Err("an image is larger than its room".into());
+    }
     if !same_row(image, &written, alone.len()) {
         return Err("the row that was written is not the one that was read".into());
     }

@@ -4,7 +4,7 @@ from bisect import bisect_left
 from .bits import bytes_for, low_first
 from .record import read_record
 from .refusal import Refused, fits
-from .values import NULL, read_value, stored_value
+from .values import NULL, most_size, read_value, stored_value
 
 
 class Head:
@@ -50,6 +50,11 @@ class Head:
         while (found := self.step(image, column, offset)) is not None:
             _, value, column, offset = found
             yield value, offset
+
+    def room(self):
+        """the most bytes that an image can take"""
+        # "null bits plus each present column's largest stored size" (request 8)
+        return self.null_bytes + sum(most_size(self.columns[place]) for place in self.present)
 
     def judge_nulls(self, nulls):
         if len(nulls) != self.null_bytes:

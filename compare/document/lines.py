@@ -307,6 +307,11 @@ def rows_case(code, record, table_id, s):
     return walked(words())
 
 
+@case("room", HEX, HEX)
+def room_case(record, presence):
+    return ok(Head(record, presence).room())
+
+
 @case("start", HEX, HEX, HEX, ROOM)
 def start_case(record, presence, nulls, room):
     head = Head(record, presence)

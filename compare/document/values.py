@@ -54,6 +54,13 @@ def fixed_size(column):
     return temporal.size(kind, m0)
 
 
+def most_size(column):
+    """how many bytes a value takes at most"""
+    # "each present column's largest stored size, length bytes included": "its width, or k + 256^k - 1 for counted bytes with k length bytes" (Q8.1)
+    k = length_bytes(column)
+    return fixed_size(column) if k is None else k + 256 ** k - 1
+
+
 def cut(s, at, size, place):
     """so many bytes from an offset on"""
     if size > len(s) - at:

@@ -8,7 +8,7 @@ from document.record import record as record_of
 from .columns import (edge_columns, edge_values_of, loosely, parted, rule_columns, rule_values, some_bad_column, some_bad_value, some_column,
                       some_stored, some_value)
 from .some import MOST_ROOM, NUMBERS, changes, chance, cuts, damaged, line, maker, near, some_bytes, some_room
-from .wide import first_lines, image_lines, put_lines, row_lines, start_lines, step_lines, wide_records
+from .wide import first_lines, image_lines, put_lines, room_lines, row_lines, start_lines, step_lines, wide_records
 
 
 # ---- records
@@ -206,6 +206,31 @@ def first_rules(rng):
     for record in RECORDS:
         for presence in PRESENCES:
             yield line("first", record, presence)
+
+
+# ---- room
+def room_rules(rng):
+    """each metadata beside a LONGBLOB, either absent or both, spare presence bits set too; and which of two faults is told"""
+    for record in RECORDS:
+        for presence in PRESENCES:
+            yield line("room", record, presence)
+    for column in rule_columns():
+        record = record_of([(column, 8, 0), (Column(252, 4, 0), 8, 0)])
+        for presence in (b"\x01", b"\x02", b"\x03", b"\x00", b"\xfd"):
+            yield line("room", record, presence)
+    yield from room_lines()
+
+
+def room_edges(rng):
+    for head in edge_heads(rng):
+        yield line("room", *head)
+    for s in edge_records(rng):
+        yield line("room", s, b"\xff")
+
+
+@maker("room", room_edges, room_rules)
+def room(rng):
+    return line("room", *some_head(rng, Row(rng)))
 
 
 def parted_images(digits, least=0, most=7):

@@ -134,6 +134,15 @@ def first_lines():
         yield line("first", *given)
 
 
+def room_lines():
+    """the same; and as many columns as there may be of those that take most, all present, none, and the first and the last"""
+    for given in heads():
+        yield line("room", *given)
+    record = record_of([(Column(252, 4, 0), 10, 0)] * MOST)
+    for presence in (b"\xff" * 512, b"\x00" * 512, b"\x01" + b"\x00" * 510 + b"\x80"):
+        yield line("room", record, presence)
+
+
 def image_lines():
     for n in (*TURNS, MOST):
         for presence, image in table(n).images():

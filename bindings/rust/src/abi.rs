@@ -111,6 +111,15 @@ extern "C" {
         out_length: usize,
     ) -> u64;
 
+    fn feed_room(
+        profile: *const u8,
+        profile_length: usize,
+        presence: *const u8,
+        presence_length: usize,
+        out: *mut u64,
+        out_length: usize,
+    ) -> u64;
+
     fn feed_names(
         event: *const u8,
         event_length: usize,
@@ -251,6 +260,21 @@ pub(crate) fn first(profile: &[u8], presence: &[u8]) -> Result<Answer, Refusal> 
     let mut out = [0; NUMBERS];
     let status = unsafe {
         feed_first(
+            profile.as_ptr(),
+            profile.len(),
+            presence.as_ptr(),
+            presence.len(),
+            out.as_mut_ptr(),
+            out.len(),
+        )
+    };
+    answered(status, out)
+}
+
+pub(crate) fn room(profile: &[u8], presence: &[u8]) -> Result<Answer, Refusal> {
+    let mut out = [0; NUMBERS];
+    let status = unsafe {
+        feed_room(
             profile.as_ptr(),
             profile.len(),
             presence.as_ptr(),

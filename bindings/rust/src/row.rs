@@ -118,6 +118,12 @@ impl Record {
         })
     }
 
+    /// The most bytes that a row image under these presence bits can take, null bits and length bytes included. A string counts as long as
+    /// its length bytes can tell, and not as long as the column declares.
+    pub fn image_room(&self, presence: &[u8]) -> Result<u64, Refusal> {
+        abi::room(&self.bytes, presence).map(|out| out[0])
+    }
+
     /// Writes a row image of these values, one for each present column in order. The spare null bits are set.
     pub fn write_row(&self, presence: &[u8], values: &[Value]) -> Result<Vec<u8>, Refusal> {
         abi::first(&self.bytes, presence)?;

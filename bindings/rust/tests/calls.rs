@@ -458,6 +458,27 @@ fn a_row_of_many_columns_goes_there_and_back() {
     assert_eq!(values_of(rows[1]), row);
 }
 
+#[test]
+fn the_room_for_an_image_is_told() {
+    let record = record();
+    // a byte of null bits, INT, VARCHAR(20), TINYINT
+    assert_eq!(record.image_room(&[7]), Ok(1 + 4 + 256 + 1));
+    // spare presence bits are nobody's
+    assert_eq!(record.image_room(&[0b1111_1010]), Ok(1 + 256));
+    assert_eq!(record.image_room(&[0]), Ok(0));
+    assert_eq!(record.image_room(&[]), refused(refusal::BAD_BITS, 0));
+    let long = vec![b'x'; 255];
+    let values = [Value::Int(-2), Value::Bytes(&long), Value::Uint(200)];
+    assert_eq!(record.write_row(&[7], &values).unwrap().len(), 262);
+    // as many columns as there may be, of those that take most
+    let entry = [252, 8, 4, 0, 0, 0];
+    let widest = [&[6, 0x60, 2, 0, 0, 16], &entry.repeat(4096)[..]].concat();
+    let widest = Record::from_bytes(widest).unwrap();
+    let most = 512 + 4096 * ((1 << 32) + 3);
+    assert_eq!(widest.image_room(&[0xff; 512]), Ok(most));
+    assert_eq!(one_column(252, 4).image_room(&[1]), Ok((1 << 32) + 4));
+}
+
 // the only value of an image of one column, or why there is none
 fn lone(real_type: u8, m0: u8, stored: &[u8]) -> Result<(), Refusal> {
     let image = [&[0], stored].concat();

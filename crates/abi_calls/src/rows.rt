@@ -31,6 +31,12 @@ fn first(record: &[u8], presence: &[u8]) -> bool {
     tell(b"feed_first", status, &out)
 }
 
+fn room(record: &[u8], presence: &[u8]) -> bool {
+    let mut out = [LEFT; 2];
+    let status = feed_abi::feed_room(record, presence, &mut out);
+    tell(b"feed_room", status, &out)
+}
+
 fn step(record: &[u8], presence: &[u8], image: &[u8], column: usize, offset: usize) -> bool {
     let mut out = [LEFT; 11];
     let status = feed_abi::feed_step(record, presence, image, column, offset, &mut out);
@@ -111,6 +117,8 @@ pub(crate) fn row_calls(record: &[u8]) -> bool {
         && column(record, 14)
         && first(record, &PRESENCE)
         && first(record, b"\xff")
+        && room(record, &PRESENCE)
+        && room(record, b"\xff")
         && steps(record, &ROW)
         && plan(record, &ROW)
 }

@@ -1,9 +1,10 @@
-// The kinds `first`, `step` and `image`: a row image that is read.
+// The kinds `first`, `step` and `image`, a row image that is read; and `room`, how large one can be.
 use crate::turn::OWN;
 use crate::turn::Turn;
 use crate::turn::USED;
 use crate::turn::alone;
 use crate::turn::few;
+use crate::turn::one;
 use crate::turn::onward;
 use crate::turn::refused;
 use crate::turn::silent;
@@ -13,6 +14,7 @@ use crate::words::index;
 use crate::words::text;
 use image::Cursor;
 use image::First;
+use image::Room;
 use image::Step;
 use value::Value;
 
@@ -73,4 +75,12 @@ pub(crate) fn image_of(line: &[u8], args: &[u64], state: [u64; 6]) -> Turn {
         return begin(text(line, args, 1), text(line, args, 2));
     }
     step_from(line, args, state[1] as usize, state[2] as usize)
+}
+
+// `room RECORD PRESENCE`
+pub(crate) fn room_for(line: &[u8], args: &[u64]) -> Turn {
+    match image::image_room(text(line, args, 1), text(line, args, 2)) {
+        Room::Bytes(bytes) => one(bytes),
+        Room::Refused(refusal) => refused(refusal),
+    }
 }

@@ -12,6 +12,7 @@ use crate::fields::fields;
 use crate::fields::fields_as;
 use crate::images::first;
 use crate::images::image_of;
+use crate::images::room_for;
 use crate::images::step;
 use crate::lists::item_at;
 use crate::lists::list;
@@ -32,7 +33,7 @@ use crate::turn::BAD;
 use crate::turn::Turn;
 use crate::turn::plain;
 
-pub(crate) const KINDS: [u8; 502] = *b"packed|hn|ok N N\n\
+pub(crate) const KINDS: [u8; 515] = *b"packed|hn|ok N N\n\
     value|bbbuh|ok * N\n\
     size|bbbuv|ok N\n\
     size-at|bbbuvn|ok N\n\
@@ -51,6 +52,7 @@ pub(crate) const KINDS: [u8; 502] = *b"packed|hn|ok N N\n\
     step|hhhnn|ok N * N N\n\
     image|hhh|* \n\
     rows|nhnh|* \n\
+    room|hh|ok N\n\
     pack|nr|ok W\n\
     store|bbbuvr|ok W\n\
     write-event|nwhhhhhhr|ok W\n\
@@ -98,21 +100,23 @@ const IMAGE: usize = 17;
 
 const ROWS: usize = 18;
 
-const PACK: usize = 19;
+const ROOM: usize = 19;
 
-const STORE: usize = 20;
+const PACK: usize = 20;
 
-const WRITE_EVENT: usize = 21;
+const STORE: usize = 21;
 
-const CHECK: usize = 22;
+const WRITE_EVENT: usize = 22;
 
-const CHECK_AS: usize = 23;
+const CHECK: usize = 23;
 
-const START: usize = 24;
+const CHECK_AS: usize = 24;
 
-const PUT: usize = 25;
+const START: usize = 25;
 
-const ROW: usize = 26;
+const PUT: usize = 26;
+
+const ROW: usize = 27;
 
 // One turn of a case that reads a value.
 fn value_turn(kind: usize, line: &[u8], args: &[u64]) -> Turn {
@@ -159,7 +163,8 @@ fn image_turn(kind: usize, line: &[u8], args: &[u64], state: [u64; 6]) -> Turn {
         FIRST => first(line, args),
         STEP => step(line, args),
         IMAGE => image_of(line, args, state),
-        _ => rows_of(line, args, state),
+        ROWS => rows_of(line, args, state),
+        _ => room_for(line, args),
     }
 }
 
@@ -203,7 +208,7 @@ pub(crate) fn take_turn(
     state: [u64; 6],
 ) -> Turn {
     match kind {
-        PACKED..=ROWS => read_turn(kind, line, args, state),
+        PACKED..=ROOM => read_turn(kind, line, args, state),
         PACK..=CHECK_AS => write_turn(kind, line, args, room),
         START..=ROW => row_turn(kind, line, args, room, state),
         _ => plain(BAD),

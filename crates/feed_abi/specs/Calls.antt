@@ -23,6 +23,7 @@ use Rattle.map_check.specs.Check.{check}
 use Rattle.image.specs.declared.cursor.Cursor.{Cursor}
 use Rattle.image.specs.Split.{ColumnStepped, null, value, end, cursor, firstCursor, stepFrom}
 use Rattle.image.specs.Puts.{startImage, putFrom}
+use Rattle.image.specs.Room.{readRoom}
 use Rattle.row_plan.specs.declared.row.RowCursor.{RowCursor}
 use Rattle.row_plan.specs.Plan.{rowCursor, makePlan}
 use Rattle.row_plan.specs.Runs.{readRun}
@@ -110,6 +111,10 @@ planNumbers x = x .0 ∷ (x .1 ∷ [])
 abbrev pub runNumbers : ℕ × RowCursor → List ℕ
 runNumbers x = x .0 ∷ (x .1 .start ∷ (x .1 .item ∷ (x .1 .offset ∷ [])))
 
+-- how many bytes an image can take; and 0, since every call has room for the two numbers of a refusal
+abbrev pub roomNumbers : ℕ → List ℕ
+roomNumbers n = n ∷ (0 ∷ [])
+
 -- ---- maps
 -- whose map it is
 unfoldable pub feedMap : List ℕ → ℕ → Outcome (List ℕ)
@@ -168,6 +173,11 @@ unfoldable pub feedPut : List ℕ → List ℕ → List ℕ → ℕ → ℕ → 
 unfolding valueOf putFrom
 feedPut profile presence nulls column offset sort ps lent image =
     after (valueOf sort ps) (λ v. saidWith cursorNumbers (putFrom profile presence nulls (cursor column offset) lent v image))
+
+-- the most bytes that an image can take
+unfoldable pub feedRoom : List ℕ → List ℕ → Outcome (List ℕ)
+unfolding readRoom
+feedRoom profile presence = said roomNumbers (readRoom profile presence)
 
 -- ---- rows events
 -- the parts of an event of a code, under the record and the table id of its map

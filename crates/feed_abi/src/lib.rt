@@ -22,5 +22,6 @@ pub use plans::feed_plan;
 pub use plans::feed_run;
 pub use rows::feed_first;
 pub use rows::feed_put;
+pub use rows::feed_room;
 pub use rows::feed_start;
 pub use rows::feed_step;

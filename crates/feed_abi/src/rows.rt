@@ -6,6 +6,7 @@ use crate::answer::tell_refusal;
 use image::Cursor;
 use image::First;
 use image::Put;
+use image::Room;
 use image::Step;
 use value::Value;
 use value_parts::Made;
@@ -22,7 +23,8 @@ ghost use Rattle.value_parts.specs.Parts.{sortOf, partsOf, isHeld};
 ghost use Rattle.image.specs.Split.{cursor, stepFrom};
 ghost use Rattle.image.specs.Puts.{putTold};
 ghost use Rattle.feed_abi.specs.Answers.{answerNumber, answerNumbers, statusOf, numbersLeft, bytesLeft};
-ghost use Rattle.feed_abi.specs.Calls.{said, cursorNumbers, stepNumbers, Held, feedFirst, feedStep, feedStart, feedPut};
+ghost use Rattle.feed_abi.specs.Calls.{said, cursorNumbers, stepNumbers, roomNumbers, Held, feedFirst, feedStep, feedStart, feedPut};
+ghost use Rattle.feed_abi.specs.Calls.{feedRoom};
 
 fn tell_cursor(at: Cursor, out: &mut [u64]) -> u64
     requires { ⌜ 2 ≤ length (now out) ⌝ }
@@ -72,6 +74,15 @@ fn tell_put(put: Put, out: &mut [u64]) -> u64
         Put::Next(next) => tell_cursor(next, out),
         Put::Refused(r) => tell_refusal(r, out),
     }
+}
+
+fn tell_room(bytes: u64, out: &mut [u64]) -> u64
+    requires { ⌜ 2 ≤ length (now out) ⌝ }
+    ensures { λ r. ⌜ r ≡ 0 ⌝ }
+    ensures { λ _. ⌜ now (out .exit) ≡ stored (roomNumbers bytes) (now (out .entry)) 0 ⌝ }
+{
+    let numbers = [bytes, 0];
+    tell(&numbers, out)
 }
 
 // The cursor that a walk begins with: column and offset.
@@ -180,4 +191,19 @@ pub extern "C" fn feed_put(
     };
     let at = Cursor { column, offset };
     tell_put(at.put(profile, presence, nulls, value, lent, image), out)
+}
+
+// The most bytes that an image can take, and 0.
+#[no_mangle]
+pub extern "C" fn feed_room(profile: &[u8], presence: &[u8], out: &mut [u64]) -> u64
+    ensures { λ r. ⌜ r ≡ statusOf 2 (feedRoom (now (profile .entry)) (now (presence .entry))) (now (out .entry)) ⌝ }
+    ensures { λ _. ⌜ now (out .exit) ≡ numbersLeft 2 (feedRoom (now (profile .entry)) (now (presence .entry))) (now (out .entry)) ⌝ }
+{
+    if out.len() < 2 {
+        return NO_NUMBERS;
+    }
+    match image::image_room(profile, presence) {
+        Room::Bytes(bytes) => tell_room(bytes, out),
+        Room::Refused(r) => tell_refusal(r, out),
+    }
 }

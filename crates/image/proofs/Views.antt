@@ -12,9 +12,12 @@ use Rattle.image.specs.declared.end.WalkEnd.{WalkEnd}
 use Rattle.image.specs.declared.end.WalkEnd.the-variants.{Ends, Refused as Refused₅}
 use Rattle.image.specs.declared.put.Put.{Put}
 use Rattle.image.specs.declared.put.Put.the-variants.{Next, Refused as Refused₃}
+use Rattle.image.specs.declared.room.Room.{Room}
+use Rattle.image.specs.declared.room.Room.the-variants.{Bytes, Refused as Refused₆}
 use Rattle.image.specs.Split.{ColumnStepped, null, value, end, stepTold, firstTold, headTold}
 use Rattle.image.specs.Walk.{endTold}
 use Rattle.image.specs.Puts.{putTold}
+use Rattle.image.specs.Room.{roomTold}
 
 -- the way back from what a step says
 abbrev back-step : Outcome ColumnStepped → Step
@@ -64,3 +67,11 @@ put-way (Refused₃ r) = refl
 -- of the writer
 pub same-put : (a b : Put) → putTold a ≡ putTold b → a ≡ b
 same-put = same-by-back putTold (back-read Next Refused₃) put-way
+
+room-way : (a : Room) → back-read Bytes Refused₆ (roomTold a) ≡ a
+room-way (Bytes n) = refl
+room-way (Refused₆ r) = refl
+
+-- of rooms
+pub same-room : (a b : Room) → roomTold a ≡ roomTold b → a ≡ b
+same-room = same-by-back roomTold (back-read Bytes Refused₆) room-way

@@ -9,4 +9,5 @@ pub mod FirstParts
 pub mod Records
 pub mod RowPlans
 pub mod Appended
+pub mod Room
 pub mod Port

@@ -7,6 +7,7 @@ use Rattle.promises.proofs.Readings.{readings}
 use Rattle.promises.proofs.RowsEvents.{rows-events}
 use Rattle.promises.proofs.FirstParts.{first-parts}
 use Rattle.promises.proofs.Records.{records}
+use Rattle.promises.proofs.Room.{rooms}
 use Rattle.promises.proofs.RowPlans.{row-plans}
 use Rattle.promises.proofs.Appended.{appended}
 
@@ -19,6 +20,7 @@ port = record {
   rows-events = rows-events;
   first-parts = first-parts;
   records = records;
+  rooms = rooms;
   appended = appended;
   row-plans = row-plans;
 }

@@ -27,7 +27,7 @@ use Rattle.row_plan.specs.Plan.{rowCursor}
 use Rattle.row_plan.specs.Runs.{turned}
 use Rattle.feed_abi.specs.Answers.{statusOf, numbersLeft, bytesLeft}
 use Rattle.feed_abi.specs.Calls.{dialectOf, toldNumbers, feedMap, feedCheck, feedColumn, feedNames, feedName, feedFirst, feedStep}
-use Rattle.feed_abi.specs.Calls.{feedStart, feedPut, feedRows, feedImage, feedPlan, feedRun}
+use Rattle.feed_abi.specs.Calls.{feedStart, feedPut, feedRoom, feedRows, feedImage, feedPlan, feedRun}
 use Rattle.feed_abi.specs.Fields.{feedParts, feedFields, feedField, feedItem}
 use Rattle.promises.specs.Refusals.{Line, _at_, _below_, part-below, refusalNumbers, Only, laidOut, eventLines, checkLines, nameLines}
 use Rattle.promises.specs.Refusals.{namesLines, rowsLines, planLines}
@@ -96,6 +96,8 @@ pub record AbiCalls : Type 1 where
   pub feed-put : (profile presence nulls : List ℕ) (column offset sort : ℕ) (parts lent image : List ℕ)
       → Only (answerOf (feedPut profile presence nulls column offset sort parts lent image))
       (13 at 0 ∷ 11 at 0 ∷ 12 at 0 ∷ 14 at column ∷ 13 below countOf profile ∷ 8 at 0 ∷ [])
+  -- `feed_room`: as `image_room`
+  pub feed-room : (profile presence : List ℕ) → Only (feedRoom profile presence) (11 at 0 ∷ 12 at 0 ∷ [])
   -- ---- rows events; s is the event
   -- `feed_rows`: as `read_rows`
   pub feed-rows : (code : ℕ) (profile : List ℕ) (id : ℕ) (s : List ℕ) → Only (feedRows code profile id s) (rowsLines code profile s)
@@ -161,6 +163,7 @@ pub record AbiCalls : Type 1 where
   pub start-two : (profile presence nulls image : List ℕ) → Counts 2 (answerOf (feedStart profile presence nulls image))
   pub put-two : (profile presence nulls : List ℕ) (column offset sort : ℕ) (parts lent image : List ℕ)
       → Counts 2 (answerOf (feedPut profile presence nulls column offset sort parts lent image))
+  pub room-two : (profile presence : List ℕ) → Counts 2 (feedRoom profile presence)
   pub rows-ten : (code : ℕ) (profile : List ℕ) (id : ℕ) (s : List ℕ) → Counts 10 (feedRows code profile id s)
   pub image-six : (profile s : List ℕ) (firstStart firstLength hasSecond secondStart secondLength offset second : ℕ)
       → Counts 6 (feedImage profile s firstStart firstLength hasSecond secondStart secondLength offset second)

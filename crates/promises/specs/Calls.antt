@@ -50,6 +50,7 @@ use Rattle.value.proofs.read_value.Statement.{statement as of-read-value}
 use Rattle.value.proofs.read_op.Statement.{statement as of-read-op}
 use Rattle.value.proofs.write_value.Statement.{statement as of-write-value}
 use Rattle.value.proofs.value_size.Statement.{statement as of-value-size}
+use Rattle.value.proofs.most_size.Statement.{statement as of-most-size}
 use Rattle.value.proofs.read_lone.Statement.{statement as of-read-lone}
 use Rattle.value.proofs.write_lone.Statement.{statement as of-write-lone}
 use Rattle.value.proofs.lone_size.Statement.{statement as of-lone-size}
@@ -92,6 +93,7 @@ use Rattle.image.proofs.walk_end.Statement.{statement as of-walk-end}
 use Rattle.image.proofs.count_bits.Statement.{statement as of-count-bits}
 use Rattle.image.proofs.first_set.Statement.{statement as of-first-set}
 use Rattle.image.proofs.start.Statement.{statement as of-start}
+use Rattle.image.proofs.image_room.Statement.{statement as of-image-room}
 use Rattle.image.proofs.cursor.Cursor.put.Statement.{statement as of-cursor-put}
 use Rattle.image.proofs.cursor.Cursor.step.Statement.{statement as of-cursor-step}
 use Rattle.row_plan.proofs.make_plan.Statement.{statement as of-make-plan}
@@ -115,6 +117,7 @@ use Rattle.feed_abi.proofs.feed_first.Statement.{statement as of-feed-first}
 use Rattle.feed_abi.proofs.feed_step.Statement.{statement as of-feed-step}
 use Rattle.feed_abi.proofs.feed_start.Statement.{statement as of-feed-start}
 use Rattle.feed_abi.proofs.feed_put.Statement.{statement as of-feed-put}
+use Rattle.feed_abi.proofs.feed_room.Statement.{statement as of-feed-room}
 use Rattle.feed_abi.proofs.feed_plan.Statement.{statement as of-feed-plan}
 use Rattle.feed_abi.proofs.feed_run.Statement.{statement as of-feed-run}
 
@@ -173,6 +176,7 @@ pub record Calls : Type 2 where
   pub read-op : Meets of-read-op
   pub write-value : Meets of-write-value
   pub value-size : Meets of-value-size
+  pub most-size : Meets of-most-size
   pub read-lone : Meets of-read-lone
   pub write-lone : Meets of-write-lone
   pub lone-size : Meets of-lone-size
@@ -220,6 +224,7 @@ pub record Calls : Type 2 where
   pub count-bits : Meets of-count-bits
   pub first-set : Meets of-first-set
   pub start : Meets of-start
+  pub image-room : Meets of-image-room
   pub cursor-put : Meets of-cursor-put
   pub cursor-step : Meets of-cursor-step
   -- `row_plan`: plans of rows
@@ -246,5 +251,6 @@ pub record Calls : Type 2 where
   pub feed-step : Meets of-feed-step
   pub feed-start : Meets of-feed-start
   pub feed-put : Meets of-feed-put
+  pub feed-room : Meets of-feed-room
   pub feed-plan : Meets of-feed-plan
   pub feed-run : Meets of-feed-run

@@ -8,7 +8,7 @@ use Rattle.wire.specs.Outcome.{refused as refusedAs, outOf, Outcome, ok, refuse
 use Rattle.value.specs.declared.classes.Dialect.the-variants.{Document, Mysql, Mariadb}
 use Rattle.feed_abi.specs.Answers.{statusOf, numbersLeft, bytesLeft}
 use Rattle.feed_abi.specs.Calls.{dialectOf, feedMap, feedCheck, feedColumn, feedNames, feedName, feedFirst, feedStep, feedStart, feedPut}
-use Rattle.feed_abi.specs.Calls.{feedRows, feedImage}
+use Rattle.feed_abi.specs.Calls.{feedRoom, feedRows, feedImage}
 use Rattle.feed_abi.specs.Fields.{feedParts, feedFields, feedField, feedItem}
 use Rattle.promises.specs.Tables.{EachRow, worked, workedEvent, workedImage}
 
@@ -196,6 +196,8 @@ pub record Numbers : Type 0 where
   pub first-numbers : feedFirst everyKind allPresent ≡ ok (0 ∷ 2 ∷ [])
   pub start-numbers : feedStart everyKind allPresent (0x00 ∷ 0x04 ∷ []) (0 ∷ 0 ∷ 0 ∷ []) ≡ ok (0 ∷ 2 ∷ [], 0x00 ∷ 0xfc ∷ 0 ∷ [])
   pub step-numbers : EachRow StepTells steps
+  -- null bits, and each column at its largest: the VARCHAR(276) has two length bytes
+  pub room-numbers : feedRoom everyKind allPresent ≡ ok (65579 ∷ 0 ∷ [])
   -- under document 01's record with the first column absent, the third from its own cursor: its null bit is the second
   pub step-absent : feedStep worked (0x06 ∷ []) (0x02 ∷ 0x00 ∷ []) 2 2 ≡ ok (1 ∷ 2 ∷ 3 ∷ 2 ∷ 0 ∷ 0 ∷ 0 ∷ 0 ∷ 0 ∷ 0 ∷ 0 ∷ [])
   -- an offset past the image is 9 at the cursor's column; a value for NULL and NULL for a value are 13 at the column found

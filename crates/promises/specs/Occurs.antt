@@ -36,6 +36,7 @@ use Rattle.map_check.specs.Names.{columnName, namesField}
 use Rattle.image.specs.Split.{cursor, headOf, firstCursor, stepFrom}
 use Rattle.image.specs.Walk.{walkImage}
 use Rattle.image.specs.Puts.{startImage, putFrom}
+use Rattle.image.specs.Room.{readRoom}
 use Rattle.row_plan.specs.Plan.{rowCursor, makePlan, planStep}
 use Rattle.row_plan.specs.Runs.{readRun}
 use Rattle.rows_event.specs.declared.parts.Extra.the-variants.{Absent}
@@ -193,6 +194,7 @@ pub record Occurs : Type 0 where
   -- ---- `image`
   pub read-head : (headOf [] [] ≡ refuse 11 0) × (headOf twoColumns [] ≡ refuse 12 0)
   pub first-cursor : (firstCursor [] [] ≡ refuse 11 0) × (firstCursor twoColumns [] ≡ refuse 12 0)
+  pub image-room : (readRoom [] [] ≡ refuse 11 0) × (readRoom twoColumns [] ≡ refuse 12 0)
   -- 9 in the null bits, for an offset past the image behind all columns, and in a value
   pub step-image : (stepFrom [] [] [] (cursor 0 0) ≡ refuse 11 0)
       × (stepFrom twoColumns [] [] (cursor 0 0) ≡ refuse 12 0)

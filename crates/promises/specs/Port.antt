@@ -6,6 +6,7 @@ use Rattle.promises.specs.Readings.{Readings}
 use Rattle.promises.specs.RowsEvents.{RowsEvents}
 use Rattle.promises.specs.FirstParts.{FirstParts}
 use Rattle.promises.specs.Records.{Records}
+use Rattle.promises.specs.Room.{Rooms}
 use Rattle.promises.specs.RowPlans.{RowPlans}
 use Rattle.promises.specs.Appended.{Appended}
 
@@ -23,6 +24,8 @@ pub record Port : Type 2 where
   pub first-parts : FirstParts
   -- request 6: more than 255 columns
   pub records : Records
+  -- request 8: room for one image
+  pub rooms : Rooms
   -- request 9: bytes after an image
   pub appended : Appended
   -- request 11: faster wide rows

@@ -46,6 +46,7 @@ use Rattle.image.specs.Split.{Slot, slotsAt, headOf, firstCursor, stepFrom}
 use Rattle.image.specs.Walk.{walkImage}
 use Rattle.image.specs.Rows.{isNull}
 use Rattle.image.specs.Puts.{startImage, putFrom}
+use Rattle.image.specs.Room.{readRoom}
 use Rattle.row_plan.specs.declared.row.RowCursor.{RowCursor}
 use Rattle.row_plan.specs.Plan.{makePlan, itemAt, planStep}
 use Rattle.row_plan.specs.Runs.{turned, readRun}
@@ -186,8 +187,8 @@ pub record EveryCall : Type 1 where
   pub write-temporal : (k : Storage) (place : ℕ) (buf : List ℕ) (o : ℕ) (t : Temporal)
       → Only (writeTemporal k place t buf o) (13 at place ∷ 8 at 0 ∷ [])
   -- ---- `value`. The place is the one that the caller names, and 0 for a lone value. `is_accepted`, `family_of`, `is_known`,
-  -- ---- `declared_length`, `metadata_bytes`, `real_type`, `is_numeric`, `has_sign_bit`, `is_character`, `has_charset`, `is_enum_or_set`
-  -- ---- and `op_of` refuse nothing
+  -- ---- `declared_length`, `metadata_bytes`, `real_type`, `is_numeric`, `has_sign_bit`, `is_character`, `has_charset`, `is_enum_or_set`,
+  -- ---- `op_of` and `most_size` refuse nothing
   -- `read_value`, `read_lone`
   pub read-value : (c : Column) (place : ℕ) (s : List ℕ) (o : ℕ)
       → Only (readValue (shapeOf c) place s o) (4 at place ∷ 5 at place ∷ 9 at place ∷ part-at place ∷ [])
@@ -276,6 +277,8 @@ pub record EveryCall : Type 1 where
       → c .column ≤ countOf profile
       → slotsAt profile presence nulls (c .column) ≡ i ∷ is
       → (isNull (datumOf lent v) ≡ i .null → ⊥) → putFrom profile presence nulls c lent v buf ≡ refuse 13 (i .present .column)
+  -- `image_room`
+  pub image-room : (profile presence : List ℕ) → Only (readRoom profile presence) (11 at 0 ∷ 12 at 0 ∷ [])
   -- ---- `row_plan`
   -- `make_plan`
   pub make-plan : (profile presence buf : List ℕ) → Only (makePlan profile presence buf) (11 at 0 ∷ 12 at 0 ∷ 8 at 0 ∷ [])

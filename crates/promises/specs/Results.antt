@@ -17,6 +17,7 @@ use Rattle.map_check.specs.Names.{nameTold, namesTold}
 use Rattle.image.specs.Split.{stepTold, firstTold, headTold}
 use Rattle.image.specs.Walk.{endTold}
 use Rattle.image.specs.Puts.{putTold}
+use Rattle.image.specs.Room.{roomTold}
 use Rattle.row_plan.specs.Plan.{plannedTold, rowStepTold}
 use Rattle.row_plan.specs.Runs.{ranTold}
 use Rattle.rows_event.specs.Events.{rowsTold}
@@ -65,6 +66,8 @@ pub record Results : Type 0 where
   pub step : Apart stepTold
   pub end : Apart endTold
   pub put : Apart putTold
+  -- `image_room`
+  pub room : Apart roomTold
   -- `make_plan`, `RowCursor::step`, `RowCursor::read`
   pub planned : Apart plannedTold
   pub row-step : Apart rowStepTold

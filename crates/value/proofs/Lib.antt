@@ -3,7 +3,7 @@
 -- `Readers`, `Writers`: what the proofs of readers and of writers use. `Arms`, `Sorts`: for a match with an arm that serves several
 -- families, or several sorts of values or shapes. `Views`: no two answers look the same on paper.
 -- `Ops`: the op of a shape tells it. `Appends`: bytes put behind a value. `Moves`: a value read wherever its bytes stand. `Narrows`: how
--- many bytes a value has that does not tell its own length.
+-- many bytes a value has that does not tell its own length. `Most`: how many bytes a value takes at most, and one that takes them.
 pub mod Facts
 pub mod Laws
 pub mod Tables
@@ -18,3 +18,4 @@ pub mod Ops
 pub mod Appends
 pub mod Moves
 pub mod Narrows
+pub mod Most

@@ -1,5 +1,5 @@
--- What holds of every column: its shape has a width that there is, an accepted column's value takes a byte at least, and a value in its
--- domain has few bytes. The rule of a decimal's leftover digits is document 01's table. Assumes nothing.
+-- What holds of every column: its shape has a width that there is, an accepted column's value takes a byte at least and few at most, and a
+-- value in its domain has few bytes. The rule of a decimal's leftover digits is document 01's table. Assumes nothing.
 use Prim.Native.Nat.{ℕ, _+_, _-_, _*_, _/_, _%_, _^_, _≤_, _<_}
 use mathlib.Core.Bool.{Bool, true, false, cond, _&&_, _||_, true≢false}
 use mathlib.Core.List.{List, [], _∷_}
@@ -14,7 +14,7 @@ use Rattle.wire.specs.Number.{areBytes}
 use Rattle.wire.proofs.Bytes.{wider}
 use Rattle.wire.proofs.Outcomes.{both-true}
 use Rattle.wire.proofs.Each.{below, left, right}
-use Rattle.temporal.proofs.Forms.{size-least}
+use Rattle.temporal.proofs.Forms.{size-least, size-most}
 use Rattle.value.specs.declared.shape.Shape.{Shape}
 use Rattle.value.specs.declared.shape.Shape.the-variants.{Unsigned, Signed, FloatBits, DoubleBits, YearByte, Timed, Fixed, Counted}
 use Rattle.value.specs.declared.shape.Shape.the-variants.{NotTaken}
@@ -28,7 +28,7 @@ use Rattle.value.specs.Columns.{shapeIn, shapeOf, isTaken, refusalOf, le
 use Rattle.value.specs.Columns.{lengthBytes}
 use Rattle.value.specs.Data.{Datum, tag, bytesIn}
 use Rattle.value.specs.Domains.{domain}
-use Rattle.value.specs.Shapes.{need}
+use Rattle.value.specs.Shapes.{need, mostOf}
 use Rattle.value.specs.Inner.Shapes.{Sized}
 use Rattle.value.proofs.Facts.{made, sorted}
 
@@ -226,6 +226,24 @@ few-of (NotTaken n) d f h = absurd (true≢false (sym h))
 
 pub few-bytes : (c : Column) (d : Datum) → domain (shapeOf c) d ≡ true → (areBytes (bytesIn d) ≡ true) × (length (bytesIn d) < 256 ^ 4)
 few-bytes c d = few-of (shapeOf c) d (fine c)
+
+-- and no value takes more than a length of four bytes and what it can count
+most-of-fine : (sh : Shape) → Fine sh → mostOf sh ≤ 4294967299
+unfolding mostOf
+most-of-fine (Unsigned k) f = omega (arith, f .1)
+most-of-fine (Signed k) f = omega (arith, f .1)
+most-of-fine FloatBits f = omega arith
+most-of-fine DoubleBits f = omega arith
+most-of-fine YearByte f = omega arith
+most-of-fine (Timed k) f = omega (arith, size-most k)
+most-of-fine (Fixed n) f = omega (arith, f .1)
+most-of-fine (Counted k) f =
+    let l : 256 ^ k - 1 < 256 ^ 4 = wider k 4 (256 ^ k - 1) (f .1) (omega (arith, wider 0 k 0 (omega arith) (omega arith))) in
+    omega (arith, f .1, l)
+most-of-fine (NotTaken n) f = omega arith
+
+pub most-few : (c : Column) → mostOf (shapeOf c) ≤ 4294967299
+most-few c = most-of-fine (shapeOf c) (fine c)
 
 -- ---- a column's shape is its family's, where its type is a real type
 pub by-family :

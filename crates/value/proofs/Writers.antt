@@ -182,12 +182,6 @@ pub size-is : (sh : Shape) (s : List ℕ) (v : Value) → isIn sh s v ≡ true
     → need sh (bytesOf sh (datumOf s v)) ≡ length (bytesOf sh (datumOf s v))
 size-is sh s v h = rw (append-nil (bytesOf sh (datumOf s v))) at (need-bytes sh (datumOf s v) [] (is-in sh s v h .1))
 
--- where the shape's need is n whatever the bytes
-pub size-at : (sh sh′ : Shape) (n : ℕ) (s : List ℕ) (v : Value) → sh ≡ sh′ → isIn sh s v ≡ true → ((b : List ℕ) → need sh′ b ≡ n)
-    → n ≡ length (bytesOf sh (datumOf s v))
-size-at sh sh′ n s v e h f =
-    sym (f (bytesOf sh (datumOf s v))) ∙ ap (λ (x : Shape). need x (bytesOf sh (datumOf s v))) (sym e) ∙ size-is sh s v h
-
 pub size-counted : (k : ℕ) (s : List ℕ) (v : Value) → isIn (Counted k) s v ≡ true
     → k + bytesAt v .len ≡ length (bytesOf (Counted k) (datumOf s v))
 unfolding bytesOf

@@ -1,5 +1,6 @@
--- The stored bytes of a value, by shape; how many they are, told by the bytes at hand; and what they say. Assumes nothing.
-use Prim.Native.Nat.{ℕ, _+_, _^_}
+-- The stored bytes of a value, by shape; how many they are, told by the bytes at hand; what they say; and how many they are at most. Assumes
+-- nothing.
+use Prim.Native.Nat.{ℕ, _+_, _-_, _^_}
 use mathlib.Core.List.{List, [], _++_}
 use lib.ListN.{length, take, drop}
 use Rattle.wire.specs.Number.{leValue, leBytes}
@@ -74,3 +75,16 @@ fault (Timed k) b = temporalFault k b
 fault (Fixed n) b = 0
 fault (Counted k) b = 0
 fault (NotTaken n) b = 0
+
+-- the most bytes that a value can take: behind a length of k bytes as many as these can count, whatever length the column declares
+unfoldable pub mostOf : Shape → ℕ
+unfolding temporalSize
+mostOf (Unsigned k) = k
+mostOf (Signed k) = k
+mostOf FloatBits = 4
+mostOf DoubleBits = 8
+mostOf YearByte = 1
+mostOf (Timed k) = temporalSize k
+mostOf (Fixed n) = n
+mostOf (Counted k) = k + (256 ^ k - 1)
+mostOf (NotTaken n) = 0

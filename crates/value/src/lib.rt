@@ -25,6 +25,7 @@ pub use op::read_op;
 pub use reading::Read;
 use reading::read_shape;
 pub use shape::Shape;
+use shape::most_of;
 use storing::size_shape;
 use storing::write_shape;
 pub use types::Family;
@@ -38,6 +39,7 @@ use wire::Written;
 ghost use mathlib.Core.Path.{_≡_};
 ghost use Rattle.wire.specs.Stored.{answerOf, leftOf, writtenTold, sizeTold};
 ghost use Rattle.value.specs.Columns.{shapeOf};
+ghost use Rattle.value.specs.Shapes.{mostOf};
 ghost use Rattle.value.specs.Reading.{readValue, readTold};
 ghost use Rattle.value.specs.Storing.{writeValue, sizeOf};
 
@@ -71,6 +73,13 @@ pub fn value_size(column: Column, value: Value, lent: &[u8], place: usize) -> Si
     ensures { λ r. ⌜ sizeTold r ≡ sizeOf (shapeOf column) place (now (lent .entry)) value ⌝ }
 {
     size_shape(shape_of(column), value, lent, place)
+}
+
+// How many bytes a value of the column takes at most, be it in the column's declared length or not; 0 where there is no such column.
+pub fn most_size(column: Column) -> u64
+    ensures { λ r. ⌜ r ≡ mostOf (shapeOf column) ⌝ }
+{
+    most_of(shape_of(column))
 }
 
 // ---- a lone value: at the start of what is lent, and every place is 0

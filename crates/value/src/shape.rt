@@ -1,7 +1,11 @@
 // How a column's values are stored.
 use temporal::Storage;
+use wire::top_of;
 ghost use mathlib.Core.Path.{_≡_};
+ghost use mathlib.Core.List.{[]};
 ghost use Rattle.value.specs.Columns.{isTaken, refusalOf};
+ghost use Rattle.value.specs.Shapes.{need, mostOf};
+ghost use Rattle.value.specs.Inner.Shapes.{Sized};
 
 pub enum Shape {
     // A number of so many bytes, the least significant first.
@@ -38,5 +42,33 @@ pub(crate) fn refusal_of(shape: Shape) -> u8
     match shape {
         Shape::NotTaken(n) => n,
         _ => 0,
+    }
+}
+
+// How many bytes a value takes, without those that a length of its own counts.
+pub(crate) fn width_of(shape: Shape) -> usize
+    ensures { λ r. ⌜ r ≡ need shape [] ⌝ }
+{
+    match shape {
+        Shape::Unsigned(k) => k,
+        Shape::Signed(k) => k,
+        Shape::FloatBits => 4,
+        Shape::DoubleBits => 8,
+        Shape::YearByte => 1,
+        Shape::Timed(storage) => temporal::temporal_size(storage),
+        Shape::Fixed(n) => n,
+        Shape::Counted(k) => k,
+        Shape::NotTaken(_) => 0,
+    }
+}
+
+// How many bytes a value takes at most: behind a length, as many as it can count.
+pub(crate) fn most_of(shape: Shape) -> u64
+    requires { ⌜ Sized shape ⌝ }
+    ensures { λ r. ⌜ r ≡ mostOf shape ⌝ }
+{
+    match shape {
+        Shape::Counted(k) => (k as u64) + top_of(k),
+        _ => width_of(shape) as u64,
     }
 }

@@ -15,6 +15,7 @@ use crate::datum::temporal_in;
 use crate::shape::Shape;
 use crate::shape::is_taken;
 use crate::shape::refusal_of;
+use crate::shape::width_of;
 use crate::years::byte_of_year;
 use crate::years::in_years;
 use temporal::Storage;
@@ -135,16 +136,8 @@ pub(crate) fn size_in(shape: Shape, value: Value, lent: &[u8]) -> usize
     ensures { λ r. ⌜ r ≡ length (bytesOf shape (datumOf (now (lent .entry)) value)) ⌝ }
 {
     match shape {
-        Shape::Unsigned(k) => k,
-        Shape::Signed(k) => k,
-        Shape::FloatBits => 4,
-        Shape::DoubleBits => 8,
-        Shape::YearByte => 1,
-        Shape::Timed(storage) => temporal::temporal_size(storage),
-        Shape::Fixed(n) => n,
         Shape::Counted(k) => k + bytes_at(value).len,
-        // Not reached: such a shape takes no value.
-        Shape::NotTaken(_) => 0,
+        _ => width_of(shape),
     }
 }
 

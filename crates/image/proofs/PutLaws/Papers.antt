@@ -1,5 +1,5 @@
 -- Every row on paper can be given to the writer: values with their bytes, and null bits written one by one. Assumes nothing.
-use Prim.Native.Nat.{ℕ, zero, suc, _+_, _-_, _*_, _/_, _≤_, _<_}
+use Prim.Native.Nat.{ℕ, suc, _+_, _-_, _*_, _/_, _≤_, _<_}
 use mathlib.Core.Path.{_≡_, refl, sym, ap, subst, _∙_}
 use mathlib.Core.Bool.{Bool, true}
 use mathlib.Core.List.{List, [], _∷_}
@@ -16,6 +16,7 @@ use Rattle.wire.proofs.Digits.{withDigit, with-below, lsb0-written, lsb0-kept}
 use Rattle.value.specs.Data.{Datum, null, int, uint, float, double, year, temporal, bytes, bytesIn}
 use Rattle.value.specs.Reading.{placed, datumOf}
 use Rattle.value.specs.Storing.{bytesAt, isLent}
+use Rattle.value.proofs.Most.{zero-bytes}
 use Rattle.record.specs.Records.{countOf, recordValid}
 use Rattle.image.specs.Present.{present}
 use Rattle.image.specs.Rows.{Row, isNull, inDomains, Marks}
@@ -103,11 +104,6 @@ nulls-of ds =
     (w .0 ∙ z, w .1)
 
 -- they are bytes
-zero-bytes : (n : ℕ) → Bytes (replicate n 0)
-zero-bytes zero i = omega arith
-zero-bytes (suc n) zero = omega arith
-zero-bytes (suc n) (suc i) = zero-bytes n i
-
 marked-bytes : (s : List ℕ) (k : ℕ) (ds : Row) → Bytes s → Bytes (marked s k ds)
 unfolding marked
 marked-bytes s k [] h = h

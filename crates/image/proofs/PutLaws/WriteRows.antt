@@ -95,7 +95,7 @@ unfolding putOver
 put-over i is c g buf h e l = rw (slot-bytes i (g .lent) (g .value) h e l)
 
 -- the columns from j on, and those behind the first of them
-next-present : (r p : List ℕ) (j : ℕ) (c : Present) (cs : List Present) → j ≤ countOf r → presentFrom (countOf r - j) r p j ≡ c ∷ cs
+pub next-present : (r p : List ℕ) (j : ℕ) (c : Present) (cs : List Present) → j ≤ countOf r → presentFrom (countOf r - j) r p j ≡ c ∷ cs
     → (c .column < countOf r) × (presentFrom (countOf r - (c .column + 1)) r p (c .column + 1) ≡ cs)
     × (countBits p (c .column + 1) ≡ suc (countBits p j))
 next-present r p j c cs h e =

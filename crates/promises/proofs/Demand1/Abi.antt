@@ -31,6 +31,7 @@ use Rattle.map_check.specs.Check.{check}
 use Rattle.image.specs.declared.cursor.Cursor.{Cursor}
 use Rattle.image.specs.Split.{ColumnStepped, null, value, end, cursor, firstCursor, stepFrom}
 use Rattle.image.specs.Puts.{startImage, putFrom}
+use Rattle.image.specs.Room.{readRoom}
 use Rattle.row_plan.specs.Plan.{rowCursor, makePlan}
 use Rattle.row_plan.specs.Runs.{readRun}
 use Rattle.rows_event.specs.Events.{readRows}
@@ -39,6 +40,7 @@ use Rattle.feed_abi.specs.Answers.{answerNumber, answerNumbers, statusOf, numbe
 use Rattle.feed_abi.specs.Calls.{said, saidWith, recordNumbers, partNumbers, mapNumbers, namesGiven, givenNumbers, cursorNumbers}
 use Rattle.feed_abi.specs.Calls.{stepNumbers, toldNumbers, rowsNumbers, imageNumbers, dialectOf, secondAsked, setsAsked, imagesAt, feedMap}
 use Rattle.feed_abi.specs.Calls.{feedCheck, feedColumn, feedNames, feedName, feedFirst, feedStep, feedStart, feedPut, feedRows, feedImage}
+use Rattle.feed_abi.specs.Calls.{roomNumbers, feedRoom}
 use Rattle.feed_abi.specs.Calls.{planNumbers, runNumbers, feedPlan, feedRun}
 use Rattle.feed_abi.specs.Fields.{partsNumbers, fieldsFrom, fieldsNumbers, fieldsOf, fieldNumbers, inTwo, itemAt, itemNumbers, feedParts}
 use Rattle.feed_abi.specs.Fields.{feedFields, feedField, feedItem}
@@ -223,8 +225,8 @@ columns-told : (n : ℕ) → (entryAt n - 6) / 6 ≡ n
 columns-told n = omega arith
 
 pub abi : AbiCalls
-unfolding feedMap feedCheck feedNames feedName feedParts feedFields feedField feedItem itemAt feedFirst feedStep feedStart feedPut feedRows
-    feedImage feedPlan feedRun statusOf numbersLeft bytesLeft inTable isAmong
+unfolding feedMap feedCheck feedNames feedName feedParts feedFields feedField feedItem itemAt feedFirst feedStep feedStart feedPut feedRoom
+    feedRows feedImage feedPlan feedRun statusOf numbersLeft bytesLeft inTable isAmong
 abi = record {
   feed-map = λ event postHeader. only refl (in-numbers mapNumbers (readEvent event postHeader) (refusals .read-event event postHeader));
   feed-check = λ event postHeader dialect buf d e.
@@ -259,6 +261,7 @@ abi = record {
       λ value offset. only refl (in-two (λ s. (s .start, s .len)) (step stringItem value offset) (refusals .next-string value offset));
   group-item = λ value offset. only refl (in-two (λ g. g) (step groupItem value offset) (refusals .next-group value offset));
   no-list = λ list value offset e. rw (no-item list value offset e);
+  feed-room = λ r p. only refl (in-numbers roomNumbers (readRoom r p) (refusals .image-room r p));
   feed-first = λ r p. only refl (in-numbers cursorNumbers (firstCursor r p) (refusals .first-cursor r p));
   feed-step =
       λ r p im column offset. only refl
@@ -307,6 +310,7 @@ abi = record {
   field-five =
       λ event offset numeric columns. said-counts 5 fieldNumbers (fieldStep (fieldsFrom offset numeric columns) event) field-counts;
   item-four = λ list value offset. said-counts 4 itemNumbers (itemAt list value offset) item-counts;
+  room-two = λ r p. said-counts 2 roomNumbers (readRoom r p) (λ n. refl);
   first-two = λ r p. said-counts 2 cursorNumbers (firstCursor r p) (λ c. refl);
   step-eleven = λ r p im column offset. said-counts 11 toldNumbers (stepFrom r p im (cursor column offset)) told-counts;
   start-two = λ r p nulls im. left-counts 2 cursorNumbers (startImage r p nulls im) (λ c. refl);

@@ -46,6 +46,7 @@ use Rattle.value.proofs.read_value.Met.{met as of-read-value}
 use Rattle.value.proofs.read_op.Met.{met as of-read-op}
 use Rattle.value.proofs.write_value.Met.{met as of-write-value}
 use Rattle.value.proofs.value_size.Met.{met as of-value-size}
+use Rattle.value.proofs.most_size.Met.{met as of-most-size}
 use Rattle.value.proofs.read_lone.Met.{met as of-read-lone}
 use Rattle.value.proofs.write_lone.Met.{met as of-write-lone}
 use Rattle.value.proofs.lone_size.Met.{met as of-lone-size}
@@ -88,6 +89,7 @@ use Rattle.image.proofs.walk_end.Met.{met as of-walk-end}
 use Rattle.image.proofs.count_bits.Met.{met as of-count-bits}
 use Rattle.image.proofs.first_set.Met.{met as of-first-set}
 use Rattle.image.proofs.start.Met.{met as of-start}
+use Rattle.image.proofs.image_room.Met.{met as of-image-room}
 use Rattle.image.proofs.cursor.Cursor.put.Met.{met as of-cursor-put}
 use Rattle.image.proofs.cursor.Cursor.step.Met.{met as of-cursor-step}
 use Rattle.row_plan.proofs.make_plan.Met.{met as of-make-plan}
@@ -111,6 +113,7 @@ use Rattle.feed_abi.proofs.feed_first.Met.{met as of-feed-first}
 use Rattle.feed_abi.proofs.feed_step.Met.{met as of-feed-step}
 use Rattle.feed_abi.proofs.feed_start.Met.{met as of-feed-start}
 use Rattle.feed_abi.proofs.feed_put.Met.{met as of-feed-put}
+use Rattle.feed_abi.proofs.feed_room.Met.{met as of-feed-room}
 use Rattle.feed_abi.proofs.feed_plan.Met.{met as of-feed-plan}
 use Rattle.feed_abi.proofs.feed_run.Met.{met as of-feed-run}
 use Rattle.promises.specs.Calls.{Calls}
@@ -164,6 +167,7 @@ calls = record {
   read-op = λ M. of-read-op {M = M};
   write-value = λ M. of-write-value {M = M};
   value-size = λ M. of-value-size {M = M};
+  most-size = λ M. of-most-size {M = M};
   read-lone = λ M. of-read-lone {M = M};
   write-lone = λ M. of-write-lone {M = M};
   lone-size = λ M. of-lone-size {M = M};
@@ -206,6 +210,7 @@ calls = record {
   count-bits = λ M. of-count-bits {M = M};
   first-set = λ M. of-first-set {M = M};
   start = λ M. of-start {M = M};
+  image-room = λ M. of-image-room {M = M};
   cursor-put = λ M. of-cursor-put {M = M};
   cursor-step = λ M. of-cursor-step {M = M};
   make-plan = λ M. of-make-plan {M = M};
@@ -229,6 +234,7 @@ calls = record {
   feed-step = λ M. of-feed-step {M = M};
   feed-start = λ M. of-feed-start {M = M};
   feed-put = λ M. of-feed-put {M = M};
+  feed-room = λ M. of-feed-room {M = M};
   feed-plan = λ M. of-feed-plan {M = M};
   feed-run = λ M. of-feed-run {M = M};
 }

@@ -27,7 +27,7 @@ use Rattle.promises.proofs.Demand1.Maps.{event-read, event-written, eve
 use Rattle.promises.proofs.Demand1.Maps.{field-cut, field-judged, checked, event-refused, map-refused, string-found, names-found}
 use Rattle.promises.proofs.RowsEvents.{rows-read, image-met}
 use Rattle.promises.proofs.Demand1.Rows.{record-read, head-read, first-read, image-stepped, walk-ended, image-started, image-put}
-use Rattle.promises.proofs.Demand1.Rows.{past-refused, null-refused}
+use Rattle.promises.proofs.Demand1.Rows.{past-refused, null-refused, room-told}
 use Rattle.promises.proofs.Demand1.Plans.{plan-made, plan-stepped, run-read}
 
 -- a refusal that is listed names a part, or has one of the numbers that do not
@@ -165,6 +165,7 @@ refusals = record {
       (λ p x. fourth (such x)) (λ p x. fifth (such x)) (λ p x. sixth (such x)));
   read-head = λ r p. only refl (head-read just (second just) r p);
   first-cursor = λ r p. only refl (first-read just (second just) r p);
+  image-room = λ r p. only refl (room-told just (second just) r p);
   step-image = λ r p im c.
       only refl (image-stepped r p im c just (second just) (third just) (fourth just) (fifth just) (λ j h. sixth (under h))
       (λ j h part l m. seventh (under-part h l m)));

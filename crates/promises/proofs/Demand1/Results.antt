@@ -7,7 +7,7 @@ use Rattle.table_map.proofs.Views.{same-event-read, same-integer, same-pair, sa
 use Rattle.table_map.proofs.Views.{same-judged}
 use Rattle.record.proofs.Views.{same-record}
 use Rattle.map_check.proofs.Views.{same-name, same-names}
-use Rattle.image.proofs.Views.{same-step, same-first, same-head, same-end, same-put}
+use Rattle.image.proofs.Views.{same-step, same-first, same-head, same-end, same-put, same-room}
 use Rattle.row_plan.proofs.Views.{same-planned, same-row-step, same-run}
 use Rattle.rows_event.proofs.Views.{same-rows, same-image}
 use Rattle.promises.specs.Results.{Results}
@@ -38,6 +38,7 @@ results = record {
   step = same-step;
   end = same-end;
   put = same-put;
+  room = same-room;
   planned = same-planned;
   row-step = same-row-step;
   run = same-run;

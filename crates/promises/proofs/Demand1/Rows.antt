@@ -24,6 +24,7 @@ use Rattle.image.specs.Split.{Slot, slots, slotsAt, cursor, headOf, firstCursor
 use Rattle.image.specs.Walk.{RowWalked, goingOn, readSlot, readSlots, walkFrom, walkImage}
 use Rattle.image.specs.Rows.{isNull}
 use Rattle.image.specs.Puts.{filled, headNulls, startImage, slotBytes, putOver, putFrom}
+use Rattle.image.specs.Room.{readRoom}
 use Rattle.image.proofs.CursorLaws.Heads.{head-tested, nulls-tested}
 use Rattle.image.proofs.StepLaws.Steps.{left-stands}
 use Rattle.image.proofs.StepLaws.Splits.{Each}
@@ -45,6 +46,10 @@ module _ {ls : List Line} (eleven : OneOf ls (why 11 0)) (twelve : OneOf ls (why
   pub first-read : Listed ls (firstCursor r p)
   unfolding firstCursor
   first-read = chain (headOf r p) _ head-read (λ h e. done _)
+
+  pub room-told : Listed ls (readRoom r p)
+  unfolding readRoom
+  room-told = chain (headOf r p) _ head-read (λ h e. done _)
 
   nulls-read : (nulls : List ℕ) → Listed ls (headNulls r p nulls)
   unfolding headNulls

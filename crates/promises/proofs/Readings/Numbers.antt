@@ -5,7 +5,7 @@ use Rattle.table_map.specs.Fields.{countSignBits}
 use Rattle.map_check.specs.Check.{check}
 use Rattle.feed_abi.specs.Answers.{statusOf, numbersLeft, bytesLeft}
 use Rattle.feed_abi.specs.Calls.{dialectOf, feedMap, feedCheck, feedColumn, feedNames, feedName, feedFirst, feedStep, feedStart, feedPut}
-use Rattle.feed_abi.specs.Calls.{feedRows, feedImage}
+use Rattle.feed_abi.specs.Calls.{feedRoom, feedRows, feedImage}
 use Rattle.feed_abi.specs.Fields.{feedParts, feedFields, feedField, feedItem}
 use Rattle.promises.specs.Tables.{EachRow, done, _and_}
 use Rattle.promises.specs.Numbers.{StepTells, steps, PutStores, puts, Numbers}
@@ -22,7 +22,7 @@ put-numbers =
 
 pub numbers : Numbers
 unfolding check countSignBits statusOf numbersLeft bytesLeft dialectOf feedMap feedCheck feedColumn feedNames feedName feedFirst feedStep
-    feedStart feedPut feedRows feedImage feedParts feedFields feedField feedItem
+    feedStart feedPut feedRoom feedRows feedImage feedParts feedFields feedField feedItem
 numbers =
     record {
       answered = (refl, refl);
@@ -47,6 +47,7 @@ numbers =
       first-numbers = refl;
       start-numbers = refl;
       step-numbers = step-numbers;
+      room-numbers = refl;
       step-absent = refl;
       step-past = refl;
       step-order = (refl, refl, refl);
