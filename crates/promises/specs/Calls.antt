@@ -96,6 +96,9 @@ use Rattle.image.proofs.start.Statement.{statement as of-start}
 use Rattle.image.proofs.image_room.Statement.{statement as of-image-room}
 use Rattle.image.proofs.cursor.Cursor.put.Statement.{statement as of-cursor-put}
 use Rattle.image.proofs.cursor.Cursor.step.Statement.{statement as of-cursor-step}
+use Rattle.blocks.proofs.begin.Statement.{statement as of-begin}
+use Rattle.blocks.proofs.state.Arriving.give.Statement.{statement as of-arriving-give}
+use Rattle.blocks.proofs.state.Arriving.end.Statement.{statement as of-arriving-end}
 use Rattle.row_plan.proofs.make_plan.Statement.{statement as of-make-plan}
 use Rattle.row_plan.proofs.row.RowCursor.step.Statement.{statement as of-row-cursor-step}
 use Rattle.row_plan.proofs.row.RowCursor.read.Statement.{statement as of-row-cursor-read}
@@ -227,6 +230,10 @@ pub record Calls : Type 2 where
   pub image-room : Meets of-image-room
   pub cursor-put : Meets of-cursor-put
   pub cursor-step : Meets of-cursor-step
+  -- `blocks`: images in blocks
+  pub begin : Meets of-begin
+  pub arriving-give : Meets of-arriving-give
+  pub arriving-end : Meets of-arriving-end
   -- `row_plan`: plans of rows
   pub make-plan : Meets of-make-plan
   pub row-cursor-step : Meets of-row-cursor-step

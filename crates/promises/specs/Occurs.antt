@@ -37,6 +37,9 @@ use Rattle.image.specs.Split.{cursor, headOf, firstCursor, stepFrom}
 use Rattle.image.specs.Walk.{walkImage}
 use Rattle.image.specs.Puts.{startImage, putFrom}
 use Rattle.image.specs.Room.{readRoom}
+use Rattle.blocks.specs.States.{opened, begun, closed}
+use Rattle.blocks.specs.Gives.{giveBlock, beginBlocks}
+use Rattle.blocks.specs.Ends.{endBlocks}
 use Rattle.row_plan.specs.Plan.{rowCursor, makePlan, planStep}
 use Rattle.row_plan.specs.Runs.{readRun}
 use Rattle.rows_event.specs.declared.parts.Extra.the-variants.{Absent}
@@ -218,6 +221,23 @@ pub record Occurs : Type 0 where
       × (putFrom twoColumns onlySecond (0 ∷ []) (cursor 2 0) [] Null [] ≡ refuse 14 2)
       × (putFrom twoColumns onlySecond (0 ∷ []) (cursor 0 0) [] Null [] ≡ refuse 13 1)
       × (putFrom twoColumns onlyFirst (0 ∷ []) (cursor 0 0) [] (Int (pos 0)) [] ≡ refuse 8 0)
+  -- ---- `blocks`
+  pub begin-blocks : (beginBlocks [] [] [] ≡ refuse 11 0)
+      × (beginBlocks twoColumns [] [] ≡ refuse 12 0)
+      × (beginBlocks twoColumns onlySecond (zeros 1023) ≡ refuse 20 0)
+  -- 21 with the closed state
+  pub give-block : (giveBlock [] [] begun [] [] ≡ refuse 11 0)
+      × (giveBlock twoColumns [] begun [] [] ≡ refuse 12 0)
+      × (giveBlock twoColumns onlySecond begun (zeros 1023) [] ≡ refuse 20 0)
+      × (giveBlock twoColumns onlySecond closed (zeros 1024) [] ≡ refuse 21 0)
+      × (giveBlock twoColumns onlySecond begun (zeros 1024) (0 ∷ month13) ≡ refused (outOf 1 2))
+  -- 9 in the null bits, in a long value, and at a value that is not there
+  pub end-blocks : (endBlocks [] [] begun [] ≡ refuse 11 0)
+      × (endBlocks twoColumns [] begun [] ≡ refuse 12 0)
+      × (endBlocks twoColumns onlySecond begun (zeros 1023) ≡ refuse 20 0)
+      × (endBlocks twoColumns onlySecond closed (zeros 1024) ≡ refuse 21 0)
+      × (endBlocks twoColumns onlySecond begun (zeros 1024) ≡ refuse 9 0)
+      × (endBlocks twoColumns onlySecond (opened 0 1 1) (zeros 1024) ≡ refuse 9 1)
   -- ---- `row_plan`
   pub make-plan : (makePlan [] [] [] ≡ refuse 11 0)
       × (makePlan twoColumns [] [] ≡ refuse 12 0)

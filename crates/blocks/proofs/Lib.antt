@@ -1,0 +1,19 @@
+pub mod Carries
+pub mod Turned
+pub mod Spends
+pub mod Ons
+pub mod Longs
+pub mod Joins
+pub mod Wholes
+pub mod Finals
+pub mod Fits
+pub mod Runs
+pub mod Answers
+pub mod Taken
+pub mod Hands
+pub mod Opens
+pub mod Values
+pub mod Sitting
+pub mod Heldings
+pub mod Fitting
+mod Worked

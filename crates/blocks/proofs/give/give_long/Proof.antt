@@ -1,0 +1,78 @@
+use Prim.Native.Nat.{_≤_}
+use mathlib.Core.Path.{_≡_}
+use native.Mathlib.Omega.{arith}
+use lib.ListN.{length}
+use Rattle.blocks.proofs.Values.{part-none, part-last, part-some}
+use borrow.Author.Needs.{needs}
+use Rattle.blocks.proofs.give.give_long.Statement.{statement}
+use Rattle.blocks.proofs.give.give_long.Tie as tie
+use Rattle.blocks.proofs.give.give_long.Reads as reads
+use Rattle.blocks.proofs.give.give_long.Lts as lts
+use Rattle.blocks.proofs.state.longed.Reads as longed-reads
+use Rattle.blocks.proofs.state.opened.Reads as opened-reads
+use Rattle.blocks.proofs.state.took.Reads as took-reads
+
+-- src/give.rt:25:9
+took-requires : tie.Need-took-requires
+took-requires c κs = search needs
+
+-- src/give.rt:25:9
+returns : tie.Need-returns
+returns c =
+    part-none (c .before .before .before .args .at) (c .before .before .before .args .nulls) (c .before .before .before .args .block .now)
+    (omega arith) (c .took .ensures)
+
+-- src/give.rt:28:27
+add-opened : tie.Need-add-opened
+add-opened c = search needs
+
+-- src/give.rt:28:13
+opened-requires : tie.Need-opened-requires
+opened-requires c κs = search needs
+
+-- src/give.rt:29:9
+took-requires-2 : tie.Need-took-requires-2
+took-requires-2 c κs = search needs
+
+-- src/give.rt:29:9
+returns-2 : tie.Need-returns-2
+returns-2 c =
+    part-last (c .before .before .before .before .before .args .at) (c .before .before .before .before .before .args .nulls)
+    (c .before .before .before .before .before .args .block .now)
+    (λ (e : length (c .before .before .before .before .before .args .block .now) ≡ 0). absurd (omega arith)) (omega arith)
+    (c .before .opened .ensures) (c .took2 .ensures)
+
+-- src/give.rt:31:40
+sub-longed : tie.Need-sub-longed
+sub-longed c = search needs
+
+-- src/give.rt:31:9
+longed-requires : tie.Need-longed-requires
+longed-requires c κs = search needs
+
+-- src/give.rt:32:5
+took-requires-3 : tie.Need-took-requires-3
+took-requires-3 c κs = search needs
+
+-- src/give.rt:17:1
+returns-3 : tie.Need-returns-3
+returns-3 c =
+    part-some (c .before .before .before .before .before .args .at) (c .before .before .before .before .before .args .nulls)
+    (c .before .before .before .before .before .args .block .now)
+    (λ (e : length (c .before .before .before .before .before .args .block .now) ≡ 0). absurd (omega arith)) (omega arith)
+    (c .before .longed .ensures) (c .took3 .ensures)
+
+pub give-long-spec : {M : Type 1} → statement M
+give-long-spec =
+    tie.close
+    (tie.spec
+    took-requires
+    returns
+    add-opened
+    opened-requires
+    took-requires-2
+    returns-2
+    sub-longed
+    longed-requires
+    took-requires-3
+    returns-3)
