@@ -11,6 +11,7 @@ use blocks::Phase;
 use value::Value;
 use value_parts::parts_of;
 use value_parts::sort_of;
+use wire::Refusal;
 ghost use mathlib.Core.Path.{_≡_};
 ghost use mathlib.Core.List.{_∷_, []};
 ghost use Prim.Native.Nat.{_≤_};
@@ -21,7 +22,7 @@ ghost use Rattle.feed_abi.specs.Answers.{answerNumber, answerNumbers, st
 ghost use Rattle.feed_abi.specs.Calls.{said};
 ghost use Rattle.feed_abi.specs.Blocks.{phaseNumber, phaseAsked, stateNumbers, stateAsked, arrivalHead, arrivalNumbers, arrivedNumbers};
 ghost use Rattle.feed_abi.specs.Blocks.{feedBegin, feedGive, feedEnd};
-ghost use Rattle.feed_abi.specs.Inner.Blocks.{givenTold};
+ghost use Rattle.feed_abi.specs.Inner.Blocks.{givenTold, notedOf};
 
 // What arrives beside values, each with a number that no sort of value has.
 const END: u64 = 0;
@@ -31,6 +32,53 @@ const MORE: u64 = 12;
 const LONG: u64 = 13;
 
 const PART: u64 = 14;
+
+// What arrived: a value, NULL too, or what has no more than a number of bytes, or why there is nothing.
+enum Noted {
+    Value {
+        column: usize,
+        value: Value,
+    },
+    Bytes {
+        sort: u64,
+        column: usize,
+        bytes: usize,
+    },
+    Refused(Refusal),
+}
+
+fn note(arrival: Arrival) -> Noted
+    ensures { λ r. ⌜ r ≡ notedOf arrival ⌝ }
+{
+    match arrival {
+        Arrival::More => Noted::Bytes {
+            sort: MORE,
+            column: 0,
+            bytes: 0,
+        },
+        Arrival::Null { column } => Noted::Value {
+            column,
+            value: Value::Null,
+        },
+        Arrival::Value { column, value } => Noted::Value { column, value },
+        Arrival::Long { column, len } => Noted::Bytes {
+            sort: LONG,
+            column,
+            bytes: len,
+        },
+        Arrival::Part { column, len } => Noted::Bytes {
+            sort: PART,
+            column,
+            bytes: len,
+        },
+        Arrival::End { used } => Noted::Bytes {
+            sort: END,
+            column: 0,
+            bytes: used,
+        },
+        Arrival::Refused(r) => Noted::Refused(r),
+    }
+}
 
 fn phase_number(phase: Phase) -> u64
     ensures { λ r. ⌜ r ≡ phaseNumber phase ⌝ }
@@ -115,8 +163,14 @@ fn tell_value(column: usize, value: Value, taken: usize, next: Arriving, out: &m
     0
 }
 
-// What is no value: a number of bytes is all that it has.
-fn tell_bytes(sort: u64, column: usize, bytes: usize, taken: usize, next: Arriving, out: &mut [u64]) -> u64
+fn tell_bytes(
+    sort: u64,
+    column: usize,
+    bytes: usize,
+    taken: usize,
+    next: Arriving,
+    out: &mut [u64],
+) -> u64
     requires { ⌜ 15 ≤ length (now out) ⌝ }
     ensures { λ r. ⌜ r ≡ 0 ⌝ }
     ensures { λ _. ⌜ now (out .exit) ≡ stored (arrivalNumbers next sort column taken (bytes ∷ [])) (now (out .entry)) 0 ⌝ }
@@ -136,14 +190,14 @@ fn tell_given(given: Given, out: &mut [u64]) -> u64
     let arrival = given.arrival;
     let taken = given.taken;
     let next = given.next;
-    match arrival {
-        Arrival::More => tell_bytes(MORE, 0, 0, taken, next, out),
-        Arrival::Null { column } => tell_value(column, Value::Null, taken, next, out),
-        Arrival::Value { column, value } => tell_value(column, value, taken, next, out),
-        Arrival::Long { column, len } => tell_bytes(LONG, column, len, taken, next, out),
-        Arrival::Part { column, len } => tell_bytes(PART, column, len, taken, next, out),
-        Arrival::End { used } => tell_bytes(END, 0, used, taken, next, out),
-        Arrival::Refused(r) => tell_refusal(r, out),
+    match note(arrival) {
+        Noted::Value { column, value } => tell_value(column, value, taken, next, out),
+        Noted::Bytes {
+            sort,
+            column,
+            bytes,
+        } => tell_bytes(sort, column, bytes, taken, next, out),
+        Noted::Refused(r) => tell_refusal(r, out),
     }
 }
 

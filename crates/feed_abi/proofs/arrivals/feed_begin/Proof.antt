@@ -1,3 +1,11 @@
+-- `feed_abi::arrivals::feed_begin` meets its contract. Assumes nothing.
+use mathlib.Core.Path.{sym, ap, _∙_}
+use native.Mathlib.Omega.{arith}
+use Rattle.blocks.specs.Gives.{beginBlocks}
+use Rattle.feed_abi.specs.Blocks.{stateNumbers, feedBegin}
+use Rattle.feed_abi.specs.Inner.Blocks.{begunTold}
+use Rattle.feed_abi.proofs.Tells.{no-numbers, said-ok, said-refused}
+use Rattle.feed_abi.proofs.Arrives.{begun-told}
 use borrow.Author.Needs.{needs}
 use Rattle.feed_abi.proofs.arrivals.feed_begin.Statement.{statement}
 use Rattle.feed_abi.proofs.arrivals.feed_begin.Tie as tie
@@ -7,45 +15,45 @@ use Rattle.blocks.proofs.begin.Reads as begin-reads
 use Rattle.feed_abi.proofs.answer.tell_refusal.Reads as tell-refusal-reads
 use Rattle.feed_abi.proofs.arrivals.tell_state.Reads as tell-state-reads
 
--- src/arrivals.rt:158:9
 returns : tie.Need-returns
-returns c = ?
+returns c = no-numbers 5 (c .before .before .before .before .before .args .out .now) _ (c .if1 .taken)
 
--- src/arrivals.rt:160:11
 begin-requires : tie.Need-begin-requires
 begin-requires c κs = search needs
 
--- src/arrivals.rt:161:23
 enum-known-at : tie.Need-enum-known-at
 enum-known-at c = search needs
 
--- src/arrivals.rt:161:30
 tell-state-requires : tie.Need-tell-state-requires
 tell-state-requires c κs = search needs
 
--- src/arrivals.rt:162:24
 enum-known-r : tie.Need-enum-known-r
 enum-known-r c = search needs
 
--- src/arrivals.rt:162:30
 tell-refusal-requires : tie.Need-tell-refusal-requires
 tell-refusal-requires c κs = search needs
 
--- src/arrivals.rt:151:1
 same-length : tie.Need-same-length
 same-length c = search needs
 
--- src/arrivals.rt:151:1
 returns-2 : tie.Need-returns-2
-returns-2 c = ?
+unfolding feedBegin
+returns-2 c = let a = c .before .before .before .before .before .before .before .before .before .before .before .before .before .args in
+    let o = beginBlocks (a .profile .now) (a .presence .now) (a .carry .now) in
+    said-ok 5 (a .out .now) stateNumbers o _ _ _ (omega arith)
+    (sym (begun-told o) ∙ sym (ap begunTold (c .before .before .before .before .before .before .before .begin .ensures)) ∙ ap begunTold (c .before .before .before .before .before .at .given .1))
+    (c .before .before .tell-state .ensures .0) (c .before .before .tell-state .ensures .1)
 
--- src/arrivals.rt:151:1
 same-length-2 : tie.Need-same-length-2
 same-length-2 c = search needs
 
--- src/arrivals.rt:151:1
 returns-3 : tie.Need-returns-3
-returns-3 c = ?
+unfolding feedBegin
+returns-3 c = let a = c .before .before .before .before .before .before .before .before .before .before .before .before .before .args in
+    let o = beginBlocks (a .profile .now) (a .presence .now) (a .carry .now) in
+    said-refused 5 (a .out .now) stateNumbers o _ _ _ (omega arith)
+    (sym (begun-told o) ∙ sym (ap begunTold (c .before .before .before .before .before .before .before .begin .ensures)) ∙ ap begunTold (c .before .before .before .before .before .r .given .1))
+    (c .before .before .tell-refusal .ensures .0) (c .before .before .tell-refusal .ensures .1)
 
 pub feed-begin-spec : {M : Type 1} → statement M
 feed-begin-spec =

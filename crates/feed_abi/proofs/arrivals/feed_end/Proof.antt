@@ -1,3 +1,8 @@
+-- `feed_abi::arrivals::feed_end` meets its contract. Assumes nothing.
+use native.Mathlib.Omega.{arith}
+use Rattle.feed_abi.specs.Blocks.{feedEnd}
+use Rattle.feed_abi.proofs.Tells.{no-numbers, tells-told}
+use Rattle.feed_abi.proofs.Arrives.{end-told}
 use borrow.Author.Needs.{needs}
 use Rattle.feed_abi.proofs.arrivals.feed_end.Statement.{statement}
 use Rattle.feed_abi.proofs.arrivals.feed_end.Tie as tie
@@ -7,29 +12,28 @@ use Rattle.blocks.proofs.state.Arriving.end.Reads as end-reads
 use Rattle.feed_abi.proofs.arrivals.state_asked.Reads as state-asked-reads
 use Rattle.feed_abi.proofs.arrivals.tell_given.Reads as tell-given-reads
 
--- src/arrivals.rt:219:9
 returns : tie.Need-returns
-returns c = ?
+returns c = no-numbers 15 (c .before .before .before .before .before .args .out .now) _ (c .if1 .taken)
 
--- src/arrivals.rt:221:9
 state-asked-requires : tie.Need-state-asked-requires
 state-asked-requires c κs = search needs
 
--- src/arrivals.rt:222:16
 end-requires : tie.Need-end-requires
 end-requires c κs = search needs
 
--- src/arrivals.rt:222:5
 tell-given-requires : tie.Need-tell-given-requires
 tell-given-requires c κs = search needs
 
--- src/arrivals.rt:199:1
 same-length : tie.Need-same-length
 same-length c = search needs
 
--- src/arrivals.rt:199:1
 returns-2 : tie.Need-returns-2
-returns-2 c = ?
+unfolding feedEnd
+returns-2 c =
+    let a = c .before .before .before .before .before .before .before .before .before .before .before .args in
+    tells-told 15 (a .out .now) _ _ _ _ (omega arith)
+    (end-told (a .profile .now) (a .presence .now) (a .carry .now) _ _ _ (c .before .before .before .before .before .state-asked .ensures) (c .before .before .before .before .end .ensures))
+    (c .before .before .tell-given .ensures .0) (c .before .before .tell-given .ensures .1)
 
 pub feed-end-spec : {M : Type 1} → statement M
 feed-end-spec =

@@ -1,3 +1,5 @@
+-- `feed_abi::arrivals::put_arrival` meets its contract. Assumes nothing.
+use mathlib.Core.Path.{sym}
 use borrow.Author.Needs.{needs}
 use Rattle.feed_abi.proofs.arrivals.put_arrival.Statement.{statement}
 use Rattle.feed_abi.proofs.arrivals.put_arrival.Tie as tie
@@ -6,25 +8,20 @@ use Rattle.feed_abi.proofs.arrivals.put_arrival.Lts as lts
 use Rattle.feed_abi.proofs.answer.put_numbers.Reads as put-numbers-reads
 use Rattle.feed_abi.proofs.arrivals.phase_number.Reads as phase-number-reads
 
--- src/arrivals.rt:93:9
 phase-number-requires : tie.Need-phase-number-requires
 phase-number-requires c κs = search needs
 
--- src/arrivals.rt:102:17
 slice-aggregate-put-numbers : tie.Need-slice-aggregate-put-numbers
 slice-aggregate-put-numbers c = search needs
 
--- src/arrivals.rt:102:5
 put-numbers-requires : tie.Need-put-numbers-requires
 put-numbers-requires c κs = search needs
 
--- src/arrivals.rt:87:1
 same-length : tie.Need-same-length
 same-length c = search needs
 
--- src/arrivals.rt:87:1
 returns : tie.Need-returns
-returns c = ?
+returns c = rw (sym (c .before .before .before .before .before .phase-number .ensures)) (c .before .before .put-numbers .ensures)
 
 pub put-arrival-spec : {M : Type 1} → statement M
 put-arrival-spec =

@@ -1,3 +1,8 @@
+-- `feed_abi::arrivals::tell_bytes` meets its contract. Assumes nothing.
+use mathlib.Core.Path.{refl, _∙_}
+use native.Mathlib.Omega.{arith}
+use Rattle.value_parts.specs.Parts.{padded}
+use Rattle.feed_abi.proofs.Tells.{head-then}
 use borrow.Author.Needs.{needs}
 use Rattle.feed_abi.proofs.arrivals.tell_bytes.Statement.{statement}
 use Rattle.feed_abi.proofs.arrivals.tell_bytes.Tie as tie
@@ -6,25 +11,21 @@ use Rattle.feed_abi.proofs.arrivals.tell_bytes.Lts as lts
 use Rattle.feed_abi.proofs.answer.put_numbers.Reads as put-numbers-reads
 use Rattle.feed_abi.proofs.arrivals.put_arrival.Reads as put-arrival-reads
 
--- src/arrivals.rt:125:5
 put-arrival-requires : tie.Need-put-arrival-requires
 put-arrival-requires c κs = search needs
 
--- src/arrivals.rt:126:17
 slice-aggregate-put-numbers : tie.Need-slice-aggregate-put-numbers
 slice-aggregate-put-numbers c = search needs
 
--- src/arrivals.rt:126:5
 put-numbers-requires : tie.Need-put-numbers-requires
 put-numbers-requires c κs = search needs
 
--- src/arrivals.rt:119:1
 same-length : tie.Need-same-length
 same-length c = search needs
 
--- src/arrivals.rt:119:1
 returns : tie.Need-returns
-returns c = ?
+unfolding padded
+returns c = (refl, head-then 8 _ _ _ _ _ refl (omega arith) (c .before .before .before .before .before .before .before .put-arrival .ensures) (c .before .before .put-numbers .ensures))
 
 pub tell-bytes-spec : {M : Type 1} → statement M
 tell-bytes-spec =

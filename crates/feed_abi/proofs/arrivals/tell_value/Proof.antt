@@ -1,3 +1,7 @@
+-- `feed_abi::arrivals::tell_value` meets its contract. Assumes nothing.
+use mathlib.Core.Path.{refl, _∙_}
+use native.Mathlib.Omega.{arith}
+use Rattle.feed_abi.proofs.Tells.{head-then}
 use borrow.Author.Needs.{needs}
 use Rattle.feed_abi.proofs.arrivals.tell_value.Statement.{statement}
 use Rattle.feed_abi.proofs.arrivals.tell_value.Tie as tie
@@ -8,33 +12,31 @@ use Rattle.feed_abi.proofs.arrivals.put_arrival.Reads as put-arrival-re
 use Rattle.value_parts.proofs.parts_of.Reads as parts-of-reads
 use Rattle.value_parts.proofs.sort_of.Reads as sort-of-reads
 
--- src/arrivals.rt:112:17
 parts-of-requires : tie.Need-parts-of-requires
 parts-of-requires c κs = search needs
 
--- src/arrivals.rt:113:23
 sort-of-requires : tie.Need-sort-of-requires
 sort-of-requires c κs = search needs
 
--- src/arrivals.rt:113:5
 put-arrival-requires : tie.Need-put-arrival-requires
 put-arrival-requires c κs = search needs
 
--- src/arrivals.rt:114:17
 slice-aggregate-put-numbers : tie.Need-slice-aggregate-put-numbers
 slice-aggregate-put-numbers c = search needs
 
--- src/arrivals.rt:114:5
 put-numbers-requires : tie.Need-put-numbers-requires
 put-numbers-requires c κs = search needs
 
--- src/arrivals.rt:106:1
 same-length : tie.Need-same-length
 same-length c = search needs
 
--- src/arrivals.rt:106:1
 returns : tie.Need-returns
-returns c = ?
+returns c = (
+  refl,
+  head-then 8 _ _ _ _ _ refl (omega arith) (c .before .before .before .before .before .before .before .put-arrival .ensures)
+      (c .before .before .put-numbers .ensures)
+      ∙ rw (c .before .before .before .before .before .before .before .before .before .sort-of .ensures, c .before .before .before .before .before .before .before .before .before .before .parts-of .ensures .0),
+)
 
 pub tell-value-spec : {M : Type 1} → statement M
 tell-value-spec =
