@@ -150,17 +150,23 @@ impl Record {
     }
 }
 
-/// A buffer that the image fits in, for the null bits and the values. Memory that is not to be had is a refusal too.
+/// A buffer that the image fits in, for the null bits and the values.
 fn room_for(nulls: &[u8], values: &[Value]) -> Result<Vec<u8>, Refusal> {
-    let room = values
-        .iter()
-        .fold(nulls.len(), |sum, v| sum.saturating_add(v.room()));
-    let mut image = Vec::new();
-    match image.try_reserve_exact(room) {
-        Ok(()) => image.resize(room, 0),
+    buffer(
+        values
+            .iter()
+            .fold(nulls.len(), |sum, v| sum.saturating_add(v.room())),
+    )
+}
+
+/// A buffer of so many bytes. Memory that is not to be had is a refusal too.
+pub(crate) fn buffer(len: usize) -> Result<Vec<u8>, Refusal> {
+    let mut bytes = Vec::new();
+    match bytes.try_reserve_exact(len) {
+        Ok(()) => bytes.resize(len, 0),
         Err(_) => return Err(Refusal::at(refusal::NO_ROOM, 0)),
     }
-    Ok(image)
+    Ok(bytes)
 }
 
 /// A bit for each value, lowest first, set where it is NULL.
