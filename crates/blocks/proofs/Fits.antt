@@ -290,18 +290,18 @@ longing-less room j left left′ (i ∷ is) h l w = (w .0, w .1, w .2, omega (ar
 
 pub long-leaves : (K : Type 0) (r p : List ℕ) (column held left used : ℕ) (carry block : List ℕ)
     → LongReady K r p column held left used carry
-    → Leaves K r p (giveLong (nullBytes r p) (longed column held left used) carry block)
+    → Leaves K r p (length carry) (giveLong (nullBytes r p) (longed column held left used) carry block)
 unfolding giveLong
 long-leaves K r p column held left used carry block q =
     let nb = nullBytes r p in
     dite (decLe (length block) 0)
-    (λ (a : length block ≤ 0). let e : length block ≡ 0 = omega arith in rw (eq-eqb (length block) 0 e) (long-left column held left used q))
+    (λ (a : length block ≤ 0). let e : length block ≡ 0 = omega arith in rw (eq-eqb (length block) 0 e) (refl, long-left column held left used q))
     (λ a.
     let e : length block ≡ 0 → ⊥ = λ z. absurd (omega arith) in
     dite (decLe left (length block))
     (λ (b : left ≤ length block).
     rw (ne-eqb (length block) 0 e, le-leb left (length block) b)
-    (open-left (column + 1) nb (used + left) (record {
+    (refl, open-left (column + 1) nb (used + left) (record {
       over = q .over;
       room = q .room;
       least = q .least;
@@ -314,7 +314,7 @@ long-leaves K r p column held left used carry block q =
     })))
     (λ b.
     rw (ne-eqb (length block) 0 e, lt-leb left (length block) (omega arith))
-    (long-left column held (left - length block) (used + length block) (record {
+    (refl, long-left column held (left - length block) (used + length block) (record {
       over = q .over;
       room = q .room;
       least = q .least;

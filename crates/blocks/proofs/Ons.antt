@@ -141,9 +141,10 @@ pub data Left (K : Type 0) (r p carry : List ℕ) : Arriving → Type 0 where
   open-left : (column held used : ℕ) → Ready K r p column held used carry → Left K r p carry (opened column held used)
   long-left : (column held left used : ℕ) → LongReady K r p column held left used carry → Left K r p carry (longed column held left used)
 
-abbrev pub Leaves : Type 0 → List ℕ → List ℕ → Outcome Handed → Type 0
-Leaves K r p (ok x) = Left K r p (x .1) (x .0 .next)
-Leaves K r p (refused w) = Unit {0}
+-- the carry has as many bytes as before
+abbrev pub Leaves : Type 0 → List ℕ → List ℕ → ℕ → Outcome Handed → Type 0
+Leaves K r p n (ok x) = (length (x .1) ≡ n) × Left K r p (x .1) (x .0 .next)
+Leaves K r p n (refused w) = Unit {0}
 
 -- ---- the bytes up to `upto` being taken
 module _ (r p : List ℕ) (held used : ℕ) (carry block t : List ℕ) (upto : ℕ) (w : Within carry block held upto) where
@@ -214,7 +215,7 @@ module _ (K : Type 0) (r p : List ℕ) (column held used : ℕ) (carry block t :
   kept g = On r p nulls block t (from r p nulls space column (used + nulls - held) (take held carry ++ (block ++ t))) g
 
   abbrev leaves : Outcome Handed → Type 0
-  leaves g = Leaves K r p g
+  leaves g = Leaves K r p (length carry) g
 
   hand-length : length (take held carry ++ block) ≡ held + length block
   hand-length = length-append (take held carry) block ∙ ap (λ (k : ℕ). k + length block) (length-take-le held carry (q .fits))
@@ -271,7 +272,7 @@ module _ (K : Type 0) (r p : List ℕ) (column held used : ℕ) (carry block t :
       let upto = held + length block in
       let w : Within carry block held upto = record { low = omega arith; high = omega arith; fits = h } in
       let n = carried-length carry block held upto w in
-      open-left j upto (used + (upto - held)) (record {
+      (n, open-left j upto (used + (upto - held)) (record {
         over = q .over;
         room = omega (arith, q .room);
         least = omega (arith, q .least);
@@ -281,15 +282,16 @@ module _ (K : Type 0) (r p : List ℕ) (column held used : ℕ) (carry block t :
         first = λ (k : upto < nulls). (f k .0, omega (arith, f k .1));
         waits = λ (k : nulls < upto). rw (wait-front w, n) (v k);
         spent = λ k. (bytes-carried upto k, omega (arith, q .spent k .1, most-mono r p column j o));
-      })
+      }))
 
   -- nothing held behind the null bits
   next-left : (j upto : ℕ) → Within carry block held upto → nulls ≤ upto → j ≤ countOf r
       → (K → used + (upto - held) ≤ nulls + mostTo r p j)
-      → Left K r p (carried carry block held upto) (opened j nulls (used + (upto - held)))
+      → (length (carried carry block held upto) ≡ length carry)
+      × Left K r p (carried carry block held upto) (opened j nulls (used + (upto - held)))
   next-left j upto w h a z =
       let n = carried-length carry block held upto w in
-      open-left j nulls (used + (upto - held)) (record {
+      (n, open-left j nulls (used + (upto - held)) (record {
         over = q .over;
         room = omega (arith, q .room);
         least = omega (arith, q .least);
@@ -299,7 +301,7 @@ module _ (K : Type 0) (r p : List ℕ) (column held used : ℕ) (carry block t :
         first = λ (k : nulls < nulls). absurd (omega arith);
         waits = λ (k : nulls < nulls). absurd (omega arith);
         spent = λ k. (bytes-carried upto k, z k);
-      })
+      }))
 
   -- the null bits are not whole
   short-left : length (take held carry ++ block) < nulls → leaves (giveOpen r p nulls st carry block)
@@ -600,7 +602,7 @@ module _ (K : Type 0) (r p : List ℕ) (column held used : ℕ) (carry block t :
             (omega (arith, front-length carry block held upto w)))
             ∙ ap (λ (s : List ℕ). slotsAt r p s f) (carried-same carry block held upto w t) ∙ all-slots f (omega arith) ∙ slots-from in
             let a : Longing space f (need sh x - prefix sh) (slot ∷ behind) h = (n, t₁, k, omega arith, refl) in
-            long-left f upto (need sh x - prefix sh) (used + (upto - held)) (record {
+            (m, long-left f upto (need sh x - prefix sh) (used + (upto - held)) (record {
               over = q .over;
               room = omega (arith, q .room);
               least = omega (arith, q .least);
@@ -611,7 +613,7 @@ module _ (K : Type 0) (r p : List ℕ) (column held used : ℕ) (carry block t :
               some = omega (arith, i .over, prefix-most sh (good .sized), q .room);
               longs = rw (e, long-front-is v, m) a;
               spent = λ k. (bytes-carried upto k, omega (arith, q .spent k .1, has-room k, w .low, prefix-within sh x));
-            })
+            }))
 
         -- one that is whole: read, or refused for its range
         module _ (v : tooLong space sh x ≡ false) (h : need sh x ≤ length x) where
@@ -704,7 +706,7 @@ module _ (K : Type 0) (r p : List ℕ) (column held used : ℕ) (carry block t :
           go true n = null-left n
           go false n = value-left n
 
-  pub open-leaves : Leaves K r p (giveOpen r p nulls st carry block)
+  pub open-leaves : Leaves K r p (length carry) (giveOpen r p nulls st carry block)
   open-leaves =
       let n = countOf r in
       let f = firstFrom (n - column) p column in
