@@ -1,14 +1,13 @@
 -- However the image is cut, the answers and the end are those of the walk over all of it. Assumes nothing.
-use Prim.Native.Nat.{ℕ, zero, suc, _+_, _-_, _≤_, _<_}
-use mathlib.Core.Path.{_≡_, refl, sym, ap, subst, _∙_}
-use mathlib.Core.Bool.{Bool, true, false, cond, true≢false}
-use mathlib.Core.List.{List, [], _∷_, _++_, append-assoc, nil≢cons}
+use Prim.Native.Nat.{ℕ, zero, suc, _+_, _≤_, _<_}
+use mathlib.Core.Path.{_≡_, refl, sym, ap, _∙_}
+use mathlib.Core.Bool.{Bool, true, false, true≢false}
+use mathlib.Core.List.{List, [], _∷_, _++_, nil≢cons}
 use mathlib.Core.Logic.{dite}
 use native.Mathlib.Decide.{decLe}
 use native.Mathlib.Omega.{arith}
 use borrow.Author.Tests.{le-ltb, lt-ltb}
 use lib.ListN.{length, take, drop, length-append, length-map}
-use Rattle.wire.specs.declared.refusal.Refusal.{Refusal}
 use Rattle.wire.specs.Outcome.{Outcome, ok, refused}
 use Rattle.wire.specs.Number.{Bytes}
 use Rattle.wire.proofs.Inverse.{bytes-drop}
@@ -19,21 +18,18 @@ use Rattle.value.specs.Reading.{datumOf}
 use Rattle.image.specs.Present.{Present, present}
 use Rattle.image.specs.Split.{slots}
 use Rattle.image.proofs.PresenceLaws.Presents.{present-length, slots-all}
-use Rattle.image.specs.Walk.{RowWalked, walkImage}
+use Rattle.image.specs.Walk.{walkImage}
 use Rattle.image.proofs.CursorLaws.Heads.{Over, nullBytes, head-is}
-use Rattle.blocks.specs.declared.state.Phase.{Phase}
-use Rattle.blocks.specs.declared.state.Phase.the-variants.{Open, Long, Closed}
 use Rattle.blocks.specs.declared.state.Arriving.{Arriving}
-use Rattle.blocks.specs.States.{opened, longed, begun, Arrived, more, null, value, long, part, end, BlockGiven}
+use Rattle.blocks.specs.States.{begun, Arrived, more, null, value, long, part, end, BlockGiven}
 use Rattle.blocks.specs.Fits.{isFit}
 use Rattle.blocks.specs.Gives.{headCarry, Handed, giveIn, givenFit, giveBlock}
 use Rattle.blocks.specs.Ends.{endIn, endedFit, endBlocks}
 use Rattle.blocks.specs.Streams.{Piece, datum, size, byte, Stream, bytePieces, stopped, with, told}
 use Rattle.blocks.specs.Joins.{joined}
 use Rattle.blocks.specs.Runs.{goesOn, Run, ends, refuses, rests, answers, concat, AllBytes}
-use Rattle.blocks.specs.Inner.Futures.{streamSlots, futureIn, future}
-use Rattle.blocks.proofs.Ons.{from, future-from, On, Still, Ready, LongReady, Left, open-left, long-left, Leaves, open-on}
-use Rattle.blocks.proofs.Ons.{open-leaves}
+use Rattle.blocks.specs.Inner.Futures.{streamSlots, future}
+use Rattle.blocks.proofs.Ons.{from, future-from, On, Still, Left, open-left, long-left, Leaves, open-on, open-leaves}
 use Rattle.blocks.proofs.Longs.{long-on}
 use Rattle.blocks.proofs.Fits.{null-most, begun-left, left-fit, spent-room, fit-left, fit-room, long-leaves}
 use Rattle.blocks.proofs.Finals.{end-open, end-long}

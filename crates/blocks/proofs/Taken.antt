@@ -1,42 +1,38 @@
 -- The bytes taken are the bytes used; and what the calls leave stays fit. Assumes nothing.
-use Prim.Native.Nat.{ℕ, _+_, _-_, _≤_, _<_}
+use Prim.Native.Nat.{ℕ, _+_, _-_, _≤_}
 use mathlib.Core.Path.{_≡_, refl, sym, ap, subst, _∙_}
 use mathlib.Core.Bool.{Bool, true, false, cond, true≢false}
-use mathlib.Core.List.{List, [], _∷_, _++_}
+use mathlib.Core.List.{List, [], _∷_}
 use native.Mathlib.Nat.{add-zero}
 use native.Mathlib.Omega.{arith}
-use borrow.Author.Tests.{le-ltb}
 use lib.ListN.{length, take, drop}
 use lib.Dec.{leb, ltb, eqb}
 use Rattle.wire.specs.declared.refusal.Refusal.{Refusal}
 use Rattle.wire.specs.Outcome.{Outcome, ok, refused, refuse, after, outOf}
-use Rattle.wire.specs.Number.{Bytes}
 use Rattle.wire.specs.Bits.{bytesFor}
 use Rattle.wire.specs.Stored.{stored}
 use Rattle.wire.proofs.Outcomes.{after-is-ok, by-test, same-ok, same-refused, ok-not-refused}
 use Rattle.wire.proofs.Stores.{stored-none}
 use Rattle.value.specs.declared.shape.Shape.{Shape}
-use Rattle.value.specs.Data.{Datum}
 use Rattle.value.specs.Shapes.{decode, fault}
 use Rattle.value.specs.Reading.{judged, placed}
 use Rattle.record.specs.Records.{countOf}
 use Rattle.image.specs.declared.cursor.Head.{Head}
 use Rattle.image.specs.Present.{countBits}
 use Rattle.image.specs.Split.{Slot, slotsAt}
-use Rattle.image.specs.Room.{imageRoom}
-use Rattle.image.proofs.CursorLaws.Heads.{Over, nullBytes, head-is}
+use Rattle.image.proofs.CursorLaws.Heads.{Over, nullBytes}
 use Rattle.blocks.specs.declared.state.Phase.{Phase}
 use Rattle.blocks.specs.declared.state.Phase.the-variants.{Open, Long, Closed}
 use Rattle.blocks.specs.declared.state.Arriving.{Arriving}
-use Rattle.blocks.specs.States.{opened, longed, begun, Arrived, more, null, value, long, part, end, BlockGiven}
+use Rattle.blocks.specs.States.{opened, longed, Arrived, more, null, value, long, part, end}
 use Rattle.blocks.specs.Turns.{TurnSaid, wait, long as long₁, whole, turnOf}
 use Rattle.blocks.specs.Fits.{isFit}
 use Rattle.blocks.specs.Gives.{Handed, byTurn, giveOver, atHand, giveOpen, giveLong, giveIn, givenFit, headCarry, giveBlock, commit}
 use Rattle.blocks.specs.Gives.{usedTo, parted}
 use Rattle.blocks.specs.Ends.{endOver, endIn, endedFit, endBlocks}
-use Rattle.blocks.specs.Streams.{Stream, stopped, told}
+use Rattle.blocks.specs.Streams.{Stream, told}
 use Rattle.blocks.specs.Runs.{goesOn, Run, ends, refuses, rests, answers, Came, begins, gives}
-use Rattle.blocks.proofs.Ons.{Left, open-left, long-left, Leaves}
+use Rattle.blocks.proofs.Ons.{Left, open-left, long-left}
 use Rattle.blocks.proofs.Fits.{begun-left, left-fit, spent-room, fit-left, fit-room}
 use Rattle.blocks.proofs.Fitting.{carry-tested}
 use Rattle.blocks.proofs.Runs.{give-is, give-leaves, end-is}

@@ -9,7 +9,7 @@ use borrow.Author.Tests.{lt-ltb}
 use lib.ListN.{length}
 use Rattle.wire.specs.declared.refusal.Refusal.{Refusal}
 use Rattle.wire.specs.Outcome.{Outcome, ok, refused, refuse}
-use Rattle.wire.specs.Number.{Bytes}
+use Rattle.wire.specs.Number.{areBytes, Bytes}
 use Rattle.wire.proofs.Inverse.{are-bytes, bytes-append}
 use Rattle.wire.proofs.Outcomes.{ok-not-refused, same-refused}
 use Rattle.image.specs.Present.{present}
@@ -36,6 +36,7 @@ over : {r p : List ℕ} → Under r p → Over r p
 over u = record { valid = u .valid; bits = u .bits }
 
 all-bytes : (bs : List (List ℕ)) → AllBytes bs → Bytes (concat bs)
+unfolding areBytes
 all-bytes [] h = are-bytes [] refl
 all-bytes (b ∷ bs) h = bytes-append b (concat bs) (h .0) (all-bytes bs (h .1))
 

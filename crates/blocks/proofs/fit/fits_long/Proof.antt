@@ -1,5 +1,5 @@
 use Rattle.image.proofs.PresenceLaws.Firsts.{count-at-most}
-use Prim.Native.Nat.{_-_, _≤_}
+use Prim.Native.Nat.{_-_}
 use mathlib.Core.Path.{_≡_, sym, ap, _∙_}
 use native.Mathlib.Omega.{arith}
 use Rattle.blocks.specs.Inner.Hands.{turnTold}

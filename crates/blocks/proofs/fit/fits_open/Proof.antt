@@ -1,5 +1,4 @@
 use Rattle.image.proofs.PresenceLaws.Firsts.{count-at-most}
-use Prim.Native.Nat.{_≤_}
 use mathlib.Core.Path.{_≡_, sym, ap}
 use native.Mathlib.Omega.{arith}
 use Rattle.blocks.specs.Inner.Hands.{turnTold}

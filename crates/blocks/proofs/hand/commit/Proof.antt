@@ -1,4 +1,4 @@
-use mathlib.Core.Path.{refl, _∙_}
+use mathlib.Core.Path.{refl}
 use native.Mathlib.Omega.{arith}
 use Rattle.blocks.proofs.Hands.{commit-none, commit-some}
 use borrow.Author.Needs.{needs}

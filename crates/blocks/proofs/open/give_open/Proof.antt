@@ -1,8 +1,4 @@
-use Prim.Native.Nat.{_+_}
-use mathlib.Core.Path.{sym, ap, subst, _∙_}
 use native.Mathlib.Omega.{arith}
-use lib.ListN.{length}
-use Rattle.blocks.specs.States.{more, null, end}
 use Rattle.blocks.proofs.Sitting.{short-fits, not-short, end-used, found-below, value-holds, short-returns, end-returns, null-returns}
 use Rattle.blocks.proofs.Sitting.{value-returns}
 use borrow.Author.Needs.{needs}

@@ -1,12 +1,8 @@
 use Prim.Native.Nat.{_+_}
 use mathlib.Core.Path.{refl, sym, ap, _∙_}
-use mathlib.Core.List.{_++_}
-use lib.ListN.{take, drop}
 use Rattle.value.specs.Columns.{shapeOf}
 use Rattle.value.specs.Reading.{readTold}
 use Rattle.blocks.specs.States.{value}
-use Rattle.blocks.specs.Turns.{whole}
-use Rattle.blocks.specs.Gives.{byTurn}
 use Rattle.blocks.proofs.Values.{open-answer, no-answer, timed-got, timed-not}
 use borrow.Author.Needs.{needs}
 use Rattle.blocks.proofs.open.give_timed.Statement.{statement}

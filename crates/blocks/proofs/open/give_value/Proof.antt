@@ -1,5 +1,5 @@
 use Rattle.value.specs.declared.shape.Shape.{Shape}
-use Rattle.value.specs.Shapes.{fault}
+use Rattle.value.specs.Shapes.{fault, prefix}
 use Prim.Native.Nat.{ℕ, _+_}
 use mathlib.Core.Path.{_≡_, sym, ap, subst, _∙_}
 use mathlib.Core.List.{List}
@@ -8,7 +8,6 @@ use lib.ListN.{length}
 use Rattle.value.specs.Columns.{shapeOf}
 use Rattle.value.specs.Inner.Shapes.{Sized}
 use Rattle.value.proofs.Tables.{sized}
-use Rattle.value.specs.Shapes.{prefix}
 use Rattle.blocks.specs.Inner.Hands.{turnTold}
 use Rattle.blocks.specs.States.{more, long}
 use Rattle.blocks.proofs.Turned.{prefix-most}
