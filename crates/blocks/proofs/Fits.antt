@@ -293,7 +293,8 @@ unfolding giveLong
 long-leaves K r p column held left used carry block q =
     let nb = nullBytes r p in
     dite (decLe (length block) 0)
-    (λ (a : length block ≤ 0). let e : length block ≡ 0 = omega arith in rw (eq-eqb (length block) 0 e) (refl, long-left column held left used q))
+    (λ (a : length block ≤ 0).
+    let e : length block ≡ 0 = omega arith in rw (eq-eqb (length block) 0 e) (refl, long-left column held left used q))
     (λ a.
     let e : length block ≡ 0 → ⊥ = λ z. absurd (omega arith) in
     dite (decLe left (length block))

@@ -377,8 +377,8 @@ module _ (K : Type 0) (r p : List ℕ) (column held used : ℕ) (carry block t :
           goes ∙ rw (e, o),
           λ (s : List ℕ).
               future-from r p nulls column nulls (used + (nulls - held)) c s
-              ∙ from-goes r p (length c - nulls) column (used + (nulls - held) + nulls - nulls) (take nulls c) s (q .among) (omega arith) ∙ rw
-              (z, i),
+              ∙ from-goes r p (length c - nulls) column (used + (nulls - held) + nulls - nulls) (take nulls c) s (q .among) (omega arith)
+              ∙ rw (z, i),
         )
 
     end-left : slotsAt r p y column ≡ [] → leaves (giveOpen r p nulls st carry block)

@@ -32,7 +32,8 @@ use Rattle.blocks.specs.declared.state.Arriving.{Arriving}
 use Rattle.blocks.specs.States.{begun, closed, BlockGiven, endedOf}
 use Rattle.blocks.specs.Turns.{TurnSaid, wait, long as long₁, whole, tooLong, turnOf}
 use Rattle.blocks.specs.Fits.{isFit}
-use Rattle.blocks.specs.Gives.{Handed, commit, byTurn, atHand, giveOver, giveOpen, giveLong, giveIn, givenFit, giveBlock, headCarry, beginBlocks}
+use Rattle.blocks.specs.Gives.{Handed, commit, byTurn, atHand, giveOver, giveOpen, giveLong, giveIn, givenFit, headCarry, giveBlock}
+use Rattle.blocks.specs.Gives.{beginBlocks}
 use Rattle.blocks.specs.Ends.{endBlocks}
 use Rattle.blocks.specs.Streams.{Stream}
 use Rattle.blocks.specs.Joins.{joined}

@@ -1,3 +1,4 @@
+-- `blocks::fit::is_part` meets its contract. Assumes nothing.
 use native.Mathlib.Omega.{arith}
 use borrow.Author.Tests.{lt-ltb, le-ltb}
 use Rattle.blocks.proofs.fit.is_part.Statement.{statement}
