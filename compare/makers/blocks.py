@@ -6,7 +6,7 @@ from document.columns import Column
 from document.record import record as record_of
 
 from .columns import parted, some_column
-from .rows import PRESENCES, RECORDS, Row, rule_records, some_columns, some_head, some_image
+from .rows import PRESENCES, RECORDS, Row, some_columns, some_head, some_image
 from .some import MOST_ROOM, chance, cuts, line, maker, some_bytes
 from .wide import MOST, TURNS, table
 
@@ -53,8 +53,7 @@ def rule_worked():
     # each pair of columns and each column alone, absent ones between them
     for presence in range(8):
         for nulls in range(8):
-            for ops in ([bytes([nulls]) + IMAGE[1:]], byte_by_byte(bytes([nulls]) + IMAGE[1:])):
-                yield blocks_line(RECORD, bytes([presence]), [*ops, END])
+            yield blocks_line(RECORD, bytes([presence]), [*byte_by_byte(bytes([nulls]) + IMAGE[1:]), END])
 
 
 def rule_tests():
@@ -85,17 +84,22 @@ def rule_nulls():
         for null in ((), (n - 1,), range(n), range(n - 1), range(0, n, 2), range(1, n, 2)):
             bits = sum(1 << place for place in null)
             image = bits.to_bytes(bytes_for(n), "little") + b"\x05" * (n - len(null))
-            for ops in ([image], byte_by_byte(image), in_blocks(image, 2), [image[:bytes_for(n)], b"", image[bytes_for(n):]], [image[:-1]], [image[:1]]):
+            for ops in (in_blocks(image, 2), [image[:bytes_for(n)], b"", image[bytes_for(n):]], [image[:-1]], [image[:1]]):
                 yield blocks_line(record, presence, [*ops, END])
                 yield blocks_line(record, presence, ops)
+    # null bits that are not whole are told at 0, whichever column is the first
+    for n, presence in ((3, b"\x06"), (8, b"\x80"), (17, b"\xfe\xff\x01"), (17, b"\x00\xff\x01")):
+        record = record_of([(TINY, 10, 0)] * n)
+        for ops in ([], [b""], [b"\x00"], [b"\xff"], [b"\xff", b"\x00"]):
+            yield blocks_line(record, presence, [*ops, END])
 
 
 def rule_refusals():
     """a part out of range comes with the value's last byte, whether this is there or not"""
-    for column, stored in parted((0, 2, 6), 1, 1):
+    for column, stored in parted((0, 2), 1, 1):
         record = record_of([(Column(252, 1, 0), 8, 0), (TINY, 8, 0), (column, 8, 0), (TINY, 8, 0)])
         image = b"\xf8\x05" + stored + b"\x06"
-        for ops in ([image], [image[:-2], image[-2:]], byte_by_byte(image), [image[:-2]], [image[:3], image[3:-2], b"", image[-2:-1]]):
+        for ops in ([image[:-2], image[-2:]], byte_by_byte(image), [image[:-2]]):
             yield blocks_line(record, b"\x0e", [*ops, END])
 
 
@@ -104,7 +108,7 @@ class Long:
 
     def __init__(self, k, present, over, carry, last=False):
         columns = [TINY] * present
-        columns[-last] = Column(252, k, 0)
+        columns[-1 if last else 0] = Column(252, k, 0)
         self.record, self.presence, self.carry = record_of((column, 10, 0) for column in columns), b"\xff" * bytes_for(present), carry
         self.nulls = bytes(bytes_for(present))
         size = carry - len(self.nulls) - k + over
@@ -121,7 +125,7 @@ class Long:
 def rule_long():
     """values of one byte less than there is room, of as many and of one more: whole, cut around the length bytes and around the end, ended early"""
     for k in (2, 3, 4):
-        for present in (1, 8, 9, 100):
+        for present in (1, 9, 100):
             for over in (-1, 0, 1):
                 given = Long(k, present, over, LEAST_CARRY + (k == 3), last=k == 4)
                 s, at = given.image, given.start
@@ -160,7 +164,6 @@ def rule_wide():
 def blocks_rules(rng):
     for rules in (rule_worked, rule_tests, rule_calls, rule_nulls, rule_refusals, rule_long, rule_wide):
         yield from rules()
-    yield from (blocks_line(record, b"\xff", [b"\xfe\x05", END]) for record in rule_records())
 
 
 # ---- edges
