@@ -1,4 +1,4 @@
-"""The images of the lists as they arrive: each in one block, byte by byte and cut at places drawn at random, and cut in two at every place, if they are not too many."""
+"""The images of the lists as they arrive: each in one block, byte by byte, cut at random, and cut in two at every place or, if it is long, at some."""
 import random
 
 from program import answers

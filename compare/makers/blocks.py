@@ -70,8 +70,9 @@ def rule_calls():
     """calls behind the end of input, behind a refusal, and behind the image's end"""
     good, bad = IMAGE, b"\xfe\x20\x1e\xff"
     dates = record_of([(DATE, 10, 0)])
-    for record, presence, ops in ((RECORD, b"\x07", [good]), (RECORD, b"\x07", [good[:3]]), (RECORD, b"\x07", []), (RECORD, b"\x00", []), (dates, b"\x01", [bad]),
-                                  (dates, b"\x01", [bad[:3], bad[3:]]), (dates, b"\x01", [b"\xff"]), (record_of([]), b"", [])):
+    starts = ((RECORD, b"\x07", [good]), (RECORD, b"\x07", [good[:3]]), (RECORD, b"\x07", []), (RECORD, b"\x00", []), (dates, b"\x01", [bad]),
+              (dates, b"\x01", [bad[:3], bad[3:]]), (dates, b"\x01", [b"\xff"]), (record_of([]), b"", []))
+    for record, presence, ops in starts:
         for behind in ([], [END], [END, END], [b""], [b"", b"", END], [b"\x07", END], [END, b"\x07"], [END, b"", END], [good, END, good]):
             if ops or behind:
                 yield blocks_line(record, presence, [*ops, *behind])
@@ -184,8 +185,9 @@ def blocks_edges(rng):
 
 # ---- at random
 def some_carry(rng):
-    return rng.choice((LEAST_CARRY, LEAST_CARRY, LEAST_CARRY, LEAST_CARRY + 1, LEAST_CARRY + rng.randrange(300), 4096)) if not chance(rng, 20) else rng.choice(
-        (0, LEAST_CARRY - 1, 20000, MOST_ROOM + 1))
+    if chance(rng, 20):
+        return rng.choice((0, LEAST_CARRY - 1, 20000, MOST_ROOM + 1))
+    return rng.choice((LEAST_CARRY, LEAST_CARRY, LEAST_CARRY, LEAST_CARRY + 1, LEAST_CARRY + rng.randrange(300), 4096))
 
 
 def long_row(rng):
