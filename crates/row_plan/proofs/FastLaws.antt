@@ -30,6 +30,7 @@ use Rattle.value.specs.declared.shape.Shape.the-variants.{Unsigned, Signed, Yea
 use Rattle.value.specs.declared.datum.Value.{Value}
 use Rattle.value.specs.declared.datum.Value.the-variants.{Year}
 use Rattle.value.specs.Columns.{isTaken}
+use Rattle.value.specs.Years.{yearOf}
 use Rattle.value.specs.Ops.{shapeFor}
 use Rattle.value.specs.Shapes.{need, decode, fault}
 use Rattle.value.specs.Reading.{readValue, placed}
@@ -70,13 +71,12 @@ module _ (s : List ℕ) (at : ℕ) (d d′ : List ℕ) (to : ℕ) where
   took-signed k x z l h e =
       took-some (Signed k) s at d d′ to k (oneListed 2 x) z l (λ by p. sym (signed-got k by p s at x (omega arith) z e))
 
-  pub took-year : (x : ℕ) → at + 8 ≤ length s → x ≡ leValue (take 1 (drop at s)) → d′ ≡ stored (oneListed 7 (1900 + x)) d to
+  pub took-year : (x y : ℕ) → at + 8 ≤ length s → x ≡ leValue (take 1 (drop at s)) → y ≡ yearOf x → d′ ≡ stored (oneListed 7 y) d to
       → Took YearByte s at d d′ to 1
   unfolding isTaken need decode fault placed valueNumbers
-  took-year x h e =
-      took-some YearByte s at d d′ to 1 (oneListed 7 (1900 + x)) (omega arith) (omega arith)
-      (λ by p. sym (ap (numbered by) (got YearByte p s at 1 (Year (1900 + x)) (at + 1) refl refl (omega arith) refl (ap (λ (n : ℕ). Year
-      (1900 + n)) e) refl)))
+  took-year x y h e ey =
+      took-some YearByte s at d d′ to 1 (oneListed 7 y) (omega arith) (omega arith)
+      (λ by p. sym (ap (numbered by) (got YearByte p s at 1 (Year y) (at + 1) refl refl (omega arith) refl (ap Year (ey ∙ ap yearOf e)) refl)))
 
 -- ---- temporals: whole part and fraction are at hand, and no part is out of range
 timed-got : (k : Storage) (p : ℕ) (s : List ℕ) (at a f : ℕ) → at + temporalSize k ≤ length s

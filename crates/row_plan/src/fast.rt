@@ -21,6 +21,7 @@ ghost use Rattle.temporal.specs.declared.storage.Storage.the-variants.{Newdate,
 ghost use Rattle.temporal.specs.Fraction.{fractionBytes, unitOf};
 ghost use Rattle.temporal.specs.Ranges.{inClock};
 ghost use Rattle.value.specs.declared.shape.Shape.the-variants.{Unsigned, Signed, YearByte, Timed};
+ghost use Rattle.value.specs.Years.{yearOf};
 ghost use Rattle.value.specs.Ops.{shapeFor};
 ghost use Rattle.row_plan.specs.Inner.Fast.{Took};
 
@@ -41,11 +42,22 @@ fn take_signed(k: usize, s: &[u8], at: usize, out: &mut [u64], to: usize) -> usi
     k
 }
 
+// The year that a byte says: `value` has the same for its own readers.
+fn year_of(byte: u64) -> u64
+    requires { ⌜ byte < 256 ⌝ }
+    ensures { λ r. ⌜ r ≡ yearOf byte ⌝ }
+{
+    if byte == 0 {
+        return 0;
+    }
+    1900 + byte
+}
+
 fn take_year(s: &[u8], at: usize, out: &mut [u64], to: usize) -> usize
     requires { ⌜ (at + 8 ≤ length (now s)) × (to + 8 ≤ length (now out)) ⌝ }
     ensures { λ r. ⌜ Took YearByte (now (s .entry)) at (now (out .entry)) (now (out .exit)) to r ⌝ }
 {
-    put(one(YEAR, 1900 + low(1, s, at)), out, to);
+    put(one(YEAR, year_of(low(1, s, at))), out, to);
     1
 }
 
