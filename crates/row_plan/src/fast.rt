@@ -1,12 +1,12 @@
 // Integers and temporals read fast, where eight bytes stand from a value's start on: each reader judges the parts and then stores the eight
 // numbers itself. What it does not take it leaves, with no byte taken: a value out of its range, and every other op. Then the value is read
-// as everywhere, which tells the refusal. An op has an arm of its own, so that all widths in it are constants.
+// as everywhere, which tells the refusal. Each way to store a value has an arm of its own, so that all widths in it are constants: a reader
+// that makes its width of the digits is compiled once for all, and tests it again.
 use crate::eight::be8;
 use crate::eight::low;
 use crate::numbers::Numbers;
 use crate::numbers::one;
 use crate::run::put;
-use temporal::Storage;
 use value_parts::sort::DATE;
 use value_parts::sort::DATETIME;
 use value_parts::sort::INT;
@@ -18,12 +18,12 @@ ghost use mathlib.Core.Path.{_≡_};
 ghost use Prim.Native.Nat.{_+_, _-_, _*_, _/_, _≤_, _<_, _^_};
 ghost use lib.ListN.{length};
 ghost use Rattle.temporal.specs.declared.storage.Storage.the-variants.{Newdate, Timestamp2, Datetime2, Time2};
-ghost use Rattle.temporal.specs.Fraction.{fractionBytes, unitOf};
+ghost use Rattle.temporal.specs.Fraction.{unitOf};
 ghost use Rattle.temporal.specs.Ranges.{inClock};
 ghost use Rattle.value.specs.declared.shape.Shape.the-variants.{Unsigned, Signed, YearByte, Timed};
 ghost use Rattle.value.specs.Years.{yearOf};
 ghost use Rattle.value.specs.Ops.{shapeFor};
-ghost use Rattle.row_plan.specs.Inner.Fast.{Took};
+ghost use Rattle.row_plan.specs.Inner.Fast.{Took, TookTimed};
 
 fn take_unsigned(k: usize, s: &[u8], at: usize, out: &mut [u64], to: usize) -> usize
     requires { ⌜ (0 < k) × (k ≤ 8) × (at + 8 ≤ length (now s)) × (to + 8 ≤ length (now out)) ⌝ }
@@ -89,13 +89,6 @@ fn take_date(s: &[u8], at: usize, out: &mut [u64], to: usize) -> usize
     3
 }
 
-// How many bytes the fraction takes of a column that declares m0 digits.
-fn width(m0: u8) -> usize
-    ensures { λ r. ⌜ (r ≡ fractionBytes m0) × (r ≤ 3) ⌝ }
-{
-    temporal::temporal_size(Storage::Time2 { m0 }) - 3
-}
-
 // The microseconds of a fraction of w bytes, the first of the three that n is.
 fn micros(w: usize, n: u64) -> u64
     requires { ⌜ (w ≤ 3) × (n < 256 ^ 3) ⌝ }
@@ -137,11 +130,10 @@ fn is_clock(top: u64, h: u64, m: u64, s: u64, u: u64) -> bool
     u <= 999_999
 }
 
-fn take_seconds(m0: u8, s: &[u8], at: usize, out: &mut [u64], to: usize) -> usize
-    requires { ⌜ (at + 8 ≤ length (now s)) × (to + 8 ≤ length (now out)) ⌝ }
-    ensures { λ r. ⌜ Took (Timed (Timestamp2 m0)) (now (s .entry)) at (now (out .entry)) (now (out .exit)) to r ⌝ }
+fn take_seconds(w: usize, s: &[u8], at: usize, out: &mut [u64], to: usize) -> usize
+    requires { ⌜ (w ≤ 3) × (at + 8 ≤ length (now s)) × (to + 8 ≤ length (now out)) ⌝ }
+    ensures { λ r. ⌜ TookTimed Timestamp2 w (now (s .entry)) at (now (out .entry)) (now (out .exit)) to r ⌝ }
 {
-    let w = width(m0);
     let x = be8(s, at);
     let usec = micros(w, x / 0x100 % 0x100_0000);
     if 999_999 < usec {
@@ -166,11 +158,10 @@ const DATETIME_OFS: u64 = 1 << 39;
 
 const TIME_OFS: u64 = 1 << 47;
 
-fn take_datetime(m0: u8, s: &[u8], at: usize, out: &mut [u64], to: usize) -> usize
-    requires { ⌜ (at + 8 ≤ length (now s)) × (to + 8 ≤ length (now out)) ⌝ }
-    ensures { λ r. ⌜ Took (Timed (Datetime2 m0)) (now (s .entry)) at (now (out .entry)) (now (out .exit)) to r ⌝ }
+fn take_datetime(w: usize, s: &[u8], at: usize, out: &mut [u64], to: usize) -> usize
+    requires { ⌜ (w ≤ 3) × (at + 8 ≤ length (now s)) × (to + 8 ≤ length (now out)) ⌝ }
+    ensures { λ r. ⌜ TookTimed Datetime2 w (now (s .entry)) at (now (out .entry)) (now (out .exit)) to r ⌝ }
 {
-    let w = width(m0);
     let x = be8(s, at);
     let whole = x / 0x100_0000;
     if whole < DATETIME_OFS {
@@ -212,11 +203,10 @@ fn apart(a: u64, b: u64) -> u64
 }
 
 // Whole part and fraction are one number of six bytes, less its offset: what is behind the fraction counts as zero.
-fn take_time(m0: u8, s: &[u8], at: usize, out: &mut [u64], to: usize) -> usize
-    requires { ⌜ (at + 8 ≤ length (now s)) × (to + 8 ≤ length (now out)) ⌝ }
-    ensures { λ r. ⌜ Took (Timed (Time2 m0)) (now (s .entry)) at (now (out .entry)) (now (out .exit)) to r ⌝ }
+fn take_time(w: usize, s: &[u8], at: usize, out: &mut [u64], to: usize) -> usize
+    requires { ⌜ (w ≤ 3) × (at + 8 ≤ length (now s)) × (to + 8 ≤ length (now out)) ⌝ }
+    ensures { λ r. ⌜ TookTimed Time2 w (now (s .entry)) at (now (out .entry)) (now (out .exit)) to r ⌝ }
 {
-    let w = width(m0);
     let packed = kept(w, be8(s, at) / 0x1_0000);
     let off = apart(packed, TIME_OFS);
     let n = off / 0x100_0000;
@@ -260,25 +250,25 @@ pub(crate) fn take_op(op: u8, s: &[u8], at: usize, out: &mut [u64], to: usize) -
         24 => take_date(s, at, out, to),
         25 => take_seconds(0, s, at, out, to),
         26 => take_seconds(1, s, at, out, to),
-        27 => take_seconds(2, s, at, out, to),
-        28 => take_seconds(3, s, at, out, to),
-        29 => take_seconds(4, s, at, out, to),
-        30 => take_seconds(5, s, at, out, to),
-        31 => take_seconds(6, s, at, out, to),
+        27 => take_seconds(1, s, at, out, to),
+        28 => take_seconds(2, s, at, out, to),
+        29 => take_seconds(2, s, at, out, to),
+        30 => take_seconds(3, s, at, out, to),
+        31 => take_seconds(3, s, at, out, to),
         32 => take_datetime(0, s, at, out, to),
         33 => take_datetime(1, s, at, out, to),
-        34 => take_datetime(2, s, at, out, to),
-        35 => take_datetime(3, s, at, out, to),
-        36 => take_datetime(4, s, at, out, to),
-        37 => take_datetime(5, s, at, out, to),
-        38 => take_datetime(6, s, at, out, to),
+        34 => take_datetime(1, s, at, out, to),
+        35 => take_datetime(2, s, at, out, to),
+        36 => take_datetime(2, s, at, out, to),
+        37 => take_datetime(3, s, at, out, to),
+        38 => take_datetime(3, s, at, out, to),
         39 => take_time(0, s, at, out, to),
         40 => take_time(1, s, at, out, to),
-        41 => take_time(2, s, at, out, to),
-        42 => take_time(3, s, at, out, to),
-        43 => take_time(4, s, at, out, to),
-        44 => take_time(5, s, at, out, to),
-        45 => take_time(6, s, at, out, to),
+        41 => take_time(1, s, at, out, to),
+        42 => take_time(2, s, at, out, to),
+        43 => take_time(2, s, at, out, to),
+        44 => take_time(3, s, at, out, to),
+        45 => take_time(3, s, at, out, to),
         _ => 0,
     }
 }

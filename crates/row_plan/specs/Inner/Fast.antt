@@ -4,7 +4,10 @@ use mathlib.Core.Path.{_≡_}
 use mathlib.Core.List.{List}
 use Rattle.wire.specs.Outcome.{Outcome, ok}
 use Rattle.wire.specs.Stored.{stored}
+use Rattle.temporal.specs.declared.storage.Storage.{Storage}
+use Rattle.temporal.specs.Fraction.{fractionBytes}
 use Rattle.value.specs.declared.shape.Shape.{Shape}
+use Rattle.value.specs.declared.shape.Shape.the-variants.{Timed}
 use Rattle.value.specs.Reading.{readValue}
 use Rattle.row_plan.specs.Inner.Numbers.{numbered, itemNumbers}
 
@@ -19,6 +22,10 @@ pub record Took (sh : Shape) (s : List ℕ) (at : ℕ) (buf exit : List ℕ) (to
   pub few : n ≤ 8
   pub left : n ≡ 0 → exit ≡ buf
   pub taken : (n ≡ 0 → ⊥) → Taken (λ by p. numbered by (readValue sh p s at)) (at + n) buf exit to
+
+-- the same of a temporal whose fraction has w bytes, however many digits its column declares
+abbrev pub TookTimed : (ℕ → Storage) → ℕ → List ℕ → ℕ → List ℕ → List ℕ → ℕ → ℕ → Type 0
+TookTimed kind w s at buf exit to n = (m0 : ℕ) → w ≡ fractionBytes m0 → Took (Timed (kind m0)) s at buf exit to n
 
 -- the same of an item of a plan; n is one more, since NULL takes no byte
 pub record TookItem (plan image : List ℕ) (item offset : ℕ) (buf exit : List ℕ) (to n : ℕ) : Type 0 where

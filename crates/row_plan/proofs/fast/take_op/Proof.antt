@@ -1,4 +1,6 @@
 -- `row_plan::fast::take_op` meets its contract. Assumes nothing.
+use mathlib.Core.Path.{refl}
+use Rattle.temporal.specs.Fraction.{fractionBytes}
 use Rattle.value.specs.Ops.{shapeFor}
 use Rattle.row_plan.proofs.FastLaws.{took-none, at-op}
 use borrow.Author.Needs.{needs}
@@ -201,148 +203,148 @@ same-length-13 : tie.Need-same-length-13
 same-length-13 c = search needs
 
 returns-13 : tie.Need-returns-13
-unfolding shapeFor
-returns-13 c = at-op _ _ _ _ _ _ (c .before .before .before .before .match .keys13) (c .before .before .take-seconds .ensures)
+unfolding shapeFor fractionBytes
+returns-13 c = at-op _ _ _ _ _ _ (c .before .before .before .before .match .keys13) (c .before .before .take-seconds .ensures 0 refl)
 
 same-length-14 : tie.Need-same-length-14
 same-length-14 c = search needs
 
 returns-14 : tie.Need-returns-14
-unfolding shapeFor
-returns-14 c = at-op _ _ _ _ _ _ (c .before .before .before .before .match .keys14) (c .before .before .take-seconds2 .ensures)
+unfolding shapeFor fractionBytes
+returns-14 c = at-op _ _ _ _ _ _ (c .before .before .before .before .match .keys14) (c .before .before .take-seconds2 .ensures 1 refl)
 
 same-length-15 : tie.Need-same-length-15
 same-length-15 c = search needs
 
 returns-15 : tie.Need-returns-15
-unfolding shapeFor
-returns-15 c = at-op _ _ _ _ _ _ (c .before .before .before .before .match .keys15) (c .before .before .take-seconds3 .ensures)
+unfolding shapeFor fractionBytes
+returns-15 c = at-op _ _ _ _ _ _ (c .before .before .before .before .match .keys15) (c .before .before .take-seconds3 .ensures 2 refl)
 
 same-length-16 : tie.Need-same-length-16
 same-length-16 c = search needs
 
 returns-16 : tie.Need-returns-16
-unfolding shapeFor
-returns-16 c = at-op _ _ _ _ _ _ (c .before .before .before .before .match .keys16) (c .before .before .take-seconds4 .ensures)
+unfolding shapeFor fractionBytes
+returns-16 c = at-op _ _ _ _ _ _ (c .before .before .before .before .match .keys16) (c .before .before .take-seconds4 .ensures 3 refl)
 
 same-length-17 : tie.Need-same-length-17
 same-length-17 c = search needs
 
 returns-17 : tie.Need-returns-17
-unfolding shapeFor
-returns-17 c = at-op _ _ _ _ _ _ (c .before .before .before .before .match .keys17) (c .before .before .take-seconds5 .ensures)
+unfolding shapeFor fractionBytes
+returns-17 c = at-op _ _ _ _ _ _ (c .before .before .before .before .match .keys17) (c .before .before .take-seconds5 .ensures 4 refl)
 
 same-length-18 : tie.Need-same-length-18
 same-length-18 c = search needs
 
 returns-18 : tie.Need-returns-18
-unfolding shapeFor
-returns-18 c = at-op _ _ _ _ _ _ (c .before .before .before .before .match .keys18) (c .before .before .take-seconds6 .ensures)
+unfolding shapeFor fractionBytes
+returns-18 c = at-op _ _ _ _ _ _ (c .before .before .before .before .match .keys18) (c .before .before .take-seconds6 .ensures 5 refl)
 
 same-length-19 : tie.Need-same-length-19
 same-length-19 c = search needs
 
 returns-19 : tie.Need-returns-19
-unfolding shapeFor
-returns-19 c = at-op _ _ _ _ _ _ (c .before .before .before .before .match .keys19) (c .before .before .take-seconds7 .ensures)
+unfolding shapeFor fractionBytes
+returns-19 c = at-op _ _ _ _ _ _ (c .before .before .before .before .match .keys19) (c .before .before .take-seconds7 .ensures 6 refl)
 
 same-length-20 : tie.Need-same-length-20
 same-length-20 c = search needs
 
 returns-20 : tie.Need-returns-20
-unfolding shapeFor
-returns-20 c = at-op _ _ _ _ _ _ (c .before .before .before .before .match .keys20) (c .before .before .take-datetime .ensures)
+unfolding shapeFor fractionBytes
+returns-20 c = at-op _ _ _ _ _ _ (c .before .before .before .before .match .keys20) (c .before .before .take-datetime .ensures 0 refl)
 
 same-length-21 : tie.Need-same-length-21
 same-length-21 c = search needs
 
 returns-21 : tie.Need-returns-21
-unfolding shapeFor
-returns-21 c = at-op _ _ _ _ _ _ (c .before .before .before .before .match .keys21) (c .before .before .take-datetime2 .ensures)
+unfolding shapeFor fractionBytes
+returns-21 c = at-op _ _ _ _ _ _ (c .before .before .before .before .match .keys21) (c .before .before .take-datetime2 .ensures 1 refl)
 
 same-length-22 : tie.Need-same-length-22
 same-length-22 c = search needs
 
 returns-22 : tie.Need-returns-22
-unfolding shapeFor
-returns-22 c = at-op _ _ _ _ _ _ (c .before .before .before .before .match .keys22) (c .before .before .take-datetime3 .ensures)
+unfolding shapeFor fractionBytes
+returns-22 c = at-op _ _ _ _ _ _ (c .before .before .before .before .match .keys22) (c .before .before .take-datetime3 .ensures 2 refl)
 
 same-length-23 : tie.Need-same-length-23
 same-length-23 c = search needs
 
 returns-23 : tie.Need-returns-23
-unfolding shapeFor
-returns-23 c = at-op _ _ _ _ _ _ (c .before .before .before .before .match .keys23) (c .before .before .take-datetime4 .ensures)
+unfolding shapeFor fractionBytes
+returns-23 c = at-op _ _ _ _ _ _ (c .before .before .before .before .match .keys23) (c .before .before .take-datetime4 .ensures 3 refl)
 
 same-length-24 : tie.Need-same-length-24
 same-length-24 c = search needs
 
 returns-24 : tie.Need-returns-24
-unfolding shapeFor
-returns-24 c = at-op _ _ _ _ _ _ (c .before .before .before .before .match .keys24) (c .before .before .take-datetime5 .ensures)
+unfolding shapeFor fractionBytes
+returns-24 c = at-op _ _ _ _ _ _ (c .before .before .before .before .match .keys24) (c .before .before .take-datetime5 .ensures 4 refl)
 
 same-length-25 : tie.Need-same-length-25
 same-length-25 c = search needs
 
 returns-25 : tie.Need-returns-25
-unfolding shapeFor
-returns-25 c = at-op _ _ _ _ _ _ (c .before .before .before .before .match .keys25) (c .before .before .take-datetime6 .ensures)
+unfolding shapeFor fractionBytes
+returns-25 c = at-op _ _ _ _ _ _ (c .before .before .before .before .match .keys25) (c .before .before .take-datetime6 .ensures 5 refl)
 
 same-length-26 : tie.Need-same-length-26
 same-length-26 c = search needs
 
 returns-26 : tie.Need-returns-26
-unfolding shapeFor
-returns-26 c = at-op _ _ _ _ _ _ (c .before .before .before .before .match .keys26) (c .before .before .take-datetime7 .ensures)
+unfolding shapeFor fractionBytes
+returns-26 c = at-op _ _ _ _ _ _ (c .before .before .before .before .match .keys26) (c .before .before .take-datetime7 .ensures 6 refl)
 
 same-length-27 : tie.Need-same-length-27
 same-length-27 c = search needs
 
 returns-27 : tie.Need-returns-27
-unfolding shapeFor
-returns-27 c = at-op _ _ _ _ _ _ (c .before .before .before .before .match .keys27) (c .before .before .take-time .ensures)
+unfolding shapeFor fractionBytes
+returns-27 c = at-op _ _ _ _ _ _ (c .before .before .before .before .match .keys27) (c .before .before .take-time .ensures 0 refl)
 
 same-length-28 : tie.Need-same-length-28
 same-length-28 c = search needs
 
 returns-28 : tie.Need-returns-28
-unfolding shapeFor
-returns-28 c = at-op _ _ _ _ _ _ (c .before .before .before .before .match .keys28) (c .before .before .take-time2 .ensures)
+unfolding shapeFor fractionBytes
+returns-28 c = at-op _ _ _ _ _ _ (c .before .before .before .before .match .keys28) (c .before .before .take-time2 .ensures 1 refl)
 
 same-length-29 : tie.Need-same-length-29
 same-length-29 c = search needs
 
 returns-29 : tie.Need-returns-29
-unfolding shapeFor
-returns-29 c = at-op _ _ _ _ _ _ (c .before .before .before .before .match .keys29) (c .before .before .take-time3 .ensures)
+unfolding shapeFor fractionBytes
+returns-29 c = at-op _ _ _ _ _ _ (c .before .before .before .before .match .keys29) (c .before .before .take-time3 .ensures 2 refl)
 
 same-length-30 : tie.Need-same-length-30
 same-length-30 c = search needs
 
 returns-30 : tie.Need-returns-30
-unfolding shapeFor
-returns-30 c = at-op _ _ _ _ _ _ (c .before .before .before .before .match .keys30) (c .before .before .take-time4 .ensures)
+unfolding shapeFor fractionBytes
+returns-30 c = at-op _ _ _ _ _ _ (c .before .before .before .before .match .keys30) (c .before .before .take-time4 .ensures 3 refl)
 
 same-length-31 : tie.Need-same-length-31
 same-length-31 c = search needs
 
 returns-31 : tie.Need-returns-31
-unfolding shapeFor
-returns-31 c = at-op _ _ _ _ _ _ (c .before .before .before .before .match .keys31) (c .before .before .take-time5 .ensures)
+unfolding shapeFor fractionBytes
+returns-31 c = at-op _ _ _ _ _ _ (c .before .before .before .before .match .keys31) (c .before .before .take-time5 .ensures 4 refl)
 
 same-length-32 : tie.Need-same-length-32
 same-length-32 c = search needs
 
 returns-32 : tie.Need-returns-32
-unfolding shapeFor
-returns-32 c = at-op _ _ _ _ _ _ (c .before .before .before .before .match .keys32) (c .before .before .take-time6 .ensures)
+unfolding shapeFor fractionBytes
+returns-32 c = at-op _ _ _ _ _ _ (c .before .before .before .before .match .keys32) (c .before .before .take-time6 .ensures 5 refl)
 
 same-length-33 : tie.Need-same-length-33
 same-length-33 c = search needs
 
 returns-33 : tie.Need-returns-33
-unfolding shapeFor
-returns-33 c = at-op _ _ _ _ _ _ (c .before .before .before .before .match .keys33) (c .before .before .take-time7 .ensures)
+unfolding shapeFor fractionBytes
+returns-33 c = at-op _ _ _ _ _ _ (c .before .before .before .before .match .keys33) (c .before .before .take-time7 .ensures 6 refl)
 
 returns-34 : tie.Need-returns-34
 returns-34 c = took-none _ _ _ _ _

@@ -16,11 +16,7 @@ use Rattle.row_plan.proofs.fast.apart.Reads as apart-reads
 use Rattle.row_plan.proofs.fast.is_clock.Reads as is-clock-reads
 use Rattle.row_plan.proofs.fast.kept.Reads as kept-reads
 use Rattle.row_plan.proofs.fast.micros.Reads as micros-reads
-use Rattle.row_plan.proofs.fast.width.Reads as width-reads
 use Rattle.row_plan.proofs.run.put.Reads as put-reads
-
-width-requires : tie.Need-width-requires
-width-requires c κs = search needs
 
 be8-requires : tie.Need-be8-requires
 be8-requires c κs = search needs
@@ -38,10 +34,10 @@ is-clock-requires : tie.Need-is-clock-requires
 is-clock-requires c κs = search needs
 
 returns : tie.Need-returns
-returns c = took-none _ _ _ _ _
+returns c = λ m0 e. took-none _ _ _ _ _
 
-cast-t15 : tie.Need-cast-t15
-cast-t15 c = search needs
+cast-t14 : tie.Need-cast-t14
+cast-t14 c = search needs
 
 put-requires : tie.Need-put-requires
 put-requires c κs = search needs
@@ -53,32 +49,24 @@ same-length : tie.Need-same-length
 same-length c = search needs
 
 returns-2 : tie.Need-returns-2
-returns-2 c = let a = c .before .before .before .before .before .before .before .before .before .before .before .before .before .args in
-    took-time (a .s .now) (λ i. omega (
-      arith,
-      c .before .before .before .before .before .before .before .before .before .before .before
-          .before .shared-slice-known .given i,
-    )) (a .at) (c .before .before .before .before .before .before .before .before .before .before
-    .before .before .before .pre .0) (a .out .now) _ (a .to) (a .m0) _ (c .before .before .before .before .before .before .before
-    .before .before .before .width .ensures) _ (c .before .before .before .before .before .before .before .before .before .be8
-    .ensures .0) _ _ _ _ _ (c .before .before .before .before .before .before .before .before .kept .ensures) (c .before .before
-    .before .before .before .before .before .apart .ensures) refl (c .before .before .before .before .before .before .micros .ensures)
+returns-2 c = λ m0 e. let a = c .before .before .before .before .before .before .before .before .before .before .before .before .args in
+    let q = c .before .before .before .before .before .before .before .before .before .before .before .before .pre in
+    took-time (a .s .now) (λ i. omega (arith, c .before .before .before .before .before .before .before .before .before .before .before .shared-slice-known .given i)) (a .at) (q .1) (a .out .now) _ (a .to) m0 (a .w) (e, q .0) _
+    (c .before .before .before .before .before .before .before .before .before .be8 .ensures .0) _ _ _ _ _ (c .before .before .before .before .before .before .before .before .kept .ensures) (c .before .before .before .before .before .before .before .apart .ensures) refl (c .before .before .before .before .before .before .micros .ensures)
     (sym (c .before .before .before .before .before .is-clock .ensures) ∙ not-false _ (c .before .before .before .before .if1 .left))
-    (as-number (ltb (c .before .before .before .before .before .before .before .before .kept .result) (2 ^ 47))) (c .before .before
-    .put .ensures)
+    (as-number (ltb (c .before .before .before .before .before .before .before .before .kept .result) (2 ^ 47))) (c .before .before .put .ensures)
 
 pub take-time-spec : {M : Type 1} → statement M
 take-time-spec =
     tie.close
     (tie.spec
-    width-requires
     be8-requires
     kept-requires
     apart-requires
     micros-requires
     is-clock-requires
     returns
-    cast-t15
+    cast-t14
     put-requires
     add-result
     same-length
