@@ -329,8 +329,7 @@ impl Side for CrateImages {
 
     fn sum(&self, lent: Lent) -> (u64, Ended) {
         let mut sum = 0u64;
-        let ended =
-            CrateImages::each(lent, |value| sum = sum.wrapping_add(value.sum(lent.images)));
+        let ended = CrateImages::each(lent, |value| sum = sum.wrapping_add(value.sum(lent.images)));
         (sum, ended)
     }
 }

@@ -20,8 +20,8 @@ const BATCH: usize = 256;
 pub struct Images<'a> {
     plan: Arc<Plan>,
     images: &'a [u8],
-    // numbers of the values that were read, and how many of these were given
-    numbers: Vec<u64>,
+    // the values that were read, as numbers, and how many of them were given
+    values: Vec<[u64; NUMBERS]>,
     given: usize,
     // the item of the value to give next
     item: usize,
@@ -30,72 +30,71 @@ pub struct Images<'a> {
     is_over: bool,
 }
 
-impl<'a> Images<'a> {
+impl Images<'_> {
     /// How many values a row has: one for each present column.
     pub fn row_len(&self) -> usize {
         self.plan.columns.len()
     }
 
-    /// Reads on, and tells whether there was a value. A refusal comes only if it is the next value's.
-    fn read_on(&mut self) -> Result<bool, Refusal> {
-        self.given = 0;
-        self.numbers.resize(NUMBERS * BATCH, 0);
-        let ran = abi::run_on(&self.plan.bytes, self.images, self.at, &mut self.numbers);
-        let out = ran.inspect_err(|_| self.numbers.clear())?;
-        self.at = (out[1] as usize, out[2] as usize, out[3] as usize);
-        self.numbers.truncate(NUMBERS * out[0] as usize);
-        // where no column is present an image takes no bytes, and all are left over
-        if out[0] == 0 && self.at.0 != self.images.len() {
-            return Err(Refusal::at(refusal::IMAGE_SHORT, 0));
+    /// Reads on: nothing at the end. A refusal comes only if it is the next value's.
+    fn read_on(&mut self) -> Option<Result<(), Refusal>> {
+        if self.is_over {
+            return None;
         }
-        Ok(out[0] != 0)
+        self.given = 0;
+        self.values.resize(BATCH, [0; NUMBERS]);
+        let room = self.values.as_flattened_mut();
+        match abi::run_on(&self.plan.bytes, self.images, self.at, room) {
+            Ok(out) => {
+                self.at = (out[1] as usize, out[2] as usize, out[3] as usize);
+                self.values.truncate(out[0] as usize);
+            }
+            Err(why) => return Some(Err(self.stop(why))),
+        }
+        if !self.values.is_empty() {
+            return Some(Ok(()));
+        }
+        self.is_over = true;
+        // where no column is present an image takes no bytes, and all are left over
+        let is_left = self.at.0 != self.images.len();
+        is_left.then(|| Err(Refusal::at(refusal::IMAGE_SHORT, 0)))
     }
 
-    /// The next value, which was read.
-    fn give(&mut self) -> Result<(usize, Value<'a>), Refusal> {
-        let column = self.plan.columns[self.item];
-        let at = NUMBERS * self.given;
-        let mut parts = [0; NUMBERS - 1];
-        parts.copy_from_slice(&self.numbers[at + 1..at + NUMBERS]);
-        // the library answers only the kinds that it names, and bytes that lie in the images
-        let value = Value::from_parts(self.numbers[at], parts, self.images)
-            .ok_or(Refusal::at(refusal::IMAGE_SHORT, column as u64))?;
-        self.given += 1;
-        self.item += 1;
-        if self.item == self.plan.columns.len() {
-            self.item = 0;
-        }
-        Ok((column, value))
+    /// Ends the walk, for a refusal.
+    #[cold]
+    fn stop(&mut self, why: Refusal) -> Refusal {
+        self.is_over = true;
+        self.values.clear();
+        self.given = 0;
+        why
     }
 }
 
 impl<'a> Iterator for Images<'a> {
     type Item = Result<(usize, Value<'a>), Refusal>;
 
+    // inlined, so that whoever takes the value apart again finds it in registers
+    #[inline(always)]
     fn next(&mut self) -> Option<Self::Item> {
-        if NUMBERS * self.given == self.numbers.len() {
-            if self.is_over {
-                return None;
-            }
-            match self.read_on() {
-                Ok(true) => {}
-                Ok(false) => {
-                    self.is_over = true;
-                    return None;
-                }
-                Err(why) => {
-                    self.is_over = true;
-                    return Some(Err(why));
-                }
+        if self.given == self.values.len() {
+            if let Err(why) = self.read_on()? {
+                return Some(Err(why));
             }
         }
-        let given = self.give();
-        if given.is_err() {
-            self.is_over = true;
-            self.numbers.clear();
-            self.given = 0;
+        let column = self.plan.columns[self.item];
+        let numbers = &self.values[self.given];
+        self.given += 1;
+        self.item += 1;
+        if self.item == self.plan.columns.len() {
+            self.item = 0;
         }
-        Some(given)
+        // the library answers only the kinds that it names, and bytes that lie in the images
+        match Value::from_numbers(numbers, self.images) {
+            Some(value) => Some(Ok((column, value))),
+            None => Some(Err(
+                self.stop(Refusal::at(refusal::IMAGE_SHORT, column as u64))
+            )),
+        }
     }
 }
 
@@ -113,7 +112,7 @@ impl Record {
         Ok(Images {
             plan,
             images,
-            numbers: Vec::new(),
+            values: Vec::new(),
             given: 0,
             item: 0,
             at: (0, 0, offset),
