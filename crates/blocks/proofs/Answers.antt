@@ -1,8 +1,8 @@
 -- Whatever the state, made up or not: only the end call can refuse with 9; and a closed state is refused, 21 at 0. Assumes nothing.
 use Prim.Native.Nat.{ℕ, _-_, _≤_}
-use mathlib.Core.Path.{_≡_, refl, sym, ap}
+use mathlib.Core.Path.{_≡_, refl}
 use mathlib.Core.Bool.{Bool, true, false, cond, _&&_}
-use mathlib.Core.List.{List, [], _∷_, _++_}
+use mathlib.Core.List.{List, [], _∷_}
 use native.Mathlib.Omega.{arith}
 use borrow.Author.Tests.{le-ltb}
 use lib.ListN.{length, take, drop}
@@ -11,16 +11,14 @@ use Rattle.wire.specs.declared.refusal.Refusal.{Refusal}
 use Rattle.wire.specs.Outcome.{Outcome, ok, refused, refuse, after, why}
 use Rattle.wire.specs.Bits.{bytesFor}
 use Rattle.value.specs.declared.shape.Shape.{Shape}
-use Rattle.value.specs.Data.{Datum}
 use Rattle.value.specs.Shapes.{fault}
 use Rattle.value.specs.Reading.{judged}
 use Rattle.record.specs.Records.{countOf, recordValid, readRecord}
 use Rattle.image.specs.Split.{Slot, slotsAt, headOf}
-use Rattle.image.proofs.CursorLaws.Heads.{Over, nullBytes, head-is}
+use Rattle.image.proofs.CursorLaws.Heads.{Over, head-is}
 use Rattle.blocks.specs.declared.state.Phase.{Phase}
 use Rattle.blocks.specs.declared.state.Phase.the-variants.{Open, Long, Closed}
 use Rattle.blocks.specs.declared.state.Arriving.{Arriving}
-use Rattle.blocks.specs.States.{BlockGiven}
 use Rattle.blocks.specs.Turns.{TurnSaid, wait, long, whole, turnOf}
 use Rattle.blocks.specs.Fits.{isCounted, fitsIn, isFit}
 use Rattle.blocks.specs.Gives.{headCarry, byTurn, giveOver, atHand, giveOpen, giveLong, giveIn, givenFit, giveBlock}

@@ -1,20 +1,19 @@
 -- The end call answers how what is to come ends when nothing comes. Assumes nothing.
-use Prim.Native.Nat.{ℕ, zero, suc, _+_, _*_, _-_, _≤_, _<_}
-use mathlib.Core.Path.{_≡_, refl, sym, ap, subst, _∙_}
-use mathlib.Core.Bool.{Bool, true, false, cond, true≢false}
+use Prim.Native.Nat.{ℕ, suc, _+_, _-_, _≤_, _<_}
+use mathlib.Core.Path.{_≡_, refl, sym, ap, _∙_}
+use mathlib.Core.Bool.{Bool, true, false}
 use mathlib.Core.Logic.{dite}
-use mathlib.Core.List.{List, [], _∷_, _++_, append-nil}
+use mathlib.Core.List.{List, [], _∷_, append-nil}
 use native.Mathlib.Decide.{decLe}
 use native.Mathlib.Omega.{arith}
 use borrow.Author.Tests.{lt-ltb, le-ltb, lt-leb}
-use lib.ListN.{length, take, drop, length-drop, length-append}
+use lib.ListN.{length, take, drop}
 use lib.Seq.{length-take-le, drop-nil, drop-length}
-use Rattle.wire.specs.Outcome.{Outcome, ok, refuse, why}
+use Rattle.wire.specs.Outcome.{why}
 use Rattle.wire.specs.Bits.{bitLsb0}
-use Rattle.value.specs.declared.shape.Shape.{Shape}
-use Rattle.value.specs.Shapes.{need}
+use Rattle.value.specs.Shapes.{need, prefix}
 use Rattle.value.specs.Columns.{isTaken}
-use Rattle.value.specs.Reading.{readDatum, short}
+use Rattle.value.specs.Reading.{short}
 use Rattle.value.proofs.Laws.{fails-back}
 use Rattle.value.proofs.Tables.{some-bytes}
 use Rattle.record.specs.Entries.{columnOf}
@@ -25,14 +24,12 @@ use Rattle.image.specs.Split.{Slot, slots, slotsAt}
 use Rattle.image.proofs.CursorLaws.Heads.{Over, nullBytes}
 use Rattle.image.proofs.StepLaws.Splits.{Each, Good}
 use Rattle.image.proofs.PresenceLaws.Presents.{each-from, good-from}
-use Rattle.value.specs.Shapes.{prefix}
 use Rattle.blocks.specs.declared.state.Phase.the-variants.{Open, Long}
-use Rattle.blocks.specs.declared.state.Arriving.{Arriving}
 use Rattle.blocks.specs.States.{opened, longed}
 use Rattle.blocks.specs.Turns.{tooLong}
 use Rattle.blocks.specs.Ends.{endOver, endIn}
-use Rattle.blocks.specs.Streams.{Stream, stopped, with}
-use Rattle.blocks.specs.Inner.Futures.{streamLong, streamed, streamSlots, futureIn, future}
+use Rattle.blocks.specs.Streams.{Stream}
+use Rattle.blocks.specs.Inner.Futures.{streamLong, streamSlots, futureIn, future}
 use Rattle.blocks.proofs.Turned.{is-long}
 use Rattle.blocks.proofs.Ons.{Waiting, Ready, from, future-from}
 

@@ -1,26 +1,24 @@
 -- The states that are fit are those that the laws speak of; what a call leaves is fit. Assumes nothing.
 use Prim.Native.Nat.{ℕ, _+_, _-_, _≤_, _<_}
 use mathlib.Core.Path.{_≡_, refl, sym, ap, subst, _∙_}
-use mathlib.Core.Bool.{Bool, true, false, cond, _&&_, _||_, not, true≢false}
+use mathlib.Core.Bool.{Bool, true, false, _&&_, not, true≢false}
 use mathlib.Core.Logic.{dite}
-use mathlib.Core.List.{List, [], _∷_, _++_}
+use mathlib.Core.List.{List, [], _∷_}
 use native.Mathlib.Decide.{decLe}
 use native.Mathlib.Omega.{arith}
 use borrow.Author.Tests.{le-leb, lt-leb, lt-ltb, le-ltb, eq-eqb, ne-eqb, leb-true, ltb-true, eqb-true}
-use lib.ListN.{length, take, drop, length-append, length-drop}
+use lib.ListN.{length, take, drop, length-drop}
 use lib.Seq.{length-take-le}
 use lib.Dec.{leb, ltb, eqb}
 use Rattle.wire.specs.Number.{Bytes}
-use Rattle.wire.specs.Outcome.{Outcome, ok, refused}
 use Rattle.wire.proofs.Inverse.{bytes-take, bytes-drop}
-use Rattle.wire.specs.Bits.{bytesFor, bitLsb0}
+use Rattle.wire.specs.Bits.{bitLsb0}
 use Rattle.wire.proofs.Outcomes.{both-true}
-use Rattle.value.specs.Shapes.{need}
-use Rattle.value.specs.Shapes.{prefix}
+use Rattle.value.specs.Shapes.{need, prefix}
 use Rattle.image.specs.Room.{imageRoom}
 use Rattle.record.specs.Records.{countOf}
 use Rattle.record.proofs.Valid.{valid-few}
-use Rattle.image.specs.Present.{countBits, firstFrom, shapeAt, presentFrom}
+use Rattle.image.specs.Present.{firstFrom, shapeAt, presentFrom}
 use Rattle.image.specs.Split.{Slot, slots, slotsAt}
 use Rattle.image.proofs.CursorLaws.Heads.{Over, nullBytes}
 use Rattle.image.proofs.PresenceLaws.Firsts.{count-at-most, first-is, slotAt, slots-end, slots-first}
@@ -32,7 +30,7 @@ use Rattle.blocks.specs.Turns.{tooLong}
 use Rattle.blocks.specs.Fits.{waits, isLong, fitsIn, isCounted, isFit}
 use Rattle.blocks.specs.Gives.{giveLong}
 use Rattle.value.proofs.Most.{need-most}
-use Rattle.blocks.proofs.Spends.{mostTo, most-next, most-mono, most-none, room-is}
+use Rattle.blocks.proofs.Spends.{mostTo, most-next, most-mono, room-is}
 use Rattle.blocks.proofs.Ons.{Waiting, Longing, Ready, LongReady, Left, open-left, long-left, Leaves}
 
 -- the null bits of a valid record leave the half of the least carry
@@ -290,40 +288,45 @@ longing-less room j left left′ (i ∷ is) h l w = (w .0, w .1, w .2, omega (ar
 
 pub long-leaves : (K : Type 0) (r p : List ℕ) (column held left used : ℕ) (carry block : List ℕ)
     → LongReady K r p column held left used carry
-    → Leaves K r p (giveLong (nullBytes r p) (longed column held left used) carry block)
+    → Leaves K r p (length carry) (giveLong (nullBytes r p) (longed column held left used) carry block)
 unfolding giveLong
 long-leaves K r p column held left used carry block q =
     let nb = nullBytes r p in
     dite (decLe (length block) 0)
-    (λ (a : length block ≤ 0). let e : length block ≡ 0 = omega arith in rw (eq-eqb (length block) 0 e) (long-left column held left used q))
+    (λ (a : length block ≤ 0).
+    let e : length block ≡ 0 = omega arith in rw (eq-eqb (length block) 0 e) (refl, long-left column held left used q))
     (λ a.
     let e : length block ≡ 0 → ⊥ = λ z. absurd (omega arith) in
     dite (decLe left (length block))
     (λ (b : left ≤ length block).
-    rw (ne-eqb (length block) 0 e, le-leb left (length block) b)
-    (open-left (column + 1) nb (used + left) (record {
-      over = q .over;
-      room = q .room;
-      least = q .least;
-      among = omega (arith, q .among);
-      fits = omega (arith, q .room);
-      counted = omega (arith, q .counted, q .low);
-      first = λ (k : nb < nb). absurd (omega arith);
-      waits = λ (k : nb < nb). absurd (omega arith);
-      spent = λ k. (q .spent k .0, q .spent k .1);
-    })))
+    rw (ne-eqb (length block) 0 e, le-leb left (length block) b) (
+      refl,
+      open-left (column + 1) nb (used + left) (record {
+        over = q .over;
+        room = q .room;
+        least = q .least;
+        among = omega (arith, q .among);
+        fits = omega (arith, q .room);
+        counted = omega (arith, q .counted, q .low);
+        first = λ (k : nb < nb). absurd (omega arith);
+        waits = λ (k : nb < nb). absurd (omega arith);
+        spent = λ k. (q .spent k .0, q .spent k .1);
+      }),
+    ))
     (λ b.
-    rw (ne-eqb (length block) 0 e, lt-leb left (length block) (omega arith))
-    (long-left column held (left - length block) (used + length block) (record {
-      over = q .over;
-      room = q .room;
-      least = q .least;
-      among = q .among;
-      low = q .low;
-      fits = q .fits;
-      counted = omega (arith, q .counted);
-      some = omega arith;
-      longs = longing-less (length carry - nb) column left (left - length block) (slotsAt r p (take held carry) column)
-          (drop nb (take held carry)) (omega arith) (q .longs);
-      spent = λ k. (q .spent k .0, omega (arith, q .spent k .1));
-    }))))
+    rw (ne-eqb (length block) 0 e, lt-leb left (length block) (omega arith)) (
+      refl,
+      long-left column held (left - length block) (used + length block) (record {
+        over = q .over;
+        room = q .room;
+        least = q .least;
+        among = q .among;
+        low = q .low;
+        fits = q .fits;
+        counted = omega (arith, q .counted);
+        some = omega arith;
+        longs = longing-less (length carry - nb) column left (left - length block) (slotsAt r p (take held carry) column)
+            (drop nb (take held carry)) (omega arith) (q .longs);
+        spent = λ k. (q .spent k .0, omega (arith, q .spent k .1));
+      }),
+    )))

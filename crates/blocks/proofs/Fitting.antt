@@ -1,7 +1,7 @@
 -- What the tests of a state, and the calls behind them, answer. Assumes nothing.
 use Prim.Native.Nat.{ℕ, _+_, _-_, _≤_, _<_}
 use mathlib.Core.Path.{_≡_, refl, sym, ap, subst, _∙_}
-use mathlib.Core.Bool.{Bool, true, false, cond, _&&_, _||_}
+use mathlib.Core.Bool.{Bool, true, false, cond, _&&_}
 use mathlib.Core.List.{List, [], _∷_, _++_, append-nil}
 use native.Mathlib.Nat.{sub-zero}
 use native.Mathlib.Omega.{arith}
@@ -14,7 +14,7 @@ use lib.Dec.{leb, ltb, eqb}
 use Rattle.wire.specs.declared.refusal.Refusal.{Refusal}
 use Rattle.wire.specs.Outcome.{Outcome, ok, refused, refuse, after, why}
 use Rattle.wire.specs.Bits.{bytesFor, bitLsb0}
-use Rattle.wire.specs.Stored.{answerOf, leftOf}
+use Rattle.wire.specs.Stored.{answerOf}
 use Rattle.wire.proofs.Outcomes.{both-true, same-ok, after-is-ok, test-is-ok}
 use Rattle.value.specs.declared.shape.Shape.{Shape}
 use Rattle.value.specs.declared.shape.Shape.the-variants.{NotTaken}
@@ -25,15 +25,15 @@ use Rattle.value.specs.Inner.Shapes.{Sized}
 use Rattle.value.proofs.Tables.{sized}
 use Rattle.record.specs.declared.entry.Entry.{Entry}
 use Rattle.record.specs.Entries.{columnOf}
-use Rattle.record.specs.Records.{mostColumns, countOf, entryIn, recordValid, readRecord}
+use Rattle.record.specs.Records.{countOf, entryIn, recordValid, readRecord}
 use Rattle.record.proofs.Valid.{valid-few, read-valid}
 use Rattle.image.specs.declared.cursor.Head.{Head}
 use Rattle.image.specs.declared.room.Room.{Room}
 use Rattle.image.specs.declared.room.Room.the-variants.{Bytes, Refused as Refused₁}
 use Rattle.image.specs.Present.{countBits, shapeAt}
-use Rattle.image.specs.Split.{slotsAt, headOf, headWith}
+use Rattle.image.specs.Split.{slotsAt, headOf}
 use Rattle.image.specs.Room.{imageRoom, readRoom, roomTold}
-use Rattle.image.proofs.CursorLaws.Heads.{Tested as Tested₁, Over, head-tested, head-is}
+use Rattle.image.proofs.CursorLaws.Heads.{head-tested, head-is}
 use Rattle.image.proofs.PresenceLaws.Firsts.{count-at-most}
 use Rattle.image.proofs.RoomLaws.Adds.{room-small}
 use Rattle.blocks.specs.declared.state.Phase.{Phase}
@@ -46,12 +46,12 @@ use Rattle.blocks.specs.declared.turn.Turn.the-variants.{Wait, Long as L
 use Rattle.blocks.proofs.turn.Turn.{the-type as turn-type}
 use Rattle.blocks.specs.States.{opened, longed, more, part, shutWith, givenOf, endedOf}
 use Rattle.blocks.specs.Turns.{turnOf}
-use Rattle.blocks.specs.Fits.{waits, isLong, fitsIn, isCounted, isFit}
-use Rattle.blocks.specs.Gives.{Handed, parted, giveOpen, giveLong, giveIn, givenFit, headCarry, giveBlock}
-use Rattle.blocks.specs.Ends.{endIn, endedFit, endBlocks}
+use Rattle.blocks.specs.Fits.{isLong, fitsIn, isCounted, isFit}
+use Rattle.blocks.specs.Gives.{Handed, parted, giveOpen, giveLong, giveIn, givenFit, headCarry}
+use Rattle.blocks.specs.Ends.{endIn, endedFit}
 use Rattle.blocks.specs.Inner.Hands.{Heads, turnBy, turnTold, heldShape, Sits, Tested, Numbered, dueFrom, endOpen}
 use Rattle.blocks.proofs.Hands.{turn-head}
-use Rattle.blocks.proofs.Values.{Answers, no-answer}
+use Rattle.blocks.proofs.Values.{Answers}
 use Rattle.blocks.proofs.Heldings.{isWait, isLongOf, waits-turn, longs-turn, end-open-is}
 
 -- ---- the numbers

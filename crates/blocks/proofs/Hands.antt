@@ -7,10 +7,10 @@ use mathlib.Core.List.{List, [], _∷_, _++_}
 use native.Mathlib.Nat.{pow-le-pow-right, zero-lt-suc, sub-zero}
 use native.Mathlib.Decide.{decLe}
 use native.Mathlib.Omega.{arith}
-use borrow.Author.Tests.{lt-ltb, le-ltb, lt-leb, le-leb}
+use borrow.Author.Tests.{lt-ltb, le-ltb, lt-leb}
 use types.Run.{OneOf, miss}
 use denote.Enum.Declared.{tagOf}
-use lib.ListN.{length, getD, set, take, drop, length-append, length-set, length-drop, List·getD-append, List·getD-eq-default}
+use lib.ListN.{length, getD, set, take, drop, length-set, length-drop, List·getD-append, List·getD-eq-default}
 use lib.Seq.{length-take-le, getD-take, getD-drop, getD-append-add, getD-set-same, getD-set-other, ext-getD}
 use lib.Dec.{leb, ltb}
 use Rattle.wire.specs.Bits.{digit, bitLsb0}
@@ -19,8 +19,7 @@ use Rattle.value.specs.declared.shape.Shape.the-variants.{Unsigned, Signed, Flo
 use Rattle.value.specs.declared.shape.Shape.the-variants.{NotTaken}
 use Rattle.value.specs.declared.shape.Shape.{Shape}
 use Rattle.value.proofs.shape.Shape.{the-type as shape-type}
-use Rattle.value.specs.Shapes.{need}
-use Rattle.value.specs.Shapes.{prefix}
+use Rattle.value.specs.Shapes.{need, prefix}
 use Rattle.value.specs.Inner.Shapes.{Sized}
 use Rattle.wire.specs.Stored.{stored, store, leftOf}
 use Rattle.value.proofs.Appends.{prefix-within}

@@ -1,20 +1,19 @@
 -- Whether a state is fit, by what the code finds. Assumes nothing.
 use Prim.Native.Nat.{ℕ, zero, suc, _+_, _-_, _≤_, _<_}
 use mathlib.Core.Path.{_≡_, refl, sym, ap, subst, _∙_}
-use mathlib.Core.Bool.{Bool, true, false, cond, _&&_, _||_, not, true≢false}
+use mathlib.Core.Bool.{Bool, true, false, cond, _&&_, not, true≢false}
 use mathlib.Core.Logic.{dite}
-use mathlib.Core.List.{List, [], _∷_, _++_}
+use mathlib.Core.List.{List, [], _∷_}
 use native.Mathlib.Decide.{decLe}
 use native.Mathlib.Omega.{arith}
-use borrow.Author.Tests.{le-leb, lt-leb, lt-ltb, le-ltb, eq-eqb, ne-eqb}
-use lib.ListN.{length, take, drop}
+use borrow.Author.Tests.{le-leb, le-ltb, eq-eqb, ne-eqb}
+use lib.ListN.{length, take}
 use lib.Dec.{leb, ltb, eqb}
 use Rattle.wire.specs.Outcome.{Outcome, ok, refuse}
 use Rattle.wire.specs.Bits.{bitLsb0}
 use Rattle.value.specs.declared.shape.Shape.{Shape}
 use Rattle.value.specs.declared.shape.Shape.the-variants.{NotTaken}
-use Rattle.value.specs.Shapes.{need}
-use Rattle.value.specs.Shapes.{prefix}
+use Rattle.value.specs.Shapes.{need, prefix}
 use Rattle.record.specs.Records.{countOf}
 use Rattle.image.specs.Present.{countBits, firstFrom, shapeAt, presentFrom}
 use Rattle.image.specs.Split.{Slot, slots, slotsAt}

@@ -1,13 +1,13 @@
 -- The stream with long values joined is the reading of the columns one after the other, and so the walk. Assumes nothing.
 use Prim.Native.Nat.{ℕ, zero, suc, _+_, _-_, _≤_, _<_}
-use mathlib.Core.Path.{_≡_, refl, sym, ap, subst, _∙_}
-use mathlib.Core.Bool.{Bool, true, false, cond, true≢false}
+use mathlib.Core.Path.{_≡_, refl, sym, ap, _∙_}
+use mathlib.Core.Bool.{Bool, true, false}
 use mathlib.Core.Logic.{dite}
 use mathlib.Core.List.{List, [], _∷_, _++_, append-assoc}
 use native.Mathlib.Nat.{add-zero}
 use native.Mathlib.Decide.{decLe}
 use native.Mathlib.Omega.{arith}
-use borrow.Author.Tests.{le-leb, lt-leb, lt-ltb, le-ltb, ne-eqb, eq-eqb}
+use borrow.Author.Tests.{le-leb, lt-leb, ne-eqb}
 use lib.ListN.{length, take, drop, length-drop}
 use lib.Seq.{take-add, drop-at, drop-drop, length-take-le}
 use Rattle.wire.specs.Outcome.{Outcome, ok, refused, refuse, why}
@@ -16,17 +16,16 @@ use Rattle.value.specs.declared.shape.Shape.{Shape}
 use Rattle.value.specs.declared.shape.Shape.the-variants.{Unsigned, Signed, FloatBits, DoubleBits, YearByte, Timed, Fixed, Counted}
 use Rattle.value.specs.declared.shape.Shape.the-variants.{NotTaken}
 use Rattle.value.specs.Data.{Datum, null, bytes}
-use Rattle.value.specs.Shapes.{need, decode, fault}
+use Rattle.value.specs.Shapes.{need, decode, fault, prefix}
 use Rattle.value.specs.Reading.{readDatum, short}
 use Rattle.value.proofs.Laws.{reads, fails-back}
 use Rattle.image.specs.Present.{Present}
-use Rattle.image.specs.Split.{Slot, slots}
-use Rattle.image.specs.Walk.{RowWalked, withAnswer, readSlot, answered, readSlots}
+use Rattle.image.specs.Split.{slots}
+use Rattle.image.specs.Walk.{withAnswer, readSlot, answered, readSlots}
 use Rattle.image.proofs.StepLaws.Splits.{Each, Good}
-use Rattle.value.specs.Shapes.{prefix}
 use Rattle.value.proofs.Appends.{prefix-within}
 use Rattle.blocks.specs.Turns.{tooLong}
-use Rattle.blocks.specs.Streams.{Piece, datum, size, byte, Stream, stopped, with, bytePieces}
+use Rattle.blocks.specs.Streams.{Piece, size, Stream, with, bytePieces}
 use Rattle.blocks.specs.Joins.{joinPieces, joined}
 use Rattle.blocks.specs.Inner.Futures.{streamLong, streamed, streamSlots}
 use Rattle.blocks.proofs.Turned.{TooLong, is-long, prefix-most}

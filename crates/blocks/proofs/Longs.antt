@@ -1,25 +1,23 @@
 -- The same in the Long phase: what a part gives and what is to come behind it are what was to come. Assumes nothing.
-use Prim.Native.Nat.{ℕ, zero, suc, _+_, _-_, _≤_, _<_}
-use mathlib.Core.Path.{_≡_, refl, sym, ap, subst, _∙_}
-use mathlib.Core.Bool.{Bool, true, false, cond}
+use Prim.Native.Nat.{ℕ, _+_, _-_, _≤_, _<_}
+use mathlib.Core.Path.{_≡_, refl, sym, ap, _∙_}
 use mathlib.Core.Logic.{dite}
-use mathlib.Core.List.{List, [], _∷_, _++_, map, append-assoc}
+use mathlib.Core.List.{List, [], _∷_, _++_, append-assoc}
 use native.Mathlib.Decide.{decLe}
 use native.Mathlib.Omega.{arith}
-use borrow.Author.Tests.{le-leb, lt-leb, eq-eqb, ne-eqb, eqb-true}
-use lib.Dec.{eqb}
-use lib.ListN.{length, take, drop, length-append, take-append-drop}
+use borrow.Author.Tests.{le-leb, lt-leb, eq-eqb, ne-eqb}
+use lib.ListN.{length, take, drop, length-append}
 use lib.Seq.{length-take-le, drop-append-le, drop-at, take-append-le, take-append-add, drop-append-add, take-length, drop-length}
-use Rattle.wire.specs.Outcome.{Outcome, ok, refused, refuse}
+use Rattle.wire.specs.Outcome.{refuse}
 use Rattle.record.specs.Records.{countOf}
-use Rattle.image.specs.Split.{Slot, slotsAt}
-use Rattle.image.proofs.CursorLaws.Heads.{Over, nullBytes}
+use Rattle.image.specs.Split.{slotsAt}
+use Rattle.image.proofs.CursorLaws.Heads.{nullBytes}
 use Rattle.blocks.specs.declared.state.Arriving.{Arriving}
-use Rattle.blocks.specs.States.{opened, longed, Arrived, more, part, BlockGiven}
+use Rattle.blocks.specs.States.{opened, longed}
 use Rattle.blocks.specs.Gives.{giveLong}
-use Rattle.blocks.specs.Streams.{Piece, byte, Stream, with, bytePieces, told}
+use Rattle.blocks.specs.Streams.{Piece, byte, Stream, with, bytePieces}
 use Rattle.blocks.specs.Inner.Futures.{streamLong, streamSlots, futureIn, future}
-use Rattle.blocks.proofs.Ons.{On, from, future-from, from-goes}
+use Rattle.blocks.proofs.Ons.{On, future-from, from-goes}
 
 bytes-append : (j : ℕ) (a b : List ℕ) → bytePieces j (a ++ b) ≡ bytePieces j a ++ bytePieces j b
 bytes-append j [] b = refl

@@ -1,5 +1,5 @@
 -- What is still to come from a state does not change across a call. Assumes nothing.
-use Prim.Native.Nat.{ℕ, suc, _+_, _-_, _≤_, _<_}
+use Prim.Native.Nat.{ℕ, _+_, _-_, _≤_, _<_}
 use mathlib.Core.Path.{_≡_, refl, sym, ap, subst, _∙_}
 use mathlib.Core.Bool.{Bool, true, false, cond, true≢false}
 use mathlib.Core.Logic.{dite}
@@ -7,48 +7,42 @@ use mathlib.Core.List.{List, [], _∷_, _++_, append-assoc, append-nil}
 use native.Mathlib.Nat.{add-zero}
 use native.Mathlib.Decide.{decLe}
 use native.Mathlib.Omega.{arith}
-use borrow.Author.Tests.{lt-ltb, le-ltb, ltb-true, ltb-false}
+use borrow.Author.Tests.{lt-ltb, le-ltb}
 use lib.ListN.{length, take, drop, length-append, length-drop, take-append-drop}
-use lib.Seq.{length-take-le, drop-append-le, drop-at, drop-drop, drop-length, take-add, take-length, take-append-le}
+use lib.Seq.{length-take-le, drop-append-le, drop-at, drop-drop, drop-length, take-add, take-length}
 use lib.Dec.{ltb}
-use Rattle.wire.specs.declared.refusal.Refusal.{Refusal}
 use Rattle.wire.specs.Outcome.{Outcome, ok, refused, refuse, after, why}
 use Rattle.wire.specs.Bits.{bitLsb0}
-use Rattle.wire.specs.Stored.{stored}
 use Rattle.value.specs.declared.shape.Shape.{Shape}
 use Rattle.value.specs.Data.{Datum, null as nullDatum}
-use Rattle.value.specs.Shapes.{need}
-use Rattle.value.specs.Reading.{judged, readDatum, placed, datumOf, short}
+use Rattle.value.specs.Shapes.{need, prefix}
+use Rattle.value.specs.Reading.{judged, placed, short}
 use Rattle.value.proofs.Laws.{fails-back}
 use Rattle.value.proofs.Tables.{sized}
 use Rattle.record.specs.Entries.{columnOf}
 use Rattle.record.specs.Records.{countOf, entryIn}
 use Rattle.record.proofs.Valid.{valid-column}
-use Rattle.image.specs.Present.{Present, shapeAt, countBits, firstFrom, presentFrom}
-use Rattle.image.specs.Split.{Slot, slots, slotsAt}
+use Rattle.image.specs.Present.{shapeAt, countBits, firstFrom}
+use Rattle.image.specs.Split.{Slot, slotsAt}
 use Rattle.image.proofs.PresenceLaws.Firsts.{first-is, first-stop, slotAt, presentAt, slots-end, slots-first}
 use Rattle.image.proofs.CursorLaws.Heads.{Over, nullBytes}
-use Rattle.image.proofs.StepLaws.Splits.{Each, Good}
-use Rattle.image.proofs.PresenceLaws.Presents.{good-from}
-use Rattle.value.specs.Shapes.{prefix}
-use Rattle.value.proofs.Appends.{prefix-within, need-front, need-more}
+use Rattle.image.proofs.StepLaws.Splits.{Good}
+use Rattle.value.proofs.Appends.{prefix-within, need-front}
 use Rattle.value.proofs.Most.{need-most}
 use Rattle.wire.specs.Number.{Bytes}
 use Rattle.wire.proofs.Stores.{stored-bytes}
 use Rattle.wire.proofs.Inverse.{bytes-take, bytes-drop, bytes-append}
 use Rattle.image.proofs.AppendLaws.GrownSteps.{slots-more}
-use Rattle.blocks.specs.declared.state.Phase.{Phase}
-use Rattle.blocks.specs.declared.state.Phase.the-variants.{Open, Long, Closed}
 use Rattle.blocks.specs.declared.state.Arriving.{Arriving}
-use Rattle.blocks.specs.States.{opened, longed, Arrived, more, null, value, long, part, end, BlockGiven}
+use Rattle.blocks.specs.States.{opened, longed, Arrived, more, null, value, long, part, end}
 use Rattle.blocks.specs.Turns.{TurnSaid, wait, long as long₁, whole, tooLong, turnOf}
-use Rattle.blocks.specs.Gives.{Handed, commit, usedTo, waiting, byTurn, giveOver, atHand, giveOpen, giveLong}
-use Rattle.blocks.specs.Streams.{Piece, datum, size, byte, Stream, stopped, with, bytePieces, told}
-use Rattle.blocks.specs.Inner.Futures.{streamLong, streamed, streamSlots, futureIn, future}
+use Rattle.blocks.specs.Gives.{Handed, commit, usedTo, waiting, byTurn, giveOver, giveOpen}
+use Rattle.blocks.specs.Streams.{datum, Stream, stopped, with, told}
+use Rattle.blocks.specs.Inner.Futures.{streamed, streamSlots, futureIn, future}
 use Rattle.blocks.proofs.Carries.{carried, Within, carried-length, carried-front, carried-same, front-length, carried-behind}
 use Rattle.blocks.proofs.Carries.{carried-before}
 use Rattle.blocks.proofs.Spends.{mostTo, most-next, most-mono}
-use Rattle.blocks.proofs.Turned.{TooLong, is-long, long-is, not-long, long-front, prefix-most, read-whole, said-whole}
+use Rattle.blocks.proofs.Turned.{is-long, long-is, not-long, long-front, prefix-most, read-whole, said-whole}
 
 -- ---- what is to come, by the bytes at hand as one list
 unfoldable pub from : List ℕ → List ℕ → ℕ → ℕ → ℕ → ℕ → List ℕ → Stream
@@ -141,9 +135,10 @@ pub data Left (K : Type 0) (r p carry : List ℕ) : Arriving → Type 0 where
   open-left : (column held used : ℕ) → Ready K r p column held used carry → Left K r p carry (opened column held used)
   long-left : (column held left used : ℕ) → LongReady K r p column held left used carry → Left K r p carry (longed column held left used)
 
-abbrev pub Leaves : Type 0 → List ℕ → List ℕ → Outcome Handed → Type 0
-Leaves K r p (ok x) = Left K r p (x .1) (x .0 .next)
-Leaves K r p (refused w) = Unit {0}
+-- the carry has as many bytes as before
+abbrev pub Leaves : Type 0 → List ℕ → List ℕ → ℕ → Outcome Handed → Type 0
+Leaves K r p n (ok x) = (length (x .1) ≡ n) × Left K r p (x .1) (x .0 .next)
+Leaves K r p n (refused w) = Unit {0}
 
 -- ---- the bytes up to `upto` being taken
 module _ (r p : List ℕ) (held used : ℕ) (carry block t : List ℕ) (upto : ℕ) (w : Within carry block held upto) where
@@ -214,7 +209,7 @@ module _ (K : Type 0) (r p : List ℕ) (column held used : ℕ) (carry block t :
   kept g = On r p nulls block t (from r p nulls space column (used + nulls - held) (take held carry ++ (block ++ t))) g
 
   abbrev leaves : Outcome Handed → Type 0
-  leaves g = Leaves K r p g
+  leaves g = Leaves K r p (length carry) g
 
   hand-length : length (take held carry ++ block) ≡ held + length block
   hand-length = length-append (take held carry) block ∙ ap (λ (k : ℕ). k + length block) (length-take-le held carry (q .fits))
@@ -270,36 +265,41 @@ module _ (K : Type 0) (r p : List ℕ) (column held used : ℕ) (carry block t :
   wait-left j h a o f v =
       let upto = held + length block in
       let w : Within carry block held upto = record { low = omega arith; high = omega arith; fits = h } in
-      let n = carried-length carry block held upto w in
-      open-left j upto (used + (upto - held)) (record {
-        over = q .over;
-        room = omega (arith, q .room);
-        least = omega (arith, q .least);
-        among = a;
-        fits = omega arith;
-        counted = omega (arith, q .counted);
-        first = λ (k : upto < nulls). (f k .0, omega (arith, f k .1));
-        waits = λ (k : nulls < upto). rw (wait-front w, n) (v k);
-        spent = λ k. (bytes-carried upto k, omega (arith, q .spent k .1, most-mono r p column j o));
-      })
+      let n = carried-length carry block held upto w in (
+        n,
+        open-left j upto (used + (upto - held)) (record {
+          over = q .over;
+          room = omega (arith, q .room);
+          least = omega (arith, q .least);
+          among = a;
+          fits = omega arith;
+          counted = omega (arith, q .counted);
+          first = λ (k : upto < nulls). (f k .0, omega (arith, f k .1));
+          waits = λ (k : nulls < upto). rw (wait-front w, n) (v k);
+          spent = λ k. (bytes-carried upto k, omega (arith, q .spent k .1, most-mono r p column j o));
+        }),
+      )
 
   -- nothing held behind the null bits
   next-left : (j upto : ℕ) → Within carry block held upto → nulls ≤ upto → j ≤ countOf r
       → (K → used + (upto - held) ≤ nulls + mostTo r p j)
-      → Left K r p (carried carry block held upto) (opened j nulls (used + (upto - held)))
+      → (length (carried carry block held upto) ≡ length carry)
+      × Left K r p (carried carry block held upto) (opened j nulls (used + (upto - held)))
   next-left j upto w h a z =
-      let n = carried-length carry block held upto w in
-      open-left j nulls (used + (upto - held)) (record {
-        over = q .over;
-        room = omega (arith, q .room);
-        least = omega (arith, q .least);
-        among = a;
-        fits = omega (arith, q .room);
-        counted = omega (arith, q .counted, w .low);
-        first = λ (k : nulls < nulls). absurd (omega arith);
-        waits = λ (k : nulls < nulls). absurd (omega arith);
-        spent = λ k. (bytes-carried upto k, z k);
-      })
+      let n = carried-length carry block held upto w in (
+        n,
+        open-left j nulls (used + (upto - held)) (record {
+          over = q .over;
+          room = omega (arith, q .room);
+          least = omega (arith, q .least);
+          among = a;
+          fits = omega (arith, q .room);
+          counted = omega (arith, q .counted, w .low);
+          first = λ (k : nulls < nulls). absurd (omega arith);
+          waits = λ (k : nulls < nulls). absurd (omega arith);
+          spent = λ k. (bytes-carried upto k, z k);
+        }),
+      )
 
   -- the null bits are not whole
   short-left : length (take held carry ++ block) < nulls → leaves (giveOpen r p nulls st carry block)
@@ -377,8 +377,8 @@ module _ (K : Type 0) (r p : List ℕ) (column held used : ℕ) (carry block t :
           goes ∙ rw (e, o),
           λ (s : List ℕ).
               future-from r p nulls column nulls (used + (nulls - held)) c s
-              ∙ from-goes r p (length c - nulls) column (used + (nulls - held) + nulls - nulls) (take nulls c) s (q .among) (omega arith) ∙ rw
-              (z, i),
+              ∙ from-goes r p (length c - nulls) column (used + (nulls - held) + nulls - nulls) (take nulls c) s (q .among) (omega arith)
+              ∙ rw (z, i),
         )
 
     end-left : slotsAt r p y column ≡ [] → leaves (giveOpen r p nulls st carry block)
@@ -599,19 +599,21 @@ module _ (K : Type 0) (r p : List ℕ) (column held used : ℕ) (carry block t :
             sym (slots-more r p (take upto c) (drop (upto - held) block ++ t) f (omega arith)
             (omega (arith, front-length carry block held upto w)))
             ∙ ap (λ (s : List ℕ). slotsAt r p s f) (carried-same carry block held upto w t) ∙ all-slots f (omega arith) ∙ slots-from in
-            let a : Longing space f (need sh x - prefix sh) (slot ∷ behind) h = (n, t₁, k, omega arith, refl) in
-            long-left f upto (need sh x - prefix sh) (used + (upto - held)) (record {
-              over = q .over;
-              room = omega (arith, q .room);
-              least = omega (arith, q .least);
-              among = b;
-              low = omega arith;
-              fits = omega (arith, w .fits);
-              counted = omega (arith, q .counted, w .low);
-              some = omega (arith, i .over, prefix-most sh (good .sized), q .room);
-              longs = rw (e, long-front-is v, m) a;
-              spent = λ k. (bytes-carried upto k, omega (arith, q .spent k .1, has-room k, w .low, prefix-within sh x));
-            })
+            let a : Longing space f (need sh x - prefix sh) (slot ∷ behind) h = (n, t₁, k, omega arith, refl) in (
+              m,
+              long-left f upto (need sh x - prefix sh) (used + (upto - held)) (record {
+                over = q .over;
+                room = omega (arith, q .room);
+                least = omega (arith, q .least);
+                among = b;
+                low = omega arith;
+                fits = omega (arith, w .fits);
+                counted = omega (arith, q .counted, w .low);
+                some = omega (arith, i .over, prefix-most sh (good .sized), q .room);
+                longs = rw (e, long-front-is v, m) a;
+                spent = λ k. (bytes-carried upto k, omega (arith, q .spent k .1, has-room k, w .low, prefix-within sh x));
+              }),
+            )
 
         -- one that is whole: read, or refused for its range
         module _ (v : tooLong space sh x ≡ false) (h : need sh x ≤ length x) where
@@ -704,7 +706,7 @@ module _ (K : Type 0) (r p : List ℕ) (column held used : ℕ) (carry block t :
           go true n = null-left n
           go false n = value-left n
 
-  pub open-leaves : Leaves K r p (giveOpen r p nulls st carry block)
+  pub open-leaves : Leaves K r p (length carry) (giveOpen r p nulls st carry block)
   open-leaves =
       let n = countOf r in
       let f = firstFrom (n - column) p column in

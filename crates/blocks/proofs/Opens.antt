@@ -1,21 +1,20 @@
 -- What the call answers in the Open phase, by what the code finds. Assumes nothing.
 use Prim.Native.Nat.{ℕ, _+_, _-_, _≤_, _<_}
-use mathlib.Core.Path.{_≡_, refl, sym, ap, subst, _∙_}
+use mathlib.Core.Path.{_≡_, sym, subst}
 use mathlib.Core.Bool.{true, false}
-use mathlib.Core.List.{List, [], _∷_, _++_}
+use mathlib.Core.List.{List, _∷_}
 use native.Mathlib.Omega.{arith}
 use borrow.Author.Tests.{lt-ltb, le-ltb}
-use lib.ListN.{length, take, drop}
-use Rattle.wire.specs.Outcome.{Outcome, ok}
+use lib.ListN.{length}
+use Rattle.wire.specs.Outcome.{ok}
 use Rattle.wire.specs.Bits.{bitLsb0}
 use Rattle.record.specs.Records.{countOf}
 use Rattle.image.specs.Present.{countBits, firstFrom, shapeAt}
 use Rattle.image.specs.Split.{slotsAt}
 use Rattle.image.proofs.PresenceLaws.Firsts.{slotAt, slots-end, slots-first}
 use Rattle.blocks.specs.declared.state.Arriving.{Arriving}
-use Rattle.blocks.specs.States.{opened, Arrived, null, end, BlockGiven}
-use Rattle.blocks.specs.Turns.{turnOf}
-use Rattle.blocks.specs.Gives.{commit, usedTo, waiting, byTurn, giveOver, atHand, giveOpen}
+use Rattle.blocks.specs.States.{opened, null, end}
+use Rattle.blocks.specs.Gives.{commit, usedTo, waiting, giveOver, atHand, giveOpen}
 use Rattle.blocks.specs.Inner.Hands.{valueOver}
 
 module _ (r p : List ℕ) (nb : ℕ) (st : Arriving) (carry block : List ℕ) where

@@ -1,14 +1,13 @@
 -- However the image is cut, the answers and the end are those of the walk over all of it. Assumes nothing.
-use Prim.Native.Nat.{ℕ, zero, suc, _+_, _-_, _≤_, _<_}
-use mathlib.Core.Path.{_≡_, refl, sym, ap, subst, _∙_}
-use mathlib.Core.Bool.{Bool, true, false, cond, true≢false}
-use mathlib.Core.List.{List, [], _∷_, _++_, append-assoc, nil≢cons}
+use Prim.Native.Nat.{ℕ, zero, suc, _+_, _≤_, _<_}
+use mathlib.Core.Path.{_≡_, refl, sym, ap, _∙_}
+use mathlib.Core.Bool.{Bool, true, false, true≢false}
+use mathlib.Core.List.{List, [], _∷_, _++_, nil≢cons}
 use mathlib.Core.Logic.{dite}
 use native.Mathlib.Decide.{decLe}
 use native.Mathlib.Omega.{arith}
 use borrow.Author.Tests.{le-ltb, lt-ltb}
 use lib.ListN.{length, take, drop, length-append, length-map}
-use Rattle.wire.specs.declared.refusal.Refusal.{Refusal}
 use Rattle.wire.specs.Outcome.{Outcome, ok, refused}
 use Rattle.wire.specs.Number.{Bytes}
 use Rattle.wire.proofs.Inverse.{bytes-drop}
@@ -19,21 +18,18 @@ use Rattle.value.specs.Reading.{datumOf}
 use Rattle.image.specs.Present.{Present, present}
 use Rattle.image.specs.Split.{slots}
 use Rattle.image.proofs.PresenceLaws.Presents.{present-length, slots-all}
-use Rattle.image.specs.Walk.{RowWalked, walkImage}
+use Rattle.image.specs.Walk.{walkImage}
 use Rattle.image.proofs.CursorLaws.Heads.{Over, nullBytes, head-is}
-use Rattle.blocks.specs.declared.state.Phase.{Phase}
-use Rattle.blocks.specs.declared.state.Phase.the-variants.{Open, Long, Closed}
 use Rattle.blocks.specs.declared.state.Arriving.{Arriving}
-use Rattle.blocks.specs.States.{opened, longed, begun, Arrived, more, null, value, long, part, end, BlockGiven}
+use Rattle.blocks.specs.States.{begun, Arrived, more, null, value, long, part, end, BlockGiven}
 use Rattle.blocks.specs.Fits.{isFit}
 use Rattle.blocks.specs.Gives.{headCarry, Handed, giveIn, givenFit, giveBlock}
 use Rattle.blocks.specs.Ends.{endIn, endedFit, endBlocks}
 use Rattle.blocks.specs.Streams.{Piece, datum, size, byte, Stream, bytePieces, stopped, with, told}
 use Rattle.blocks.specs.Joins.{joined}
 use Rattle.blocks.specs.Runs.{goesOn, Run, ends, refuses, rests, answers, concat, AllBytes}
-use Rattle.blocks.specs.Inner.Futures.{streamSlots, futureIn, future}
-use Rattle.blocks.proofs.Ons.{from, future-from, On, Still, Ready, LongReady, Left, open-left, long-left, Leaves, open-on}
-use Rattle.blocks.proofs.Ons.{open-leaves}
+use Rattle.blocks.specs.Inner.Futures.{streamSlots, future}
+use Rattle.blocks.proofs.Ons.{from, future-from, On, Still, Left, open-left, long-left, Leaves, open-on, open-leaves}
 use Rattle.blocks.proofs.Longs.{long-on}
 use Rattle.blocks.proofs.Fits.{null-most, begun-left, left-fit, spent-room, fit-left, fit-room, long-leaves}
 use Rattle.blocks.proofs.Finals.{end-open, end-long}
@@ -62,7 +58,7 @@ give-on K r p carry b t kb (long-left column held left used q) m =
     (long-on r p column held left used carry b t (q .among) (omega (arith, q .room)) (q .some))
 
 pub give-leaves : (K : Type 0) (r p carry b : List ℕ) {st : Arriving} → (K → Bytes b) → Left K r p carry st → st .used ≤ imageRoom r p
-    → Leaves K r p (giveBlock r p st carry b)
+    → Leaves K r p (length carry) (giveBlock r p st carry b)
 unfolding giveIn
 give-leaves K r p carry b kb (open-left column held used q) m =
     rw (give-is K r p carry b (open-left column held used q) m) (open-leaves K r p column held used carry b [] q kb)
@@ -129,12 +125,12 @@ run-future r p (refuses st carry b bs w e) bb l q =
 run-future r p (rests st carry b bs g c s n e a u) bb l q =
     let m = spent-room (Unit {0}) r p carry tt l in
     let o = rest-on r p b (concat bs) c g _ a (rw e at (give-on (Unit {0}) r p carry b (concat bs) (λ k. bb .0) l m)) in
-    let k : Left (Unit {0}) r p c (g .next) = rw e at (give-leaves (Unit {0}) r p carry b (λ k. bb .0) l m) in
+    let k : Left (Unit {0}) r p c (g .next) = (rw e at (give-leaves (Unit {0}) r p carry b (λ k. bb .0) l m)) .1 in
     run-future r p u (bb .1) k (λ (z : bs ≡ []). o .1 (ap concat z)) ∙ sym (o .0)
 run-future r p (answers st carry b bs g c s n e a u) bb l q =
     let m = spent-room (Unit {0}) r p carry tt l in
     let o = next-on r p b (concat bs) c g _ a (rw e at (give-on (Unit {0}) r p carry b (concat bs) (λ k. bb .0) l m)) in
-    let k : Left (Unit {0}) r p c (g .next) = rw e at (give-leaves (Unit {0}) r p carry b (λ k. bb .0) l m) in
+    let k : Left (Unit {0}) r p c (g .next) = (rw e at (give-leaves (Unit {0}) r p carry b (λ k. bb .0) l m)) .1 in
     ap (told c b (g .arrival)) (run-future r p u (bytes-drop (g .taken) b (bb .0), bb .1) k (λ z. absurd (nil≢cons (sym z)))) ∙ sym o
 
 -- ---- from the first state
@@ -199,7 +195,7 @@ run-block (suc m) r p st carry b bs bb l h f =
     (λ st′ c b′ bb′ l′ h′. run-block m r p st′ c b′ bs bb′ l′ h′ f)
   where
     go : (x : Outcome Handed) → giveBlock r p st carry b ≡ x → On r p (nullBytes r p) b [] (future r p (nullBytes r p) st carry (b ++ [])) x
-        → Leaves (Unit {0}) r p x
+        → Leaves (Unit {0}) r p (length carry) x
         → ((st′ : Arriving) (c b′ : List ℕ) → Bytes b′ → Left (Unit {0}) r p c st′
         → length (future r p (nullBytes r p) st′ c (b′ ++ []) .pieces) < m → Runs r p st′ c (b′ ∷ bs))
         → Runs r p st carry (b ∷ bs)
@@ -209,14 +205,14 @@ run-block (suc m) r p st carry b bs bb l h f =
         by : (a : Bool) → goesOn (x .0 .arrival) ≡ a → Runs r p st carry (b ∷ bs)
         by true a =
             let n =
-            i (x .0 .next) (x .1) (drop (x .0 .taken) b) (bytes-drop (x .0 .taken) b bb) k
+            i (x .0 .next) (x .1) (drop (x .0 .taken) b) (bytes-drop (x .0 .taken) b bb) (k .1)
             (omega (arith, told-less r p b [] (x .1) (x .0) (future r p (nullBytes r p) st carry (b ++ [])) a o)) in (
               told (x .1) b (x .0 .arrival) (n .0),
               x .0 .taken + n .1,
               answers st carry b bs (x .0) (x .1) (n .0) (n .1) e a (n .2),
             )
         by false a =
-            let n = f (x .0 .next) (x .1) k in
+            let n = f (x .0 .next) (x .1) (k .1) in
             (n .0, x .0 .taken + n .1, rests st carry b bs (x .0) (x .1) (n .0) (n .1) e a (n .2))
 
 -- there is always such a run: each answer takes a piece of what is to come

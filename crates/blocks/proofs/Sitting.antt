@@ -1,6 +1,6 @@
 -- What the call asks and answers in the Open phase, behind the tests. Assumes nothing.
 use Prim.Native.Nat.{ℕ, _+_, _-_, _≤_, _<_}
-use mathlib.Core.Path.{_≡_, refl, sym, ap, subst, _∙_}
+use mathlib.Core.Path.{_≡_, sym, ap, subst, _∙_}
 use mathlib.Core.Bool.{Bool, true, false}
 use mathlib.Core.List.{List, _++_}
 use native.Mathlib.Omega.{arith}
@@ -8,13 +8,13 @@ use borrow.Author.Tests.{ltb-true, ltb-false}
 use lib.ListN.{length, take, length-append}
 use lib.Seq.{length-take-le}
 use lib.Dec.{ltb}
-use Rattle.wire.specs.Bits.{bytesFor, bitLsb0}
+use Rattle.wire.specs.Bits.{bitLsb0}
 use Rattle.wire.specs.Stored.{stored}
 use Rattle.value.specs.declared.column.Column.{Column}
 use Rattle.value.specs.Columns.{shapeOf, isTaken}
 use Rattle.record.specs.declared.entry.Entry.{Entry}
 use Rattle.record.specs.Entries.{columnOf}
-use Rattle.record.specs.Records.{mostColumns, countOf, entryIn}
+use Rattle.record.specs.Records.{countOf, entryIn}
 use Rattle.record.proofs.Valid.{valid-column}
 use Rattle.image.specs.Present.{countBits, firstFrom, shapeAt}
 use Rattle.image.proofs.PresenceLaws.Firsts.{first-is, count-at-most}

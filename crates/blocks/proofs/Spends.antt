@@ -1,14 +1,14 @@
 -- How many bytes an image can have used up to a column. Assumes nothing.
-use Prim.Native.Nat.{ℕ, zero, suc, _+_, _-_, _≤_, _<_}
-use mathlib.Core.Path.{_≡_, refl, sym, ap, subst, _∙_}
+use Prim.Native.Nat.{ℕ, zero, suc, _+_, _-_, _≤_}
+use mathlib.Core.Path.{_≡_, refl, ap, _∙_}
 use mathlib.Core.Bool.{Bool, true, false, cond}
-use mathlib.Core.List.{List, [], _∷_}
+use mathlib.Core.List.{List}
 use native.Mathlib.Nat.{add-zero}
 use native.Mathlib.Omega.{arith}
 use lib.ListN.{length}
 use Rattle.wire.specs.Bits.{bytesFor, bitLsb0}
 use Rattle.record.specs.Records.{countOf}
-use Rattle.image.specs.Present.{Present, shapeAt, presentFrom, present}
+use Rattle.image.specs.Present.{shapeAt, presentFrom, present}
 use Rattle.value.specs.Shapes.{mostOf}
 use Rattle.image.specs.Room.{mostOfAll, imageRoom}
 use Rattle.image.proofs.CursorLaws.Heads.{nullBytes}

@@ -1,93 +1,134 @@
 -- The bytes taken are the bytes used; and what the calls leave stays fit. Assumes nothing.
-use Prim.Native.Nat.{ℕ, _+_, _-_, _≤_, _<_}
+use Prim.Native.Nat.{ℕ, _+_, _-_, _≤_}
 use mathlib.Core.Path.{_≡_, refl, sym, ap, subst, _∙_}
 use mathlib.Core.Bool.{Bool, true, false, cond, true≢false}
-use mathlib.Core.List.{List, [], _∷_, _++_}
+use mathlib.Core.List.{List, [], _∷_}
 use native.Mathlib.Nat.{add-zero}
 use native.Mathlib.Omega.{arith}
-use borrow.Author.Tests.{le-ltb}
 use lib.ListN.{length, take, drop}
 use lib.Dec.{leb, ltb, eqb}
 use Rattle.wire.specs.declared.refusal.Refusal.{Refusal}
 use Rattle.wire.specs.Outcome.{Outcome, ok, refused, refuse, after, outOf}
-use Rattle.wire.specs.Number.{Bytes}
-use Rattle.wire.proofs.Outcomes.{same-ok, same-refused, ok-not-refused}
+use Rattle.wire.specs.Bits.{bytesFor}
+use Rattle.wire.specs.Stored.{stored}
+use Rattle.wire.proofs.Outcomes.{after-is-ok, by-test, same-ok, same-refused, ok-not-refused}
+use Rattle.wire.proofs.Stores.{stored-none}
 use Rattle.value.specs.declared.shape.Shape.{Shape}
-use Rattle.value.specs.Data.{Datum}
 use Rattle.value.specs.Shapes.{decode, fault}
 use Rattle.value.specs.Reading.{judged, placed}
 use Rattle.record.specs.Records.{countOf}
 use Rattle.image.specs.declared.cursor.Head.{Head}
+use Rattle.image.specs.Present.{countBits}
 use Rattle.image.specs.Split.{Slot, slotsAt}
-use Rattle.image.specs.Room.{imageRoom}
-use Rattle.image.proofs.CursorLaws.Heads.{Over, nullBytes, head-is}
+use Rattle.image.proofs.CursorLaws.Heads.{Over, nullBytes}
 use Rattle.blocks.specs.declared.state.Phase.{Phase}
 use Rattle.blocks.specs.declared.state.Phase.the-variants.{Open, Long, Closed}
 use Rattle.blocks.specs.declared.state.Arriving.{Arriving}
-use Rattle.blocks.specs.States.{opened, longed, begun, Arrived, more, null, value, long, part, end, BlockGiven}
+use Rattle.blocks.specs.States.{opened, longed, Arrived, more, null, value, long, part, end}
 use Rattle.blocks.specs.Turns.{TurnSaid, wait, long as long₁, whole, turnOf}
 use Rattle.blocks.specs.Fits.{isFit}
 use Rattle.blocks.specs.Gives.{Handed, byTurn, giveOver, atHand, giveOpen, giveLong, giveIn, givenFit, headCarry, giveBlock, commit}
-use Rattle.blocks.specs.Gives.{usedTo}
+use Rattle.blocks.specs.Gives.{usedTo, parted}
 use Rattle.blocks.specs.Ends.{endOver, endIn, endedFit, endBlocks}
-use Rattle.blocks.specs.Streams.{Stream, stopped, told}
+use Rattle.blocks.specs.Streams.{Stream, told}
 use Rattle.blocks.specs.Runs.{goesOn, Run, ends, refuses, rests, answers, Came, begins, gives}
-use Rattle.blocks.proofs.Ons.{Left, open-left, long-left, Leaves}
-use Rattle.blocks.proofs.Fits.{begun-left, left-fit, spent-room}
+use Rattle.blocks.proofs.Ons.{Left, open-left, long-left}
+use Rattle.blocks.proofs.Fits.{begun-left, left-fit, spent-room, fit-left, fit-room}
+use Rattle.blocks.proofs.Fitting.{carry-tested}
 use Rattle.blocks.proofs.Runs.{give-is, give-leaves, end-is}
 
--- ---- whatever the state: what a call takes is counted
-data Adds (used : ℕ) : Outcome Handed → Type 0 where
-  adds : (x : Handed) → x .0 .next .used ≡ used + x .0 .taken → Adds used (ok x)
-  none : (w : Refusal) → Adds used (refused w)
+-- ---- whatever the state: what a call takes is counted, and no more than that is stored behind what the carry held
+data Adds (st : Arriving) (carry block : List ℕ) : Outcome Handed → Type 0 where
+  adds : (x : Handed) (m : ℕ) → x .0 .next .used ≡ st .used + x .0 .taken → m ≤ x .0 .taken → x .1 ≡ stored (take m block) carry (st .held)
+      → Adds st carry block (ok x)
+  none : (w : Refusal) → Adds st carry block (refused w)
 
-adds-test : {used : ℕ} (b : Bool) {x y : Outcome Handed} → Adds used x → Adds used y → Adds used (cond b x y)
-adds-test true u v = u
-adds-test false u v = v
+module _ (st : Arriving) (carry block : List ℕ) where
+  adds-test : (b : Bool) {x y : Outcome Handed} → Adds st carry block x → Adds st carry block y → Adds st carry block (cond b x y)
+  adds-test true u v = u
+  adds-test false u v = v
 
-adds-after : {A : Type 0} {used : ℕ} (o : Outcome A) (f : A → Outcome Handed) → ((a : A) → Adds used (f a)) → Adds used (after o f)
-adds-after (ok a) f v = v a
-adds-after (refused w) f v = none w
+  adds-after : {A : Type 0} (o : Outcome A) (f : A → Outcome Handed) → ((a : A) → Adds st carry block (f a))
+      → Adds st carry block (after o f)
+  adds-after (ok a) f v = v a
+  adds-after (refused w) f v = none w
 
-adds-turn : (nb : ℕ) (sh : Shape) (j : ℕ) (x : List ℕ) (st : Arriving) (carry block : List ℕ) (v : TurnSaid)
-    → Adds (st .used) (byTurn nb sh j x st carry block v)
-unfolding byTurn commit
-adds-turn nb sh j x st carry block wait = adds _ refl
-adds-turn nb sh j x st carry block (long₁ n) = adds _ refl
-adds-turn nb sh j x st carry block (whole n) = adds-after (judged sh j (take n x)) _ (λ d. adds _ refl)
+  adds-all : (upto : ℕ) (a : Arrived) (next : Arriving) → next .used ≡ usedTo st upto
+      → Adds st carry block (ok (commit st carry block upto a next))
+  unfolding commit
+  adds-all upto a next e = adds _ (upto - st .held) e (omega arith) refl
 
-adds-over : (room nb : ℕ) (is : List Slot) (x : List ℕ) (st : Arriving) (carry block : List ℕ)
-    → Adds (st .used) (giveOver room nb is x st carry block)
-unfolding giveOver commit
-adds-over room nb [] x st carry block = adds _ refl
-adds-over room nb (i ∷ is) x st carry block =
-    adds-test (i .null) (adds _ refl)
-    (adds-turn nb (i .present .shape) (i .present .column) x st carry block (turnOf room (i .present .shape) x))
+  adds-part : (a : Arrived) (n : ℕ) (next : Arriving) → next .used ≡ st .used + n → Adds st carry block (parted st carry a n next)
+  adds-part a n next e = adds _ 0 e (omega arith) (sym (stored-none carry (st .held)))
 
-adds-in : (f : Phase) (r p : List ℕ) (nb : ℕ) (st : Arriving) (carry block : List ℕ) → Adds (st .used) (giveIn f r p nb st carry block)
-unfolding giveIn giveOpen giveLong commit
-adds-in Open r p nb st carry block =
-    let y = atHand st carry block in
-    adds-test (ltb (length y) nb) (adds _ refl)
-    (adds-over (length carry - nb) nb (slotsAt r p y (st .column)) (drop nb y) st carry block)
-adds-in Long r p nb st carry block =
-    adds-test (eqb (length block) 0) (adds _ (sym (add-zero (st .used))))
-    (adds-test (leb (st .left) (length block)) (adds _ refl) (adds _ refl))
-adds-in Closed r p nb st carry block = none _
+  adds-turn : (nb : ℕ) (sh : Shape) (j : ℕ) (x : List ℕ) (v : TurnSaid) → Adds st carry block (byTurn nb sh j x st carry block v)
+  unfolding byTurn
+  adds-turn nb sh j x wait = adds-all _ _ _ refl
+  adds-turn nb sh j x (long₁ n) = adds-all _ _ _ refl
+  adds-turn nb sh j x (whole n) = adds-after (judged sh j (take n x)) _ (λ d. adds-all _ _ _ refl)
 
-give-adds : (r p : List ℕ) (st : Arriving) (carry block : List ℕ) → Adds (st .used) (giveBlock r p st carry block)
-unfolding giveBlock givenFit
-give-adds r p st carry block =
-    adds-after (headCarry r p carry) _
-    (λ h. adds-test (isFit r p (h .columns) (h .nulls) st carry) (adds-in (st .phase) r p (h .nulls) st carry block) (none _))
+  adds-over : (room nb : ℕ) (is : List Slot) (x : List ℕ) → Adds st carry block (giveOver room nb is x st carry block)
+  unfolding giveOver
+  adds-over room nb [] x = adds-all _ _ _ refl
+  adds-over room nb (i ∷ is) x =
+      adds-test (i .null) (adds-all _ _ _ refl)
+      (adds-turn nb (i .present .shape) (i .present .column) x (turnOf room (i .present .shape) x))
+
+  adds-in : (f : Phase) (r p : List ℕ) (nb : ℕ) → Adds st carry block (giveIn f r p nb st carry block)
+  unfolding giveIn giveOpen giveLong
+  adds-in Open r p nb =
+      let y = atHand st carry block in
+      adds-test (ltb (length y) nb) (adds-all _ _ _ refl) (adds-over (length carry - nb) nb (slotsAt r p y (st .column)) (drop nb y))
+  adds-in Long r p nb =
+      adds-test (eqb (length block) 0) (adds-part _ _ _ (sym (add-zero (st .used))))
+      (adds-test (leb (st .left) (length block)) (adds-part _ _ _ refl) (adds-part _ _ _ refl))
+  adds-in Closed r p nb = none _
+
+  give-adds : (r p : List ℕ) → Adds st carry block (giveBlock r p st carry block)
+  unfolding giveBlock givenFit
+  give-adds r p =
+      adds-after (headCarry r p carry) _
+      (λ h. adds-test (isFit r p (h .columns) (h .nulls) st carry) (adds-in (st .phase) r p (h .nulls)) (none _))
+
+pub record Given (st : Arriving) (carry block : List ℕ) (x : Handed) : Type 0 where
+  pub used : x .0 .next .used ≡ st .used + x .0 .taken
+  pub few : ℕ
+  pub within : few ≤ x .0 .taken
+  pub left : x .1 ≡ stored (take few block) carry (st .held)
+
+pub give-given : (r p : List ℕ) (st : Arriving) (carry block : List ℕ) {x : Handed} → giveBlock r p st carry block ≡ ok x
+    → Given st carry block x
+give-given r p st carry block {x} e = go (giveBlock r p st carry block) (give-adds st carry block r p) e
+  where
+    go : (o : Outcome Handed) → Adds st carry block o → o ≡ ok x → Given st carry block x
+    go _ (adds y m h l c) f =
+        subst (Given st carry block) (same-ok f) (record { used = h; few = m; within = l; left = c })
+    go _ (none w) f = absurd (ok-not-refused (sym f))
 
 pub give-used : (r p : List ℕ) (st : Arriving) (carry block : List ℕ) {x : Handed} → giveBlock r p st carry block ≡ ok x
     → x .0 .next .used ≡ st .used + x .0 .taken
-give-used r p st carry block {x} e = go (giveBlock r p st carry block) (give-adds r p st carry block) e
-  where
-    go : (o : Outcome Handed) → Adds (st .used) o → o ≡ ok x → x .0 .next .used ≡ st .used + x .0 .taken
-    go _ (adds y h) f = subst (λ (z : Handed). z .0 .next .used ≡ st .used + z .0 .taken) (same-ok f) h
-    go _ (none w) f = absurd (ok-not-refused (sym f))
+give-used r p st carry block e = give-given r p st carry block e .used
+
+-- a call that went well was lent a fit state, and left as many bytes as it was lent
+held-fits : {K : Type 0} {r p carry : List ℕ} {st : Arriving} → Left K r p carry st → st .held ≤ length carry
+held-fits (open-left column held used q) = q .fits
+held-fits (long-left column held left used q) = q .fits
+
+pub give-sized : (r p : List ℕ) (st : Arriving) (carry block : List ℕ) {x : Handed} → giveBlock r p st carry block ≡ ok x
+    → (length (x .1) ≡ length carry) × (st .held ≤ length carry)
+unfolding giveBlock givenFit
+give-sized r p st carry block {x} e =
+    let a = after-is-ok (headCarry r p carry) _ x e in
+    let t = carry-tested r p carry (a .1) in
+    by-test (isFit r p (a .0 .columns) (a .0 .nulls) st carry) _ _ _ (a .2) (λ u f.
+    let o : Over r p = record { valid = t .valid; bits = t .presence } in
+    let n : a .0 .nulls ≡ nullBytes r p = t .bits ∙ ap (λ (k : ℕ). bytesFor (countBits p k)) (t .count) in
+    let g : isFit r p (countOf r) (nullBytes r p) st carry ≡ true =
+    subst (λ (k : ℕ). isFit r p k (nullBytes r p) st carry ≡ true) (t .count)
+    (subst (λ (k : ℕ). isFit r p (a .0 .columns) k st carry ≡ true) n u) in
+    let l = fit-left r p carry o (t .least) st g in
+    ((rw e at (give-leaves ⊥ r p carry block (λ k. absurd k) l (fit-room r p carry o (t .least) st g))) .0, held-fits l))
+    (λ u f. absurd (ok-not-refused (sym f)))
 
 -- ---- the end tells the bytes used
 end-over : (is : List Slot) (used u : ℕ) → endOver is used ≡ ok u → u ≡ used
@@ -143,7 +184,7 @@ pub came-left : (r p : List ℕ) {st : Arriving} {carry : List ℕ} → Over r p
 came-left r p u (begins carry h b) = begun-left (Unit {0}) r p carry u h (λ k. b)
 came-left r p u (gives st carry block g c w b e) =
     let l = came-left r p u w in
-    rw e at (give-leaves (Unit {0}) r p carry block (λ k. b) l (spent-room (Unit {0}) r p carry tt l))
+    (rw e at (give-leaves (Unit {0}) r p carry block (λ k. b) l (spent-room (Unit {0}) r p carry tt l))) .1
 
 pub came-fit : (r p : List ℕ) {st : Arriving} {carry : List ℕ} → Over r p → Came r p st carry
     → isFit r p (countOf r) (nullBytes r p) st carry ≡ true

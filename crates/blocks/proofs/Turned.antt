@@ -1,29 +1,26 @@
 -- What the bytes at hand say of a value stays so when more come. Assumes nothing.
-use Prim.Native.Nat.{ℕ, _+_, _-_, _≤_, _<_}
-use mathlib.Core.Path.{_≡_, refl, sym, ap, subst, _∙_}
-use mathlib.Core.Bool.{Bool, true, false, cond, _&&_, true≢false}
-use mathlib.Core.Logic.{dite}
-use mathlib.Core.List.{List, [], _∷_, _++_}
-use native.Mathlib.Decide.{decLe}
+use Prim.Native.Nat.{ℕ, _+_, _≤_, _<_}
+use mathlib.Core.Path.{_≡_, sym, ap, subst, _∙_}
+use mathlib.Core.Bool.{true, false}
+use mathlib.Core.List.{List, _++_}
 use native.Mathlib.Omega.{arith}
-use borrow.Author.Tests.{le-leb, lt-leb, leb-true, leb-false, lt-ltb, le-ltb, ltb-true, ltb-false}
+use borrow.Author.Tests.{le-leb, leb-true, lt-ltb, ltb-true, ltb-false}
 use lib.ListN.{length, take, drop, length-append, length-take, take-append-drop}
-use lib.Seq.{take-append-le, length-take-le}
+use lib.Seq.{length-take-le}
 use lib.Dec.{leb, ltb, eqb}
-use Rattle.wire.specs.Outcome.{Outcome, ok, refused, refuse, after, outOf}
+use Rattle.wire.specs.Outcome.{ok, after, outOf}
 use Rattle.wire.proofs.Outcomes.{both-true, test-is-ok}
 use Rattle.value.specs.declared.shape.Shape.{Shape}
 use Rattle.value.specs.declared.shape.Shape.the-variants.{Unsigned, Signed, FloatBits, DoubleBits, YearByte, Timed, Fixed, Counted}
 use Rattle.value.specs.declared.shape.Shape.the-variants.{NotTaken}
 use Rattle.value.specs.Data.{Datum}
 use Rattle.value.specs.Columns.{isTaken}
-use Rattle.value.specs.Shapes.{need, decode, fault}
+use Rattle.value.specs.Shapes.{need, decode, fault, prefix}
 use Rattle.value.specs.Inner.Shapes.{Sized}
-use Rattle.value.specs.Reading.{taken, cut, judged, readDatum, placed, datumOf}
+use Rattle.value.specs.Reading.{cut, judged, readDatum, placed, datumOf}
 use Rattle.value.proofs.Facts.{need-take, said}
 use Rattle.value.proofs.Laws.{taken-at}
-use Rattle.value.specs.Shapes.{prefix}
-use Rattle.value.proofs.Appends.{prefix-within, need-front, need-more, cut-more}
+use Rattle.value.proofs.Appends.{need-front, need-more, cut-more}
 use Rattle.blocks.specs.Turns.{tooLong}
 
 -- ---- too long

@@ -1,18 +1,18 @@
 -- What the functions of the Open phase answer, and what they ask, by what they find. Assumes nothing.
 use Prim.Native.Nat.{ℕ, _+_, _-_, _≤_, _<_}
 use mathlib.Core.Path.{_≡_, refl, sym, ap, subst, _∙_}
-use mathlib.Core.Bool.{Bool, true, false, cond, true≢false}
+use mathlib.Core.Bool.{Bool, true, false, cond}
 use mathlib.Core.Logic.{dite}
 use mathlib.Core.List.{List, [], _∷_, _++_, append-nil}
 use native.Mathlib.Nat.{add-zero}
 use native.Mathlib.Decide.{decLe}
 use native.Mathlib.Omega.{arith}
-use borrow.Author.Tests.{le-leb, lt-leb, eq-eqb, ne-eqb, lt-ltb, le-ltb, ltb-true, ltb-false}
+use borrow.Author.Tests.{le-leb, lt-leb, eq-eqb, ne-eqb, lt-ltb, le-ltb}
 use types.Run.{OneOf, miss}
 use denote.Enum.Declared.{tagOf}
-use lib.ListN.{length, take, drop, length-append, length-drop, length-take, take-append-drop}
-use lib.Seq.{length-take-le, take-add, drop-at, take-length, take-append-le, drop-append-le, take-take, drop-drop}
-use lib.Dec.{leb, ltb, eqb}
+use lib.ListN.{length, take, drop, length-append, length-drop, take-append-drop}
+use lib.Seq.{length-take-le, take-add, drop-at, take-append-le, take-take}
+use lib.Dec.{eqb}
 use Rattle.wire.specs.declared.refusal.Refusal.{Refusal}
 use Rattle.wire.specs.Outcome.{Outcome, ok, refused, after, outOf}
 use Rattle.wire.specs.Stored.{stored, answerOf, leftOf}
@@ -28,9 +28,8 @@ use Rattle.value.specs.declared.column.Column.{Column}
 use Rattle.value.specs.declared.datum.Value.{Value}
 use Rattle.value.proofs.shape.Shape.{the-type as shape-type}
 use Rattle.value.specs.Data.{Datum, temporal}
-use Rattle.value.specs.Columns.{shapeOf, isTaken}
-use Rattle.value.specs.Shapes.{need, decode, fault}
-use Rattle.value.specs.Shapes.{prefix}
+use Rattle.value.specs.Columns.{shapeOf}
+use Rattle.value.specs.Shapes.{need, decode, fault, prefix}
 use Rattle.value.specs.Reading.{judged, readDatum, readValue, placed}
 use Rattle.value.proofs.Facts.{need-take}
 use Rattle.value.proofs.Laws.{reads}
@@ -38,16 +37,15 @@ use Rattle.value.proofs.Tables.{sized}
 use Rattle.value.proofs.Appends.{prefix-within, need-more}
 use Rattle.blocks.specs.declared.state.Arriving.{Arriving}
 use Rattle.blocks.specs.declared.state.Arrival.{Arrival}
-use Rattle.blocks.specs.declared.state.Arrival.the-variants.{More, Null, Value as Value₁, Long, Part, End, Refused}
+use Rattle.blocks.specs.declared.state.Arrival.the-variants.{More, Value as Value₁, Part, Refused}
 use Rattle.blocks.specs.declared.state.Given.{Given}
 use Rattle.blocks.specs.declared.turn.Turn.{Turn}
-use Rattle.blocks.specs.declared.turn.Turn.the-variants.{Wait, Long as Long₁, Whole}
-use Rattle.blocks.specs.States.{opened, longed, Arrived, more, null, value, long, part, end, BlockGiven, arrivalOf, shutWith, givenOf}
+use Rattle.blocks.specs.States.{opened, longed, Arrived, value, long, arrivalOf, shutWith, givenOf}
 use Rattle.blocks.specs.Turns.{TurnSaid, wait, long as long₁, whole, tooLong, turnOf}
-use Rattle.blocks.specs.Gives.{Handed, commit, usedTo, waiting, byTurn, atHand, giveOpen, giveLong}
+use Rattle.blocks.specs.Gives.{Handed, commit, usedTo, waiting, byTurn, giveLong}
 use Rattle.blocks.specs.Inner.Hands.{Heads, turnBy, turnTold, valueOver, tookBy, standing, longing, Holds, Wholes}
-use Rattle.blocks.proofs.Carries.{carried, Within, carried-length, carried-before}
-use Rattle.blocks.proofs.Turned.{TooLong, is-long, not-long, prefix-most, read-whole}
+use Rattle.blocks.proofs.Carries.{carried, carried-length, carried-before}
+use Rattle.blocks.proofs.Turned.{is-long, not-long, prefix-most, read-whole}
 use Rattle.blocks.proofs.Hands.{heads-take, turn-head}
 
 -- ---- answers that take bytes up to `upto`

@@ -1,33 +1,28 @@
 -- What is to come from the first state, long values joined, is the walk. Assumes nothing.
-use Prim.Native.Nat.{ℕ, zero, suc, _+_, _*_, _-_, _≤_, _<_}
-use mathlib.Core.Path.{_≡_, refl, sym, ap, subst, _∙_}
-use mathlib.Core.Bool.{true}
+use Prim.Native.Nat.{ℕ, _+_, _-_, _≤_}
+use mathlib.Core.Path.{_≡_, sym, ap, _∙_}
 use mathlib.Core.Logic.{dite}
-use mathlib.Core.List.{List, [], _∷_, _++_}
-use native.Mathlib.Nat.{zero-add}
+use mathlib.Core.List.{List}
 use native.Mathlib.Decide.{decLe}
 use native.Mathlib.Omega.{arith}
 use borrow.Author.Tests.{lt-ltb, le-ltb}
 use lib.ListN.{length, take, drop, take-append-drop}
 use lib.Seq.{length-take-le}
-use Rattle.wire.specs.Outcome.{refuse}
-use Rattle.wire.specs.Bits.{bytesFor, bitLsb0}
-use Rattle.value.specs.Shapes.{need}
+use Rattle.wire.specs.Bits.{bytesFor}
 use Rattle.record.specs.Entries.{columnOf}
 use Rattle.record.specs.Records.{countOf, entryIn}
-use Rattle.image.specs.Present.{Present, shapeAt, countBits, present}
-use Rattle.image.specs.Split.{Slot, slots, slotsAt}
-use Rattle.image.specs.Walk.{RowWalked, walkImage, readSlots}
+use Rattle.image.specs.Present.{shapeAt, present}
+use Rattle.image.specs.Split.{slots, slotsAt}
+use Rattle.image.specs.Walk.{walkImage}
 use Rattle.image.proofs.CursorLaws.Heads.{Over, nullBytes}
-use Rattle.image.proofs.StepLaws.Splits.{Each, Good}
+use Rattle.image.proofs.StepLaws.Splits.{Each}
 use Rattle.image.proofs.PresenceLaws.Presents.{present-length, each-from, good-present, slots-front, slots-all}
 use Rattle.image.proofs.EndLaws.Images.{walk-short}
 use Rattle.value.proofs.Narrows.{narrow}
 use Rattle.image.proofs.AppendLaws.GrownWalks.{walk-cut}
-use Rattle.blocks.specs.States.{opened, begun}
-use Rattle.blocks.specs.Streams.{Stream, stopped}
+use Rattle.blocks.specs.States.{begun}
 use Rattle.blocks.specs.Joins.{joinPieces, joined}
-use Rattle.blocks.specs.Inner.Futures.{streamSlots, futureIn, future}
+use Rattle.blocks.specs.Inner.Futures.{future}
 use Rattle.blocks.proofs.Ons.{from, future-from}
 use Rattle.blocks.proofs.Joins.{Roomy, joined-read}
 

@@ -1,16 +1,16 @@
 -- Document 01's worked image in blocks, cut at every place. Computed on the definitions. Assumes nothing.
 use Prim.Native.Nat.{ℕ, zero, suc}
 use mathlib.Core.Path.{_≡_, refl}
-use mathlib.Core.Bool.{true, false}
+use mathlib.Core.Bool.{false}
 use mathlib.Core.List.{List, [], _∷_, _++_, map}
-use lib.IntN.{pos, negsuc}
+use lib.IntN.{negsuc}
 use lib.ListN.{take, drop, replicate}
 use Rattle.wire.specs.Outcome.{Outcome, ok, refused, refuse}
 use Rattle.wire.specs.Number.{leValue}
 use Rattle.wire.specs.Signed.{signedOf}
 use Rattle.wire.specs.Stored.{stored}
 use Rattle.wire.specs.Bits.{digit, bitLsb0}
-use Rattle.value.specs.Data.{Datum, null, int, uint, bytes}
+use Rattle.value.specs.Data.{null, int, uint, bytes}
 use Rattle.value.specs.Types.{familyOf, isNumeric}
 use Rattle.value.specs.Classes.{isCharacter, isEnumOrSet}
 use Rattle.value.specs.Columns.{shapeIn, shapeOf, isTaken}
@@ -21,15 +21,13 @@ use Rattle.record.specs.Records.{countOf, entryIn, entriesHold, headHolds, reco
 use Rattle.image.specs.Present.{countBits, shapeAt, presentFrom}
 use Rattle.image.specs.Split.{slots, slotsAt, headOf}
 use Rattle.image.specs.Room.{mostOfAll, imageRoom}
-use Rattle.blocks.specs.declared.state.Phase.{Phase}
-use Rattle.blocks.specs.declared.state.Phase.the-variants.{Open}
 use Rattle.blocks.specs.declared.state.Arriving.{Arriving}
-use Rattle.blocks.specs.States.{opened, begun, Arrived, more, null as null₁, value, long, part, end, BlockGiven}
+use Rattle.blocks.specs.States.{opened, begun, Arrived, more, null as null₁, value, long, part, end}
 use Rattle.blocks.specs.Turns.{tooLong, turnOf}
 use Rattle.blocks.specs.Fits.{waits, isLong, fitsIn, isCounted, isFit}
 use Rattle.blocks.specs.Gives.{Handed, commit, byTurn, giveOver, giveOpen, giveLong, giveIn, givenFit, headCarry, giveBlock}
 use Rattle.blocks.specs.Ends.{endOver, endIn, endedFit}
-use Rattle.blocks.specs.Streams.{Piece, datum, size, byte, Stream, stopped, with, bytePieces, told}
+use Rattle.blocks.specs.Streams.{datum, size, byte, Stream, stopped, with, bytePieces}
 use Rattle.blocks.specs.Inner.Futures.{streamLong, streamSlots, futureIn, future}
 
 abbrev profile : List ℕ

@@ -4,8 +4,7 @@ use mathlib.Core.Bool.{Bool, false, cond, _&&_, _||_, not}
 use mathlib.Core.List.{List, [], _∷_}
 use lib.ListN.{length, take, drop}
 use lib.Dec.{leb, ltb, eqb}
-use Rattle.value.specs.Shapes.{need}
-use Rattle.value.specs.Shapes.{prefix}
+use Rattle.value.specs.Shapes.{need, prefix}
 use Rattle.image.specs.Split.{Slot, slotsAt}
 use Rattle.image.specs.Room.{imageRoom}
 use Rattle.blocks.specs.declared.state.Phase.{Phase}

@@ -5,7 +5,7 @@ use mathlib.Core.Bool.{Bool, true, false}
 use mathlib.Core.List.{List, [], _∷_, _++_}
 use lib.ListN.{length, drop}
 use Rattle.wire.specs.declared.refusal.Refusal.{Refusal}
-use Rattle.wire.specs.Outcome.{Outcome, ok, refused}
+use Rattle.wire.specs.Outcome.{ok, refused}
 use Rattle.wire.specs.Number.{Bytes}
 use Rattle.blocks.specs.declared.state.Arriving.{Arriving}
 use Rattle.blocks.specs.States.{begun, Arrived, more, null, value, long, part, end, BlockGiven}

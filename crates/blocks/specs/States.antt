@@ -1,6 +1,5 @@
 -- What a call leaves for the next, and what it answers. Assumes nothing.
 use Prim.Native.Nat.{ℕ}
-use Rattle.wire.specs.declared.refusal.Refusal.{Refusal}
 use Rattle.wire.specs.Outcome.{Outcome, ok, refused}
 use Rattle.value.specs.declared.datum.Value.{Value}
 use Rattle.blocks.specs.declared.state.Phase.the-variants.{Open, Long, Closed}

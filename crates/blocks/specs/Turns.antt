@@ -6,8 +6,7 @@ use mathlib.Core.List.{List}
 use lib.ListN.{length}
 use lib.Dec.{leb, ltb}
 use Rattle.value.specs.declared.shape.Shape.{Shape}
-use Rattle.value.specs.Shapes.{need}
-use Rattle.value.specs.Shapes.{prefix}
+use Rattle.value.specs.Shapes.{need, prefix}
 
 pub data TurnSaid : Type 0 where
   wait : TurnSaid

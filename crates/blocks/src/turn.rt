@@ -5,8 +5,7 @@ ghost use mathlib.Core.Path.{_≡_};
 ghost use mathlib.Core.Bool.{_&&_};
 ghost use Prim.Native.Nat.{_≤_};
 ghost use lib.Dec.{leb, ltb};
-ghost use Rattle.value.specs.Shapes.{need};
-ghost use Rattle.value.specs.Shapes.{prefix};
+ghost use Rattle.value.specs.Shapes.{need, prefix};
 ghost use Rattle.value.specs.Inner.Shapes.{Sized};
 ghost use Rattle.blocks.specs.Inner.Hands.{turnBy, turnTold};
 

@@ -1,6 +1,6 @@
 -- Request 10: images as they arrive. "Take the image as successive blocks and give the same values, places and end state as one block
 -- would, however it is cut." `blocks` in proofs/Blocks.antt proves it. Assumes nothing.
-use Prim.Native.Nat.{ℕ, _+_, _≤_, _<_}
+use Prim.Native.Nat.{ℕ, _+_, _-_, _≤_, _<_}
 use mathlib.Core.Path.{_≡_}
 use mathlib.Core.Bool.{true}
 use mathlib.Core.List.{List, _++_}
@@ -9,14 +9,15 @@ use Rattle.wire.specs.declared.refusal.Refusal.{Refusal}
 use Rattle.wire.specs.Outcome.{Outcome, ok, refused, refuse}
 use Rattle.wire.specs.Number.{Bytes}
 use Rattle.wire.specs.Bits.{bytesFor}
+use Rattle.value.specs.Shapes.{prefix}
 use Rattle.record.specs.Records.{countOf}
-use Rattle.image.specs.Present.{countBits, present}
+use Rattle.image.specs.Present.{countBits, shapeAt, present}
 use Rattle.image.specs.Split.{headOf}
 use Rattle.image.specs.Walk.{walkImage}
 use Rattle.image.specs.Rows.{Row, inDomains, rowBytes, answersOf, Marks, Says}
 use Rattle.blocks.specs.declared.state.Phase.the-variants.{Closed}
 use Rattle.blocks.specs.declared.state.Arriving.{Arriving}
-use Rattle.blocks.specs.States.{begun, closed, givenOf, endedOf}
+use Rattle.blocks.specs.States.{begun, closed, Arrived, more, null, value, long, part, end, BlockGiven, givenOf, endedOf}
 use Rattle.blocks.specs.Fits.{isFit}
 use Rattle.blocks.specs.Gives.{giveBlock, beginBlocks}
 use Rattle.blocks.specs.Ends.{endBlocks}
@@ -29,6 +30,19 @@ use Rattle.promises.specs.RowPlans.{Under}
 pub record Lent (carry : List ℕ) : Type 0 where
   pub room : 1024 ≤ length carry
   pub bytes : Bytes carry
+
+-- a value that is told as long takes more than the room, its length bytes counted
+abbrev pub NoRoom : List ℕ → ℕ → Arrived → Type 0
+NoRoom profile room more = Unit {0}
+NoRoom profile room (null j) = Unit {0}
+NoRoom profile room (value j v) = Unit {0}
+NoRoom profile room (long j n) = room < prefix (shapeAt profile j) + n
+NoRoom profile room (part j n) = Unit {0}
+NoRoom profile room (end used) = Unit {0}
+
+-- how many bytes the null bits take
+abbrev pub nullsOf : List ℕ → List ℕ → ℕ
+nullsOf profile presence = bytesFor (countBits presence (countOf profile))
 
 pub record Blocks : Type 0 where
   -- ---- for every record, presence, carry and list of blocks: each given until `More` or `End`, and then the end call
@@ -62,6 +76,11 @@ pub record Blocks : Type 0 where
   -- "only that call can give 9"
   pub only-end-9 : (profile presence : List ℕ) (st : Arriving) (carry block : List ℕ) (w : Refusal)
       → giveBlock profile presence st carry block ≡ refused w → w .number ≡ 9 → ⊥
+  -- "A value whose stored size exceeds the room behind the null bits is given as its length and then parts": no other is, so that all other
+  -- values are handed over in the carry
+  pub long-over : (profile presence : List ℕ) (st : Arriving) (carry block : List ℕ) (g : BlockGiven) (left : List ℕ)
+      → giveBlock profile presence st carry block ≡ ok (g, left)
+      → NoRoom profile (length carry - nullsOf profile presence) (g .arrival)
   -- "20 if the carry buffer is under 1,024 bytes, tested after 11 and 12"
   pub tests-first : (profile presence : List ℕ) (st : Arriving) (carry block : List ℕ) (w : Refusal) → headOf profile presence ≡ refused w
       → (giveBlock profile presence st carry block ≡ refused w) × (endBlocks profile presence st carry ≡ refused w)
@@ -78,7 +97,7 @@ pub record Blocks : Type 0 where
   -- "or with a made-up state that docs/ lists as unfit, never one a call left": a state that calls left is fit under the record, the
   -- presence and the carry as they left them
   pub left-fit : (profile presence : List ℕ) (st : Arriving) (carry : List ℕ) → Under profile presence → Came profile presence st carry
-      → isFit profile presence (countOf profile) (bytesFor (countBits presence (countOf profile))) st carry ≡ true
+      → isFit profile presence (countOf profile) (nullsOf profile presence) st carry ≡ true
   -- so with what the call before left a call is never 21: give refuses with 10 alone, and the end with 9 alone
   pub left-gives : (profile presence : List ℕ) (st : Arriving) (carry block : List ℕ) (w : Refusal) → Under profile presence
       → Came profile presence st carry → giveBlock profile presence st carry block ≡ refused w → w .number ≡ 10

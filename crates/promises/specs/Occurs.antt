@@ -37,7 +37,7 @@ use Rattle.image.specs.Split.{cursor, headOf, firstCursor, stepFrom}
 use Rattle.image.specs.Walk.{walkImage}
 use Rattle.image.specs.Puts.{startImage, putFrom}
 use Rattle.image.specs.Room.{readRoom}
-use Rattle.blocks.specs.States.{opened, begun, closed}
+use Rattle.blocks.specs.States.{opened, longed, begun, closed}
 use Rattle.blocks.specs.Gives.{giveBlock, beginBlocks}
 use Rattle.blocks.specs.Ends.{endBlocks}
 use Rattle.row_plan.specs.Plan.{rowCursor, makePlan, planStep}
@@ -94,6 +94,10 @@ fieldsCursor o = record { at = o; numeric = 0; columns = 0 }
 -- a record without columns, and one of a TINYINT and a DATE
 abbrev pub emptyRecord : List ℕ
 emptyRecord = 6 ∷ 0 ∷ 1 ∷ 0 ∷ 0 ∷ 0 ∷ []
+
+-- a BLOB
+abbrev pub oneBlob : List ℕ
+oneBlob = 12 ∷ 0 ∷ 1 ∷ 0 ∷ 1 ∷ 0 ∷ 252 ∷ 8 ∷ 2 ∷ 0 ∷ 63 ∷ 0 ∷ []
 
 abbrev pub twoColumns : List ℕ
 twoColumns = 18 ∷ 0 ∷ 1 ∷ 0 ∷ 2 ∷ 0 ∷ 1 ∷ 8 ∷ 0 ∷ 0 ∷ 0 ∷ 0 ∷ 14 ∷ 8 ∷ 0 ∷ 0 ∷ 0 ∷ 0 ∷ []
@@ -237,6 +241,7 @@ pub record Occurs : Type 0 where
       × (endBlocks twoColumns onlySecond begun (zeros 1023) ≡ refuse 20 0)
       × (endBlocks twoColumns onlySecond closed (zeros 1024) ≡ refuse 21 0)
       × (endBlocks twoColumns onlySecond begun (zeros 1024) ≡ refuse 9 0)
+      × (endBlocks oneBlob onlyFirst (longed 0 3 1 3) (0 ∷ (0 ∷ (4 ∷ zeros 1021))) ≡ refuse 9 0)
       × (endBlocks twoColumns onlySecond (opened 0 1 1) (zeros 1024) ≡ refuse 9 1)
   -- ---- `row_plan`
   pub make-plan : (makePlan [] [] [] ≡ refuse 11 0)

@@ -291,7 +291,7 @@ pub record EveryCall : Type 1 where
   -- `Arriving::end`: 9 at 0 in the null bits, and else at one of the record's columns
   pub end-blocks : (profile presence : List ℕ) (st : Arriving) (carry : List ℕ)
       → Only (endBlocks profile presence st carry)
-      (11 at 0 ∷ 12 at 0 ∷ 20 at 0 ∷ 21 at 0 ∷ 9 at 0 ∷ 9 at st .column ∷ 9 below countOf profile ∷ [])
+      (11 at 0 ∷ 12 at 0 ∷ 20 at 0 ∷ 21 at 0 ∷ 9 at 0 ∷ 9 below countOf profile ∷ [])
   -- ---- `row_plan`
   -- `make_plan`
   pub make-plan : (profile presence buf : List ℕ) → Only (makePlan profile presence buf) (11 at 0 ∷ 12 at 0 ∷ 8 at 0 ∷ [])

@@ -6,15 +6,14 @@ use lib.ListN.{length, take, drop}
 use lib.Dec.{leb, ltb}
 use Rattle.wire.specs.Outcome.{Outcome, ok, refused, refuse}
 use Rattle.value.specs.Data.{Datum, null}
-use Rattle.value.specs.Shapes.{need}
-use Rattle.value.specs.Shapes.{prefix}
+use Rattle.value.specs.Shapes.{need, prefix}
 use Rattle.value.specs.Reading.{readDatum}
 use Rattle.image.specs.Split.{Slot, slotsAt}
 use Rattle.blocks.specs.declared.state.Phase.{Phase}
 use Rattle.blocks.specs.declared.state.Phase.the-variants.{Open, Long, Closed}
 use Rattle.blocks.specs.declared.state.Arriving.{Arriving}
 use Rattle.blocks.specs.Turns.{tooLong}
-use Rattle.blocks.specs.Streams.{Piece, datum, size, Stream, stopped, with, bytePieces}
+use Rattle.blocks.specs.Streams.{datum, size, Stream, stopped, with, bytePieces}
 
 -- the rest of a long value, `left` bytes, and then what goes on behind it
 unfoldable pub streamLong : ℕ → ℕ → (List ℕ → ℕ → Stream) → List ℕ → ℕ → Stream

@@ -1,10 +1,10 @@
 -- The refusals of images in blocks. Assumes nothing.
 use Prim.Native.Nat.{ℕ, _+_, _-_, _≤_, _<_}
 use mathlib.Core.Path.{_≡_, refl, sym, subst}
-use mathlib.Core.Bool.{Bool, true, false, cond}
+use mathlib.Core.Bool.{Bool, true, false, cond, true≢false}
 use mathlib.Core.List.{List, [], _∷_}
 use native.Mathlib.Omega.{arith}
-use borrow.Author.Tests.{leb-true}
+use borrow.Author.Tests.{leb-true, eqb-true}
 use lib.ListN.{length, take, drop}
 use lib.Dec.{leb, ltb, eqb}
 use Rattle.wire.specs.Outcome.{Outcome, ok, refused, refuse, why}
@@ -21,7 +21,7 @@ use Rattle.blocks.specs.declared.state.Phase.{Phase}
 use Rattle.blocks.specs.declared.state.Phase.the-variants.{Open, Long, Closed}
 use Rattle.blocks.specs.declared.state.Arriving.{Arriving}
 use Rattle.blocks.specs.Turns.{TurnSaid, wait, long, whole, turnOf}
-use Rattle.blocks.specs.Fits.{isFit, isCounted, fitsIn}
+use Rattle.blocks.specs.Fits.{isLong, fitsIn, isCounted, isFit}
 use Rattle.blocks.specs.Gives.{byTurn, giveOver, atHand, giveOpen, giveLong, giveIn, givenFit, headCarry, giveBlock, beginBlocks}
 use Rattle.blocks.specs.Ends.{endOver, endIn, endedFit, endBlocks}
 use Rattle.promises.specs.Refusals.{Line, OneOf}
@@ -99,21 +99,42 @@ ended-listed r nine [] used f = done _
 ended-listed r nine (i ∷ is) used f =
     test (i .null) (λ u. ended-listed r nine is used (f .1)) (λ u. stop (nine (i .present .column) (f .0 .column)))
 
+-- a long value's column is one of the record's
+long-column : (r : List ℕ) (room j left : ℕ) (is : List Slot) (x : List ℕ) → EachSlot (Fine r) is → isLong room j left is x ≡ true
+    → j < countOf r
+unfolding isLong EachSlot
+long-column r room j left [] x f e = absurd (true≢false (sym e))
+long-column r room j left (i ∷ is) x f e =
+    subst (λ (k : ℕ). k < countOf r) (eqb-true (i .present .column) j (both-true (eqb (i .present .column) j) _ e .0)) (f .0 .column)
+
+fit-long : (r p : List ℕ) (n nb : ℕ) (st : Arriving) (carry : List ℕ) → isFit r p n nb st carry ≡ true → st .phase ≡ Long
+    → ((y : List ℕ) → EachSlot (Fine r) (slotsAt r p y (st .column))) → st .column < countOf r
+unfolding isFit fitsIn
+fit-long r p n nb st carry e h f =
+    let y = take (st .held) carry in
+    let a : fitsIn (st .phase) r p nb st carry ≡ true = both-true (isCounted r p n (length carry) st) _ e .1 in
+    let b : fitsIn Long r p nb st carry ≡ true = subst (λ (q : Phase). fitsIn q r p nb st carry ≡ true) h a in
+    long-column r (length carry - nb) (st .column) (st .left) (slotsAt r p y (st .column)) (drop nb y) (f y)
+    (both-true (leb nb (st .held)) _ b .1)
+
 pub blocks-ended : {ls : List Line} (r p : List ℕ) (st : Arriving) (carry : List ℕ) → OneOf ls (why 11 0) → OneOf ls (why 12 0)
-    → OneOf ls (why 20 0) → OneOf ls (why 21 0) → OneOf ls (why 9 0) → OneOf ls (why 9 (st .column))
-    → ((j : ℕ) → j < countOf r → OneOf ls (why 9 j)) → Listed ls (endBlocks r p st carry)
+    → OneOf ls (why 20 0) → OneOf ls (why 21 0) → OneOf ls (why 9 0) → ((j : ℕ) → j < countOf r → OneOf ls (why 9 j))
+    → Listed ls (endBlocks r p st carry)
 unfolding endBlocks endedFit endIn
-blocks-ended {ls} r p st carry eleven twelve twenty unfit none here nine =
+blocks-ended {ls} r p st carry eleven twelve twenty unfit none nine =
     chain (headCarry r p carry) _ (carry-read r p carry eleven twelve twenty) (λ h e.
     let t = head-tested r p (carry-head r p carry e) in
     test (isFit r p (h .columns) (h .nulls) st carry)
-    (λ u. go (st .phase) (h .nulls)
-    (λ y. slots-fine r p y (st .column) (t .valid) (omega (arith, fit-among r p (h .columns) (h .nulls) st carry u, t .columns))))
+    (λ u.
+    let f : (y : List ℕ) → EachSlot (Fine r) (slotsAt r p y (st .column)) =
+    λ y. slots-fine r p y (st .column) (t .valid) (omega (arith, fit-among r p (h .columns) (h .nulls) st carry u, t .columns)) in
+    go (st .phase) (h .nulls) f (λ k. fit-long r p (h .columns) (h .nulls) st carry u k f))
     (λ u. stop unfit))
   where
-    go : (f : Phase) (nb : ℕ) → ((y : List ℕ) → EachSlot (Fine r) (slotsAt r p y (st .column))) → Listed ls (endIn f r p nb st carry)
-    go Open nb f =
+    go : (f : Phase) (nb : ℕ) → ((y : List ℕ) → EachSlot (Fine r) (slotsAt r p y (st .column))) → (f ≡ Long → st .column < countOf r)
+        → Listed ls (endIn f r p nb st carry)
+    go Open nb f l =
         let y = take (st .held) carry in
         test (ltb (st .held) nb) (λ u. stop none) (λ u. ended-listed r nine (slotsAt r p y (st .column)) (st .used) (f y))
-    go Long nb f = stop here
-    go Closed nb f = stop unfit
+    go Long nb f l = stop (nine (st .column) (l refl))
+    go Closed nb f l = stop unfit

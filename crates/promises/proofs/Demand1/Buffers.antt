@@ -2,11 +2,11 @@
 use Prim.Native.Nat.{ℕ, zero, suc, _+_, _-_, _*_, _/_, _≤_}
 use mathlib.Core.Path.{_≡_, refl, sym, ap, subst, _∙_}
 use mathlib.Core.Bool.{Bool, true, false, cond}
-use mathlib.Core.List.{List, [], _∷_}
+use mathlib.Core.List.{List, [], _∷_, _++_}
 use native.Mathlib.Omega.{arith}
 use borrow.Author.Tests.{leb-true, eqb-true}
-use lib.ListN.{length, drop, getD}
-use lib.Seq.{drop-drop, drop-append-seam}
+use lib.ListN.{length, take, drop, getD, length-append, length-take}
+use lib.Seq.{length-take-le, drop-drop, drop-append-seam}
 use lib.Dec.{leb, ltb, eqb}
 use Rattle.wire.specs.Outcome.{Outcome, ok, refused, why}
 use Rattle.wire.specs.Stored.{stored, store}
@@ -32,6 +32,10 @@ use Rattle.image.specs.Puts.{filled, headNulls, startImage, slotBytes, putOver,
 use Rattle.image.proofs.PutLaws.Fills.{fill-length}
 use Rattle.image.proofs.CursorLaws.Heads.{nulls-tested}
 use Rattle.image.proofs.PutLaws.Puts.{nulls-size}
+use Rattle.blocks.specs.declared.state.Arriving.{Arriving}
+use Rattle.blocks.specs.States.{BlockGiven}
+use Rattle.blocks.specs.Gives.{giveBlock}
+use Rattle.blocks.proofs.Taken.{give-given, give-sized}
 use Rattle.row_plan.specs.declared.row.RowCursor.{RowCursor}
 use Rattle.row_plan.specs.Plan.{planOf, makePlan, rowCursor, RowStepped, null, value, end, planStep}
 use Rattle.row_plan.specs.Runs.{movedBy, valueNumbers, turned, isOver, RowRan, ran, runOn, runFrom, runAnswer, readRun}
@@ -132,6 +136,33 @@ puts r p nulls c lent v buf next left e =
     let a = after-is-ok (headNulls r p nulls) _ (next, left) e in
     by-test (ltb (a .0 .columns) (c .column)) _ _ _ (a .2) (λ u f. absurd (ok-not-refused (sym f)))
     (λ u f. put-over (slotsAt r p nulls (c .column)) c lent v buf next left f)
+
+-- ---- a block
+-- bytes that were stored without the buffer getting longer had room
+stored-fits : (buf : List ℕ) (o : ℕ) (bytes : List ℕ) → o ≤ length buf → length (stored bytes buf o) ≡ length buf
+    → o + length bytes ≤ length buf
+unfolding stored
+stored-fits buf o bytes h e =
+    let rest = drop (o + length bytes) buf in
+    omega (arith, e, length-append (take o buf) (bytes ++ rest), length-append bytes rest, length-take-le o buf h)
+
+gives : (r p : List ℕ) (st : Arriving) (carry block : List ℕ) (g : BlockGiven) (left : List ℕ) → giveBlock r p st carry block ≡ ok (g, left)
+    → Touched carry (st .held) (st .held + g .taken) left
+gives r p st carry block g left e =
+    let k = give-given r p st carry block e in
+    let l = give-sized r p st carry block e in
+    let bytes = take (k .few) block in
+    let h = stored-fits carry (st .held) bytes (l .1) (ap length (sym (k .left)) ∙ l .0) in
+    let j = st .held + g .taken - (st .held + length bytes) in
+    let n : st .held + length bytes + j ≡ st .held + g .taken = omega (arith, k .within, length-take (k .few) block) in
+    let drops : (s : List ℕ) → drop j (drop (st .held + length bytes) s) ≡ drop (st .held + g .taken) s =
+    λ s. drop-drop j (st .held + length bytes) s ∙ ap (λ (i : ℕ). drop i s) n in
+    subst (Touched carry (st .held) (st .held + g .taken)) (sym (k .left))
+    (record {
+      size = length-stored carry (st .held) bytes h;
+      before = stored-front carry (st .held) bytes (l .1);
+      behind = sym (drops (stored bytes carry (st .held))) ∙ ap (drop j) (behind-stored carry (st .held) bytes h) ∙ drops carry;
+    })
 
 -- ---- plans
 plans : (r p buf : List ℕ) (n items : ℕ) (left : List ℕ) → makePlan r p buf ≡ ok ((n, items), left) → Touched buf 0 n left
@@ -297,6 +328,7 @@ buffers = record {
   put-value = puts;
   make-plan = plans;
   read-run = runs;
+  give-block = gives;
   feed-check = feed-checks;
   feed-start = feed-starts;
   feed-put = feed-puts;

@@ -184,7 +184,7 @@ refusals = record {
       (block-given r p st carry block just (second just) (third just) (fourth just) (λ j h part l m. fifth (under-part h l m)));
   end-blocks = λ r p st carry.
       only refl
-      (blocks-ended r p st carry just (second just) (third just) (fourth just) (fifth just) (sixth just) (λ j h. seventh (under h)));
+      (blocks-ended r p st carry just (second just) (third just) (fourth just) (fifth just) (λ j h. sixth (under h)));
   make-plan = λ r p buf. only refl (plan-made r p buf just (second just) (third just));
   step-plan = λ plan images c.
       only refl (plan-stepped plan images c just (second just) (third just) (fourth just) (fifth just) (λ part l m. sixth (just-part l m)));

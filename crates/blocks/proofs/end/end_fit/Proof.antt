@@ -1,3 +1,4 @@
+-- `blocks::end::end_fit` meets its contract. Assumes nothing.
 use borrow.Author.Tests.{not-true, not-false}
 use Rattle.blocks.proofs.Fitting.{fit-numbered, ended-unfit, ended-open, ended-long, ended-closed}
 use borrow.Author.Needs.{needs}

@@ -1,3 +1,4 @@
+-- `blocks::end::end_open` meets its contract. Assumes nothing.
 use mathlib.Core.Path.{_≡_}
 use native.Mathlib.Omega.{arith}
 use Rattle.blocks.proofs.Fitting.{end-nulls, end-end, end-due}

@@ -1,8 +1,8 @@
-use borrow.Author.Tests.{not-true, not-false}
-use Prim.Native.Nat.{_+_, _-_, _<_}
+-- `blocks::end::first_due` meets its contract. Assumes nothing.
+use Prim.Native.Nat.{_+_, _-_}
 use mathlib.Core.Path.{sym, _∙_}
 use native.Mathlib.Omega.{arith}
-use Rattle.image.specs.Present.{firstFrom}
+use borrow.Author.Tests.{not-true, not-false}
 use Rattle.image.proofs.PresenceLaws.Firsts.{first-is, count-at-most}
 use Rattle.blocks.proofs.Heldings.{DueAt, due-begin, due-next, due-stop, due-end}
 use Rattle.blocks.proofs.end.first_due.Statement.{statement}

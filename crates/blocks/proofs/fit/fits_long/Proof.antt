@@ -1,7 +1,8 @@
-use Rattle.image.proofs.PresenceLaws.Firsts.{count-at-most}
-use Prim.Native.Nat.{_-_, _≤_}
+-- `blocks::fit::fits_long` meets its contract. Assumes nothing.
+use Prim.Native.Nat.{_-_}
 use mathlib.Core.Path.{_≡_, sym, ap, _∙_}
 use native.Mathlib.Omega.{arith}
+use Rattle.image.proofs.PresenceLaws.Firsts.{count-at-most}
 use Rattle.blocks.specs.Inner.Hands.{turnTold}
 use Rattle.blocks.proofs.Heldings.{isLongOf}
 use Rattle.blocks.proofs.Fitting.{long-low, long-other, long-held, other-long}
@@ -33,7 +34,10 @@ returns-2 c =
     (λ (e : a .at .held - a .nulls ≡ c .before .prefix-of .result). absurd (omega arith))
 
 held-turn-requires : tie.Need-held-turn-requires
-held-turn-requires c κs = let a = c .before .before .before .before .before .before .before .before .before .args in (c .before .before .before .before .before .before .before .before .before .pre .1, omega arith, omega (arith, c .before .before .before .before .before .before .before .before .before .pre .0 .bits, count-at-most (a .presence .now) (a .columns), c .before .before .before .before .before .before .before .before .before .pre .0 .few))
+held-turn-requires c κs =
+    let b = c .before .before .before .before .before .before .before .before .before in
+    let a = b .args in
+    (b .pre .1, omega arith, omega (arith, b .pre .0 .bits, count-at-most (a .presence .now) (a .columns), b .pre .0 .few))
 
 enum-known-n : tie.Need-enum-known-n
 enum-known-n c = search needs

@@ -1,7 +1,7 @@
-use Rattle.image.proofs.PresenceLaws.Firsts.{count-at-most}
-use Prim.Native.Nat.{_≤_}
+-- `blocks::fit::fits_open` meets its contract. Assumes nothing.
 use mathlib.Core.Path.{_≡_, sym, ap}
 use native.Mathlib.Omega.{arith}
+use Rattle.image.proofs.PresenceLaws.Firsts.{count-at-most}
 use Rattle.blocks.specs.Inner.Hands.{turnTold}
 use Rattle.blocks.proofs.Heldings.{isWait}
 use Rattle.blocks.proofs.Fitting.{open-some-left, open-first, open-none, open-held, other-turn}
@@ -30,7 +30,10 @@ returns-3 c =
     (a .presence .now) (a .carry .now) (a .nulls) (a .at) (omega arith) (omega arith)
 
 held-turn-requires : tie.Need-held-turn-requires
-held-turn-requires c κs = let a = c .before .before .before .before .before .before .before .before .before .args in (c .before .before .before .before .before .before .before .before .before .pre .1, omega arith, omega (arith, c .before .before .before .before .before .before .before .before .before .pre .0 .bits, count-at-most (a .presence .now) (a .columns), c .before .before .before .before .before .before .before .before .before .pre .0 .few))
+held-turn-requires c κs =
+    let b = c .before .before .before .before .before .before .before .before .before in
+    let a = b .args in
+    (b .pre .1, omega arith, omega (arith, b .pre .0 .bits, count-at-most (a .presence .now) (a .columns), b .pre .0 .few))
 
 enum-told : tie.Need-enum-told
 enum-told c = search needs

@@ -1,6 +1,7 @@
-use borrow.Author.Tests.{not-true, not-false}
+-- `blocks::fit::held_shape` meets its contract. Assumes nothing.
 use mathlib.Core.Path.{_≡_}
 use native.Mathlib.Omega.{arith}
+use borrow.Author.Tests.{not-true, not-false}
 use Rattle.blocks.proofs.Fitting.{shape-none, shape-absent, shape-null, shape-there}
 use borrow.Author.Needs.{needs}
 use Rattle.blocks.proofs.fit.held_shape.Statement.{statement}
@@ -19,7 +20,8 @@ bit-lsb0-requires c κs = search needs
 returns-2 : tie.Need-returns-2
 returns-2 c =
     let a = c .before .before .before .before .before .before .args in shape-absent (a .profile .now) (a .presence .now) (a .carry .now)
-    (a .columns) (a .at) (λ (e : a .at .column ≡ a .columns). absurd (omega arith)) (c .before .bit-lsb0 .ensures) (not-true _ (c .if2 .taken))
+    (a .columns) (a .at) (λ (e : a .at .column ≡ a .columns). absurd (omega arith)) (c .before .bit-lsb0 .ensures)
+    (not-true _ (c .if2 .taken))
 
 count-bits-requires : tie.Need-count-bits-requires
 count-bits-requires c κs = search needs

@@ -1,3 +1,4 @@
+-- `blocks::fit::is_counted` meets its contract. Assumes nothing.
 use native.Mathlib.Omega.{arith}
 use Rattle.blocks.proofs.Fitting.{no-column, no-carry, no-count, by-room}
 use borrow.Author.Needs.{needs}

@@ -1,7 +1,7 @@
+-- `blocks::fit::is_first` meets its contract. Assumes nothing.
 use mathlib.Core.Path.{_≡_}
 use native.Mathlib.Omega.{arith}
 use borrow.Author.Tests.{eq-eqb, ne-eqb}
-use borrow.Author.Needs.{needs}
 use Rattle.blocks.proofs.fit.is_first.Statement.{statement}
 use Rattle.blocks.proofs.fit.is_first.Tie as tie
 use Rattle.blocks.proofs.fit.is_first.Reads as reads

@@ -1,6 +1,7 @@
-use Rattle.blocks.specs.Fits.{fitsIn}
-use borrow.Author.Tests.{not-true, not-false}
+-- `blocks::fit::is_fit` meets its contract. Assumes nothing.
 use mathlib.Core.Path.{refl}
+use borrow.Author.Tests.{not-true, not-false}
+use Rattle.blocks.specs.Fits.{fitsIn}
 use Rattle.blocks.specs.declared.state.Phase.the-variants.{Open, Long, Closed}
 use Rattle.blocks.proofs.Fitting.{numbered, fit-not, fit-in}
 use borrow.Author.Needs.{needs}

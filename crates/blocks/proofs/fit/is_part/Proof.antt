@@ -1,8 +1,6 @@
-use Prim.Native.Nat.{_<_}
-use mathlib.Core.Path.{_≡_}
+-- `blocks::fit::is_part` meets its contract. Assumes nothing.
 use native.Mathlib.Omega.{arith}
 use borrow.Author.Tests.{lt-ltb, le-ltb}
-use borrow.Author.Needs.{needs}
 use Rattle.blocks.proofs.fit.is_part.Statement.{statement}
 use Rattle.blocks.proofs.fit.is_part.Tie as tie
 use Rattle.blocks.proofs.fit.is_part.Reads as reads

@@ -1,3 +1,4 @@
+-- `blocks::fit::is_within` meets its contract. Assumes nothing.
 use Rattle.blocks.proofs.Fitting.{in-room, not-refused}
 use borrow.Author.Needs.{needs}
 use Rattle.blocks.proofs.fit.is_within.Statement.{statement}

@@ -1,3 +1,4 @@
+-- `blocks::give::begin` meets its contract. Assumes nothing.
 use mathlib.Core.Path.{sym, ap, _∙_}
 use Rattle.image.specs.Split.{headTold}
 use Rattle.blocks.specs.Gives.{beginBlocks}

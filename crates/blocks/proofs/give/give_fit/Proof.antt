@@ -1,6 +1,7 @@
-use borrow.Author.Tests.{not-true, not-false}
+-- `blocks::give::give_fit` meets its contract. Assumes nothing.
 use native.Mathlib.Omega.{arith}
-use Rattle.blocks.proofs.Fitting.{sits, fit-numbered, given-unfit, given-open, given-long, given-closed}
+use borrow.Author.Tests.{not-true, not-false}
+use Rattle.blocks.proofs.Fitting.{sits, given-unfit, given-open, given-long, given-closed}
 use borrow.Author.Needs.{needs}
 use Rattle.blocks.proofs.give.give_fit.Statement.{statement}
 use Rattle.blocks.proofs.give.give_fit.Tie as tie

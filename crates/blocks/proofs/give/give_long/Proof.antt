@@ -1,4 +1,4 @@
-use Prim.Native.Nat.{_≤_}
+-- `blocks::give::give_long` meets its contract. Assumes nothing.
 use mathlib.Core.Path.{_≡_}
 use native.Mathlib.Omega.{arith}
 use lib.ListN.{length}
@@ -12,29 +12,23 @@ use Rattle.blocks.proofs.state.longed.Reads as longed-reads
 use Rattle.blocks.proofs.state.opened.Reads as opened-reads
 use Rattle.blocks.proofs.state.took.Reads as took-reads
 
--- src/give.rt:25:9
 took-requires : tie.Need-took-requires
 took-requires c κs = search needs
 
--- src/give.rt:25:9
 returns : tie.Need-returns
 returns c =
     part-none (c .before .before .before .args .at) (c .before .before .before .args .nulls) (c .before .before .before .args .block .now)
     (omega arith) (c .took .ensures)
 
--- src/give.rt:28:27
 add-opened : tie.Need-add-opened
 add-opened c = search needs
 
--- src/give.rt:28:13
 opened-requires : tie.Need-opened-requires
 opened-requires c κs = search needs
 
--- src/give.rt:29:9
 took-requires-2 : tie.Need-took-requires-2
 took-requires-2 c κs = search needs
 
--- src/give.rt:29:9
 returns-2 : tie.Need-returns-2
 returns-2 c =
     part-last (c .before .before .before .before .before .args .at) (c .before .before .before .before .before .args .nulls)
@@ -42,19 +36,15 @@ returns-2 c =
     (λ (e : length (c .before .before .before .before .before .args .block .now) ≡ 0). absurd (omega arith)) (omega arith)
     (c .before .opened .ensures) (c .took2 .ensures)
 
--- src/give.rt:31:40
 sub-longed : tie.Need-sub-longed
 sub-longed c = search needs
 
--- src/give.rt:31:9
 longed-requires : tie.Need-longed-requires
 longed-requires c κs = search needs
 
--- src/give.rt:32:5
 took-requires-3 : tie.Need-took-requires-3
 took-requires-3 c κs = search needs
 
--- src/give.rt:17:1
 returns-3 : tie.Need-returns-3
 returns-3 c =
     part-some (c .before .before .before .before .before .args .at) (c .before .before .before .before .before .args .nulls)

@@ -1,3 +1,4 @@
+-- `blocks::give::read_head_carry` meets its contract. Assumes nothing.
 use mathlib.Core.Path.{sym, ap, _∙_}
 use borrow.Author.Tests.{lt-ltb, le-ltb}
 use Rattle.image.specs.Split.{headTold}

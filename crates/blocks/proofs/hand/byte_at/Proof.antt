@@ -1,3 +1,4 @@
+-- `blocks::hand::byte_at` meets its contract. Assumes nothing.
 use native.Mathlib.Omega.{arith}
 use Rattle.blocks.proofs.Hands.{byte-held, byte-block, byte-none}
 use borrow.Author.Needs.{needs}
@@ -6,27 +7,22 @@ use Rattle.blocks.proofs.hand.byte_at.Tie as tie
 use Rattle.blocks.proofs.hand.byte_at.Reads as reads
 use Rattle.blocks.proofs.hand.byte_at.Lts as lts
 
--- src/hand.rt:32:16
 shared-slice-read-result : tie.Need-shared-slice-read-result
 shared-slice-read-result c = search needs
 
--- src/hand.rt:32:9
 returns : tie.Need-returns
 returns c =
     byte-held (c .before .before .args .carry .now) (c .before .before .args .block .now) (c .before .before .args .held)
     (c .before .before .args .i) (omega arith) (omega arith)
 
--- src/hand.rt:36:16
 shared-slice-read-result-2 : tie.Need-shared-slice-read-result-2
 shared-slice-read-result-2 c = search needs
 
--- src/hand.rt:36:9
 returns-2 : tie.Need-returns-2
 returns-2 c =
     byte-block (c .before .before .before .args .carry .now) (c .before .before .before .args .block .now)
     (c .before .before .before .args .held) (c .before .before .before .args .i) (omega arith) (omega arith)
 
--- src/hand.rt:27:1
 returns-3 : tie.Need-returns-3
 returns-3 c =
     byte-none (c .before .before .args .carry .now) (c .before .before .args .block .now) (c .before .before .args .held)

@@ -1,4 +1,5 @@
-use mathlib.Core.Path.{refl, _∙_}
+-- `blocks::hand::commit` meets its contract. Assumes nothing.
+use mathlib.Core.Path.{refl}
 use native.Mathlib.Omega.{arith}
 use Rattle.blocks.proofs.Hands.{commit-none, commit-some}
 use borrow.Author.Needs.{needs}
@@ -8,37 +9,29 @@ use Rattle.blocks.proofs.hand.commit.Reads as reads
 use Rattle.blocks.proofs.hand.commit.Lts as lts
 use Rattle.wire.proofs.write_bytes.Reads as write-bytes-reads
 
--- src/hand.rt:72:9
 returns : tie.Need-returns
 returns c =
     commit-none (c .before .before .before .args .carry .now) (c .before .before .before .args .block .now)
     (c .before .before .before .args .held) (c .before .before .before .args .upto) (omega arith)
 
--- src/hand.rt:74:17
 sub-taken : tie.Need-sub-taken
 sub-taken c = search needs
 
--- src/hand.rt:75:36
 sub-write-bytes : tie.Need-sub-write-bytes
 sub-write-bytes c = search needs
 
--- src/hand.rt:75:36
 part-write-bytes-start : tie.Need-part-write-bytes-start
 part-write-bytes-start c = search needs
 
--- src/hand.rt:75:36
 part-write-bytes-end : tie.Need-part-write-bytes-end
 part-write-bytes-end c = search needs
 
--- src/hand.rt:75:5
 write-bytes-requires : tie.Need-write-bytes-requires
 write-bytes-requires c κs = search needs
 
--- src/hand.rt:66:1
 same-length : tie.Need-same-length
 same-length c = search needs
 
--- src/hand.rt:66:1
 returns-2 : tie.Need-returns-2
 returns-2 c = (
   refl,

@@ -1,11 +1,12 @@
-use Prim.Native.Nat.{ℕ, _+_, _-_, _≤_}
+-- `blocks::hand::head_of` meets its contract. Assumes nothing.
+use Prim.Native.Nat.{ℕ, _-_, _≤_}
 use mathlib.Core.Path.{refl, subst, _≡_}
 use mathlib.Core.List.{_++_}
 use native.Mathlib.Omega.{arith}
 use lib.ListN.{take}
-use borrow.Author.Needs.{needs}
 use Rattle.blocks.specs.Inner.Hands.{Heads}
 use Rattle.blocks.proofs.Hands.{heads-none, heads-more}
+use borrow.Author.Needs.{needs}
 use Rattle.blocks.proofs.hand.head_of.Statement.{statement}
 use Rattle.blocks.proofs.hand.head_of.Tie as tie
 use Rattle.blocks.proofs.hand.head_of.Reads as reads
@@ -18,31 +19,24 @@ Inv-loop carry held block from head₀ i₀ head i = (i ≤ 8) × Heads (take he
 abbrev μ-loop : tie.MeasureT-loop
 μ-loop carry held block from head₀ i₀ head i = 8 - i
 
--- src/hand.rt:60:5
 loop-holds : tie.Need-loop-holds Inv-loop μ-loop
 loop-holds c = (omega arith, heads-none _ _ _ refl)
 
--- src/hand.rt:61:47
 add-byte-at : tie.Need-add-byte-at Inv-loop μ-loop
 add-byte-at c = omega arith
 
--- src/hand.rt:61:19
 byte-at-requires : tie.Need-byte-at-requires Inv-loop μ-loop
 byte-at-requires c κs = search needs
 
--- src/hand.rt:61:9
 array-write-head : tie.Need-array-write-head Inv-loop μ-loop
 array-write-head c = omega arith
 
--- src/hand.rt:62:9
 add-i : tie.Need-add-i Inv-loop μ-loop
 add-i c = omega arith
 
--- src/hand.rt:60:5
 loop-less : tie.Need-loop-less Inv-loop μ-loop
 loop-less c = omega arith
 
--- src/hand.rt:60:5
 loop-again : tie.Need-loop-again Inv-loop μ-loop
 loop-again c = (
   omega arith,
@@ -53,7 +47,6 @@ loop-again c = (
       (c .byte-at .result) (c .before .before .loop .inv .1) (omega arith) (c .byte-at .ensures),
 )
 
--- src/hand.rt:54:1
 returns : tie.Need-returns Inv-loop μ-loop
 returns c = let z : c .before .loop .i ≡ 8 = omega (arith, c .before .loop .inv .0) in
     subst (λ (n : ℕ). Heads

@@ -1,10 +1,7 @@
-use Prim.Native.Nat.{_+_}
-use mathlib.Core.Path.{sym, ap, subst, _∙_}
+-- `blocks::open::give_open` meets its contract. Assumes nothing.
 use native.Mathlib.Omega.{arith}
-use lib.ListN.{length}
-use Rattle.blocks.specs.States.{more, null, end}
-use Rattle.blocks.proofs.Sitting.{short-fits, not-short, end-used, found-below, value-holds, short-returns, end-returns, null-returns}
-use Rattle.blocks.proofs.Sitting.{value-returns}
+use Rattle.blocks.proofs.Sitting.{short-fits, not-short, end-used, found-below, value-holds}
+use Rattle.blocks.proofs.Sitting.{short-returns, end-returns, null-returns, value-returns}
 use borrow.Author.Needs.{needs}
 use Rattle.blocks.proofs.open.give_open.Statement.{statement}
 use Rattle.blocks.proofs.open.give_open.Tie as tie
@@ -21,29 +18,23 @@ use Rattle.image.proofs.first_set.Reads as first-set-reads
 use Rattle.record.proofs.column_of.Reads as column-of-reads
 use Rattle.record.proofs.entry_in.Reads as entry-in-reads
 
--- src/open.rt:63:8
 is-short-requires : tie.Need-is-short-requires
 is-short-requires c κs = search needs
 
--- src/open.rt:64:20
 add-upto : tie.Need-add-upto
 add-upto c = search needs
 
--- src/open.rt:65:63
 opened-requires : tie.Need-opened-requires
 opened-requires c κs = search needs
 
--- src/open.rt:65:9
 take-to-requires : tie.Need-take-to-requires
 take-to-requires c κs =
     let q = c .before .before .before .before .before .before .before .before .pre in
     (q .fits, short-fits q (c .before .before .before .is-short .ensures) (c .before .before .if1 .taken), omega arith, q .small)
 
--- src/open.rt:65:9
 same-length : tie.Need-same-length
 same-length c = search needs
 
--- src/open.rt:65:9
 returns : tie.Need-returns
 returns c = let a = c .before .before .before .before .before .before .before .before .before .before .before .args in
     short-returns (a .carry .now) (a .block .now)
@@ -51,15 +42,12 @@ returns c = let a = c .before .before .before .before .before .before .before .b
     (c .before .before .before .before .before .before .is-short .ensures) (c .before .before .before .before .before .if1 .taken)
     (c .before .before .before .opened .ensures) (c .before .before .take-to .ensures)
 
--- src/open.rt:67:9
 first-set-requires : tie.Need-first-set-requires
 first-set-requires c κs = search needs
 
--- src/open.rt:69:30
 less-requires : tie.Need-less-requires
 less-requires c κs = search needs
 
--- src/open.rt:69:20
 add-used : tie.Need-add-used
 add-used c =
     omega (
@@ -70,11 +58,9 @@ add-used c =
           (c .before .less .ensures),
     )
 
--- src/open.rt:70:72
 opened-requires-2 : tie.Need-opened-requires-2
 opened-requires-2 c κs = search needs
 
--- src/open.rt:70:9
 take-to-requires-2 : tie.Need-take-to-requires-2
 take-to-requires-2 c κs =
     let q = c .before .before .before .before .before .before .before .before .before .before .before .before .pre in (
@@ -87,11 +73,9 @@ take-to-requires-2 c κs =
       q .small,
     )
 
--- src/open.rt:70:9
 same-length-2 : tie.Need-same-length-2
 same-length-2 c = search needs
 
--- src/open.rt:70:9
 returns-2 : tie.Need-returns-2
 returns-2 c =
     let a = c .before .before .before .before .before .before .before .before .before .before .before .before .before .before .before .args
@@ -106,29 +90,25 @@ returns-2 c =
     (c .before .before .before .before .before .before .less .ensures) (c .before .before .before .opened2 .ensures)
     (c .before .before .take-to2 .ensures)
 
--- src/open.rt:72:9
 count-bits-requires : tie.Need-count-bits-requires
 count-bits-requires c κs = search needs
 
--- src/open.rt:73:8
 bit-at-requires : tie.Need-bit-at-requires
 bit-at-requires c κs = search needs
 
--- src/open.rt:74:27
 add-opened : tie.Need-add-opened
 add-opened c =
     omega (
       arith,
-      found-below (c .before .before .before .before .before .before .before .before .before .before .before .before .pre) (c .before .before .before .before .before .first-set .ensures)
+      found-below (c .before .before .before .before .before .before .before .before .before .before .before .before .pre)
+          (c .before .before .before .before .before .first-set .ensures)
           (c .before .before .before .before .if2 .left),
       c .before .before .before .before .before .before .before .before .before .before .before .before .pre .few,
     )
 
--- src/open.rt:74:13
 opened-requires-3 : tie.Need-opened-requires-3
 opened-requires-3 c κs = search needs
 
--- src/open.rt:75:9
 take-to-requires-3 : tie.Need-take-to-requires-3
 take-to-requires-3 c κs =
     let q = c .before .before .before .before .before .before .before .before .before .before .before .before .before .before .pre in (
@@ -141,11 +121,9 @@ take-to-requires-3 c κs =
       q .small,
     )
 
--- src/open.rt:75:9
 same-length-3 : tie.Need-same-length-3
 same-length-3 c = search needs
 
--- src/open.rt:75:9
 returns-3 : tie.Need-returns-3
 returns-3 c =
     let a = c .before .before .before .before .before .before .before .before .before .before .before .before .before .before .before
@@ -163,15 +141,12 @@ returns-3 c =
     (c .before .before .before .before .before .before .bit-at .ensures) (c .before .before .before .before .before .if3 .taken)
     (c .before .before .before .before .opened3 .ensures) (c .before .before .take-to3 .ensures)
 
--- src/open.rt:77:34
 entry-in-requires : tie.Need-entry-in-requires
 entry-in-requires c κs = search needs
 
--- src/open.rt:77:9
 column-of-requires : tie.Need-column-of-requires
 column-of-requires c κs = search needs
 
--- src/open.rt:78:5
 give-value-requires : tie.Need-give-value-requires
 give-value-requires c κs =
     value-holds
@@ -183,11 +158,9 @@ give-value-requires c κs =
     (c .before .before .before .before .before .before .before .if2 .left) (c .before .before .entry-in .ensures)
     (c .before .column-of .ensures)
 
--- src/open.rt:45:1
 same-length-4 : tie.Need-same-length-4
 same-length-4 c = search needs
 
--- src/open.rt:45:1
 returns-4 : tie.Need-returns-4
 returns-4 c =
     let a = c .before .before .before .before .before .before .before .before .before .before .before .before .before .before .before

@@ -1,3 +1,4 @@
+-- `blocks::open::give_stored` meets its contract. Assumes nothing.
 use mathlib.Core.Path.{sym, ap, _∙_}
 use Rattle.value.specs.Columns.{shapeOf}
 use Rattle.value.specs.Reading.{readTold}
@@ -13,47 +14,36 @@ use Rattle.blocks.proofs.state.shut.Reads as shut-reads
 use Rattle.blocks.proofs.state.took.Reads as took-reads
 use Rattle.value.proofs.read_value.Reads as read-value-reads
 
--- src/open.rt:158:44
 add-commit : tie.Need-add-commit
 add-commit c = search needs
 
--- src/open.rt:158:9
 commit-requires : tie.Need-commit-requires
 commit-requires c κs = search needs
 
--- src/open.rt:159:11
 read-value-requires : tie.Need-read-value-requires
 read-value-requires c κs = search needs
 
--- src/open.rt:160:21
 enum-known-value : tie.Need-enum-known-value
 enum-known-value c = search needs
 
--- src/open.rt:161:31
 add-opened : tie.Need-add-opened
 add-opened c = search needs
 
--- src/open.rt:161:17
 opened-requires : tie.Need-opened-requires
 opened-requires c κs = search needs
 
--- src/open.rt:162:13
 took-requires : tie.Need-took-requires
 took-requires c κs = search needs
 
--- src/open.rt:164:23
 enum-known-r : tie.Need-enum-known-r
 enum-known-r c = search needs
 
--- src/open.rt:164:29
 shut-requires : tie.Need-shut-requires
 shut-requires c κs = search needs
 
--- src/open.rt:140:1
 same-length : tie.Need-same-length
 same-length c = search needs
 
--- src/open.rt:140:1
 returns : tie.Need-returns
 returns c = let a = c .before .before .before .before .before .before .before .before .before .before .before .before .before .args in
     stored-returns (shapeOf (a .kind)) (a .carry .now) (a .block .now) (a .nulls) (a .at) (a .found) (a .n)
@@ -64,11 +54,9 @@ returns c = let a = c .before .before .before .before .before .before .before .b
     (c .before .before .before .before .before .before .before .before .before .commit .ensures .0) (c .before .opened .ensures)
     (c .took .ensures)
 
--- src/open.rt:140:1
 same-length-2 : tie.Need-same-length-2
 same-length-2 c = search needs
 
--- src/open.rt:140:1
 returns-2 : tie.Need-returns-2
 returns-2 c = let a = c .before .before .before .before .before .before .before .before .before .before .before .before .args in
     absurd (stored-refuses (shapeOf (a .kind)) (a .carry .now) (a .block .now) (a .nulls) (a .at) (a .found) (a .n)

@@ -1,12 +1,9 @@
+-- `blocks::open::give_timed` meets its contract. Assumes nothing.
 use Prim.Native.Nat.{_+_}
 use mathlib.Core.Path.{refl, sym, ap, _∙_}
-use mathlib.Core.List.{_++_}
-use lib.ListN.{take, drop}
 use Rattle.value.specs.Columns.{shapeOf}
 use Rattle.value.specs.Reading.{readTold}
 use Rattle.blocks.specs.States.{value}
-use Rattle.blocks.specs.Turns.{whole}
-use Rattle.blocks.specs.Gives.{byTurn}
 use Rattle.blocks.proofs.Values.{open-answer, no-answer, timed-got, timed-not}
 use borrow.Author.Needs.{needs}
 use Rattle.blocks.proofs.open.give_timed.Statement.{statement}
@@ -18,43 +15,33 @@ use Rattle.blocks.proofs.state.opened.Reads as opened-reads
 use Rattle.blocks.proofs.state.shut.Reads as shut-reads
 use Rattle.value.proofs.read_value.Reads as read-value-reads
 
--- src/open.rt:130:11
 read-value-requires : tie.Need-read-value-requires
 read-value-requires c κs = search needs
 
--- src/open.rt:131:21
 enum-known-value : tie.Need-enum-known-value
 enum-known-value c = search needs
 
--- src/open.rt:132:31
 add-opened : tie.Need-add-opened
 add-opened c = search needs
 
--- src/open.rt:132:17
 opened-requires : tie.Need-opened-requires
 opened-requires c κs = search needs
 
--- src/open.rt:133:39
 add-take-to : tie.Need-add-take-to
 add-take-to c = search needs
 
--- src/open.rt:133:13
 take-to-requires : tie.Need-take-to-requires
 take-to-requires c κs = search needs
 
--- src/open.rt:135:23
 enum-known-r : tie.Need-enum-known-r
 enum-known-r c = search needs
 
--- src/open.rt:135:29
 shut-requires : tie.Need-shut-requires
 shut-requires c κs = search needs
 
--- src/open.rt:111:1
 same-length : tie.Need-same-length
 same-length c = search needs
 
--- src/open.rt:111:1
 returns : tie.Need-returns
 returns c = let a = c .before .before .before .before .before .before .before .before .before .before .before .before .args in
     let q = c .before .before .before .before .before .before .before .before .before .before .before .before .pre in
@@ -66,7 +53,6 @@ returns c = let a = c .before .before .before .before .before .before .before .b
     (c .before .before .before .before .before .before .value .given .1)))
     (c .before .before .before .before .opened .ensures) (c .before .before .take-to .ensures)
 
--- src/open.rt:111:1
 returns-2 : tie.Need-returns-2
 returns-2 c = let a = c .before .before .before .before .before .before .before .before .args in
     let q = c .before .before .before .before .before .before .before .before .pre in

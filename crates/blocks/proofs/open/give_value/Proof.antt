@@ -1,14 +1,14 @@
-use Rattle.value.specs.declared.shape.Shape.{Shape}
-use Rattle.value.specs.Shapes.{fault}
+-- `blocks::open::give_value` meets its contract. Assumes nothing.
 use Prim.Native.Nat.{ℕ, _+_}
 use mathlib.Core.Path.{_≡_, sym, ap, subst, _∙_}
 use mathlib.Core.List.{List}
 use native.Mathlib.Omega.{arith}
 use lib.ListN.{length}
+use Rattle.value.specs.declared.shape.Shape.{Shape}
+use Rattle.value.specs.Shapes.{fault, prefix}
 use Rattle.value.specs.Columns.{shapeOf}
 use Rattle.value.specs.Inner.Shapes.{Sized}
 use Rattle.value.proofs.Tables.{sized}
-use Rattle.value.specs.Shapes.{prefix}
 use Rattle.blocks.specs.Inner.Hands.{turnTold}
 use Rattle.blocks.specs.States.{more, long}
 use Rattle.blocks.proofs.Turned.{prefix-most}
@@ -29,48 +29,37 @@ use Rattle.blocks.proofs.turn.prefix_of.Reads as prefix-of-reads
 use Rattle.blocks.proofs.turn.turn_of.Reads as turn-of-reads
 use Rattle.value.proofs.shape_of.Reads as shape-of-reads
 
--- src/open.rt:88:9
 shape-of-requires : tie.Need-shape-of-requires
 shape-of-requires c κs = search needs
 
--- src/open.rt:90:16
 head-of-requires : tie.Need-head-of-requires
 head-of-requires c κs = search needs
 
--- src/open.rt:91:15
 add-len : tie.Need-add-len
 add-len c = search needs
 
--- src/open.rt:91:15
 sub-len : tie.Need-sub-len
 sub-len c = search needs
 
--- src/open.rt:92:16
 sub-room : tie.Need-sub-room
 sub-room c = search needs
 
--- src/open.rt:93:26
 slice-aggregate-turn-of : tie.Need-slice-aggregate-turn-of
 slice-aggregate-turn-of c = search needs
 
--- src/open.rt:93:11
 turn-of-requires : tie.Need-turn-of-requires
 turn-of-requires c κs =
     subst Sized (sym (c .before .before .before .shape-of .ensures)) (sized (c .before .before .before .before .before .before .args .kind))
 
--- src/open.rt:95:31
 enum-told : tie.Need-enum-told
 enum-told c = search needs
 
--- src/open.rt:95:24
 add-upto : tie.Need-add-upto
 add-upto c = search needs
 
--- src/open.rt:96:60
 opened-requires : tie.Need-opened-requires
 opened-requires c κs = search needs
 
--- src/open.rt:96:13
 take-to-requires : tie.Need-take-to-requires
 take-to-requires c κs = let a = c .before .before .before .before .before .before .before .before .before .before .before .args in
     let q = c .before .before .before .before .before .before .before .before .before .before .before .pre in
@@ -85,15 +74,12 @@ take-to-requires c κs = let a = c .before .before .before .before .before .befo
       q .small,
     )
 
--- src/open.rt:98:20
 enum-known-n : tie.Need-enum-known-n
 enum-known-n c = search needs
 
--- src/open.rt:99:32
 prefix-of-requires : tie.Need-prefix-of-requires
 prefix-of-requires c κs = search needs
 
--- src/open.rt:99:24
 add-upto-2 : tie.Need-add-upto-2
 add-upto-2 c = let a = c .before .before .before .before .before .before .before .before .before .before .before .args in
     omega (
@@ -106,11 +92,9 @@ add-upto-2 c = let a = c .before .before .before .before .before .before .before
       c .before .before .before .before .before .before .before .before .before .before .before .pre .narrow,
     )
 
--- src/open.rt:100:17
 longed-requires : tie.Need-longed-requires
 longed-requires c κs = search needs
 
--- src/open.rt:101:13
 take-to-requires-2 : tie.Need-take-to-requires-2
 take-to-requires-2 c κs =
     let a = c .before .before .before .before .before .before .before .before .before .before .before .before .before .args in
@@ -126,19 +110,15 @@ take-to-requires-2 c κs =
     (c .before .before .before .before .before .before .before .before .before .before .shape-of .ensures) in
     (q .fits, omega (arith, w .0), omega (arith, w .1), q .small)
 
--- src/open.rt:103:21
 enum-known-n-2 : tie.Need-enum-known-n-2
 enum-known-n-2 c = search needs
 
--- src/open.rt:104:43
 enum-told-2 : tie.Need-enum-told-2
 enum-told-2 c = search needs
 
--- src/open.rt:104:81
 slice-aggregate-give-timed : tie.Need-slice-aggregate-give-timed
 slice-aggregate-give-timed c = search needs
 
--- src/open.rt:104:32
 give-timed-requires : tie.Need-give-timed-requires
 give-timed-requires c κs =
     let a = c .before .before .before .before .before .before .before .before .before .before .before .before .before .before .args in
@@ -160,7 +140,6 @@ give-timed-requires c κs =
       c .before .before .before .before .before .before .before .before .before .head-of .ensures,
     )
 
--- src/open.rt:105:18
 give-stored-requires : tie.Need-give-stored-requires
 give-stored-requires c κs =
     let a = c .before .before .before .before .before .before .before .before .before .before .before .before .args in
@@ -177,11 +156,9 @@ give-stored-requires c κs =
           (no-fault _ (c .before .match2 .keys2)),
     )
 
--- src/open.rt:81:1
 same-length : tie.Need-same-length
 same-length c = search needs
 
--- src/open.rt:81:1
 returns : tie.Need-returns
 returns c =
     let a = c .before .before .before .before .before .before .before .before .before .before .before .before .before .before .args in
@@ -198,11 +175,9 @@ returns c =
     (c .before .before .before .before .before .before .before .before .before .head-of .ensures) t)
     (c .before .before .before .opened .ensures) (c .before .before .take-to .ensures)
 
--- src/open.rt:81:1
 same-length-2 : tie.Need-same-length-2
 same-length-2 c = search needs
 
--- src/open.rt:81:1
 returns-2 : tie.Need-returns-2
 returns-2 c =
     let a = c .before .before .before .before .before .before .before .before .before .before .before .before .before .before .before
@@ -225,11 +200,9 @@ returns-2 c =
     (c .before .before .before .before .before .before .before .before .before .before .before .head-of .ensures) _ t ∙ rw e)
     (c .before .before .before .before .longed .ensures) (c .before .before .take-to2 .ensures)
 
--- src/open.rt:81:1
 same-length-3 : tie.Need-same-length-3
 same-length-3 c = search needs
 
--- src/open.rt:81:1
 returns-3 : tie.Need-returns-3
 returns-3 c =
     let a = c .before .before .before .before .before .before .before .before .before .before .before .before .before .before .before
@@ -246,11 +219,9 @@ returns-3 c =
     (c .before .before .before .before .before .before .before .before .before .before .before .before .head-of .ensures) _ t)
     (c .before .before .give-timed .ensures)
 
--- src/open.rt:81:1
 same-length-4 : tie.Need-same-length-4
 same-length-4 c = search needs
 
--- src/open.rt:81:1
 returns-4 : tie.Need-returns-4
 returns-4 c =
     let a = c .before .before .before .before .before .before .before .before .before .before .before .before .before .before .before .args

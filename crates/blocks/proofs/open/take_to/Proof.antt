@@ -1,3 +1,4 @@
+-- `blocks::open::take_to` meets its contract. Assumes nothing.
 use Rattle.blocks.proofs.Values.{took-same}
 use borrow.Author.Needs.{needs}
 use Rattle.blocks.proofs.open.take_to.Statement.{statement}
@@ -7,19 +8,15 @@ use Rattle.blocks.proofs.open.take_to.Lts as lts
 use Rattle.blocks.proofs.hand.commit.Reads as commit-reads
 use Rattle.blocks.proofs.state.took.Reads as took-reads
 
--- src/open.rt:41:9
 commit-requires : tie.Need-commit-requires
 commit-requires c κs = search needs
 
--- src/open.rt:42:5
 took-requires : tie.Need-took-requires
 took-requires c κs = search needs
 
--- src/open.rt:33:1
 same-length : tie.Need-same-length
 same-length c = search needs
 
--- src/open.rt:33:1
 returns : tie.Need-returns
 returns c = (
   took-same (c .before .before .before .before .before .before .before .args .at)

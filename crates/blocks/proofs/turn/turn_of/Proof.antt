@@ -1,3 +1,4 @@
+-- `blocks::turn::turn_of` meets its contract. Assumes nothing.
 use native.Mathlib.Omega.{arith}
 use Rattle.value.proofs.Appends.{prefix-within}
 use Rattle.blocks.proofs.Hands.{turn-long, turn-wait, turn-whole}
@@ -10,19 +11,15 @@ use Rattle.blocks.proofs.turn.is_over.Reads as is-over-reads
 use Rattle.blocks.proofs.turn.need_of.Reads as need-of-reads
 use Rattle.blocks.proofs.turn.prefix_of.Reads as prefix-of-reads
 
--- src/turn.rt:58:9
 prefix-of-requires : tie.Need-prefix-of-requires
 prefix-of-requires c κs = search needs
 
--- src/turn.rt:59:9
 need-of-requires : tie.Need-need-of-requires
 need-of-requires c κs = search needs
 
--- src/turn.rt:60:8
 is-over-requires : tie.Need-is-over-requires
 is-over-requires c κs = search needs
 
--- src/turn.rt:61:27
 sub-t8 : tie.Need-sub-t8
 sub-t8 c =
     omega (
@@ -33,7 +30,6 @@ sub-t8 c =
           (c .before .before .before .before .before .args .shape) (c .before .before .before .before .before .args .head .now),
     )
 
--- src/turn.rt:61:9
 returns : tie.Need-returns
 returns c =
     rw (← c .before .before .before .prefix-of .ensures, ← c .before .before .need-of .ensures)
@@ -41,7 +37,6 @@ returns c =
     (c .before .before .before .before .before .args .len) (c .before .before .need-of .result) (c .before .is-over .result)
     (c .before .is-over .ensures) (c .if1 .taken))
 
--- src/turn.rt:64:9
 returns-2 : tie.Need-returns-2
 returns-2 c =
     rw (← c .before .before .before .before .prefix-of .ensures, ← c .before .before .before .need-of .ensures)
@@ -49,7 +44,6 @@ returns-2 c =
     (c .before .before .before .before .before .before .args .len) (c .before .before .before .need-of .result)
     (c .before .before .is-over .result) (c .before .before .is-over .ensures) (c .before .if1 .left) (omega arith))
 
--- src/turn.rt:54:1
 returns-3 : tie.Need-returns-3
 returns-3 c =
     rw (← c .before .before .before .before .prefix-of .ensures, ← c .before .before .before .need-of .ensures)

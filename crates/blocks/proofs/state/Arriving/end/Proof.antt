@@ -1,3 +1,4 @@
+-- `blocks::state::Arriving::end` meets its contract. Assumes nothing.
 use mathlib.Core.Path.{sym, ap, _∙_}
 use Rattle.image.specs.Split.{headTold}
 use Rattle.blocks.specs.Ends.{endBlocks}

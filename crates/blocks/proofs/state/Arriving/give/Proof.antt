@@ -1,3 +1,4 @@
+-- `blocks::state::Arriving::give` meets its contract. Assumes nothing.
 use mathlib.Core.Path.{refl, sym, ap, _∙_}
 use Rattle.image.specs.Split.{headTold}
 use Rattle.blocks.specs.Gives.{giveBlock}
