@@ -26,6 +26,7 @@ use Rattle.row_plan.specs.declared.row.RowCursor.{RowCursor}
 use Rattle.row_plan.specs.Plan.{makePlan}
 use Rattle.row_plan.specs.Runs.{readRun}
 use Rattle.feed_abi.specs.Calls.{feedCheck, feedStart, feedPut, feedPlan, feedRun}
+use Rattle.feed_abi.specs.Blocks.{feedGive}
 
 -- `left` is `buf` but for the bytes from o to n
 pub record Touched (buf : List ℕ) (o n : ℕ) (left : List ℕ) : Type 0 where
@@ -77,3 +78,7 @@ pub record Buffers : Type 0 where
   pub feed-run : (plan images : List ℕ) (start item offset : ℕ) (values ns left : List ℕ)
       → feedRun plan images start item offset values ≡ ok (ns, left)
       → Touched values 0 (8 * getD ns 0 0) left
+  -- `feed_give` answers how many bytes it took as its eighth number
+  pub feed-give : (profile presence carry block : List ℕ) (phase column held left used : ℕ) (ns carried : List ℕ)
+      → feedGive profile presence carry block phase column held left used ≡ ok (ns, carried)
+      → Touched carry held (held + getD ns 7 0) carried

@@ -123,6 +123,9 @@ use Rattle.feed_abi.proofs.feed_put.Statement.{statement as of-feed-put}
 use Rattle.feed_abi.proofs.feed_room.Statement.{statement as of-feed-room}
 use Rattle.feed_abi.proofs.feed_plan.Statement.{statement as of-feed-plan}
 use Rattle.feed_abi.proofs.feed_run.Statement.{statement as of-feed-run}
+use Rattle.feed_abi.proofs.feed_begin.Statement.{statement as of-feed-begin}
+use Rattle.feed_abi.proofs.feed_give.Statement.{statement as of-feed-give}
+use Rattle.feed_abi.proofs.feed_end.Statement.{statement as of-feed-end}
 
 -- the function meets its contract, whatever the model of the machine's memory
 abbrev pub Meets : (Type 1 → Type 2) → Type 2
@@ -261,3 +264,6 @@ pub record Calls : Type 2 where
   pub feed-room : Meets of-feed-room
   pub feed-plan : Meets of-feed-plan
   pub feed-run : Meets of-feed-run
+  pub feed-begin : Meets of-feed-begin
+  pub feed-give : Meets of-feed-give
+  pub feed-end : Meets of-feed-end

@@ -33,7 +33,7 @@ use Rattle.image.proofs.PutLaws.Fills.{fill-length}
 use Rattle.image.proofs.CursorLaws.Heads.{nulls-tested}
 use Rattle.image.proofs.PutLaws.Puts.{nulls-size}
 use Rattle.blocks.specs.declared.state.Arriving.{Arriving}
-use Rattle.blocks.specs.States.{BlockGiven}
+use Rattle.blocks.specs.States.{Arrived, more, null as null₁, value as value₁, long, part as part₁, end as end₁, BlockGiven}
 use Rattle.blocks.specs.Gives.{giveBlock}
 use Rattle.blocks.proofs.Taken.{give-given, give-sized}
 use Rattle.row_plan.specs.declared.row.RowCursor.{RowCursor}
@@ -42,6 +42,7 @@ use Rattle.row_plan.specs.Runs.{movedBy, valueNumbers, turned, isOver, RowRan, 
 use Rattle.row_plan.proofs.ReadLaws.{run-kept}
 use Rattle.feed_abi.specs.Calls.{saidWith, recordNumbers, cursorNumbers, dialectOf, feedCheck, feedStart, feedPut}
 use Rattle.feed_abi.specs.Calls.{planNumbers, runNumbers, feedPlan, feedRun}
+use Rattle.feed_abi.specs.Blocks.{stateAsked, toldBlock, arrivedNumbers, feedGive}
 use Rattle.promises.specs.Buffers.{Touched, Buffers}
 
 -- a store that went well: where it ended
@@ -317,6 +318,26 @@ feed-runs plan images start item offset values ns left e =
     let x = in-numbers runNumbers (readRun plan images c values) ns left e in
     subst (λ (y : List ℕ). Touched values 0 (8 * getD y 0 0) left) (x .2) (runs plan images c values (x .0 .0) (x .0 .1) left (x .1))
 
+taken-told : (next : Arriving) (taken : ℕ) (a : Arrived) → getD (toldBlock next taken a) 7 0 ≡ taken
+unfolding toldBlock
+taken-told next taken more = refl
+taken-told next taken (null₁ column) = refl
+taken-told next taken (value₁ column v) = refl
+taken-told next taken (long column len) = refl
+taken-told next taken (part₁ column len) = refl
+taken-told next taken (end₁ used) = refl
+
+feed-gives : (r p carry block : List ℕ) (phase column held left used : ℕ) (ns carried : List ℕ)
+    → feedGive r p carry block phase column held left used ≡ ok (ns, carried)
+    → Touched carry held (held + getD ns 7 0) carried
+unfolding feedGive
+feed-gives r p carry block phase column held left used ns carried e =
+    let st = stateAsked phase column held left used in
+    let x = in-numbers arrivedNumbers (giveBlock r p st carry block) ns carried e in
+    let g = x .0 in
+    let n : getD ns 7 0 ≡ g .taken = ap (λ (y : List ℕ). getD y 7 0) (sym (x .2)) ∙ taken-told (g .next) (g .taken) (g .arrival) in
+    subst (λ (k : ℕ). Touched carry held (held + k) carried) (sym n) (gives r p st carry block g carried (x .1))
+
 pub buffers : Buffers
 buffers = record {
   write-bytes = stores;
@@ -334,4 +355,5 @@ buffers = record {
   feed-put = feed-puts;
   feed-plan = feed-plans;
   feed-run = feed-runs;
+  feed-give = feed-gives;
 }

@@ -119,6 +119,9 @@ use Rattle.feed_abi.proofs.feed_put.Met.{met as of-feed-put}
 use Rattle.feed_abi.proofs.feed_room.Met.{met as of-feed-room}
 use Rattle.feed_abi.proofs.feed_plan.Met.{met as of-feed-plan}
 use Rattle.feed_abi.proofs.feed_run.Met.{met as of-feed-run}
+use Rattle.feed_abi.proofs.feed_begin.Met.{met as of-feed-begin}
+use Rattle.feed_abi.proofs.feed_give.Met.{met as of-feed-give}
+use Rattle.feed_abi.proofs.feed_end.Met.{met as of-feed-end}
 use Rattle.promises.specs.Calls.{Calls}
 
 pub calls : Calls
@@ -243,4 +246,7 @@ calls = record {
   feed-room = λ M. of-feed-room {M = M};
   feed-plan = λ M. of-feed-plan {M = M};
   feed-run = λ M. of-feed-run {M = M};
+  feed-begin = λ M. of-feed-begin {M = M};
+  feed-give = λ M. of-feed-give {M = M};
+  feed-end = λ M. of-feed-end {M = M};
 }
