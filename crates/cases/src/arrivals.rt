@@ -165,9 +165,15 @@ fn carried(value: Value) -> Turn {
     }
 }
 
-// What a call told. A part of a long value starts at `from` in the line. The space behind it is due
-// where no other part comes.
-fn told(args: &[u64], arrival: Arrival, from: usize, state: [u64; 10]) -> Turn {
+// Where in the line what is left of the block starts.
+fn rest_at(args: &[u64], state: [u64; 10]) -> u64 {
+    let block = op_place(args, state[WORD] as usize);
+    plus(block.start, state[AT] as usize) as u64
+}
+
+// What a call told that was lent what starts at `from` in the line; a part of a long value is of that.
+// The space behind the value is due where no other part comes.
+fn told(args: &[u64], arrival: Arrival, from: u64, state: [u64; 10]) -> Turn {
     match arrival {
         Arrival::More => silent(next_op(state)),
         Arrival::Null { column: _ } => onward(carried(Value::Null), state),
@@ -177,11 +183,29 @@ fn told(args: &[u64], arrival: Arrival, from: usize, state: [u64; 10]) -> Turn {
             with_due(state, NO_PART),
         ),
         Arrival::Part { column: _, len } => onward(
-            few(PART, from as u64, len as u64, 0, 0),
+            few(PART, from, len as u64, 0, 0),
             with_due(state, SPACE),
         ),
         Arrival::End { used: _ } => finished(args, state),
         Arrival::Refused(refusal) => ended(args, refused(refusal), state),
+    }
+}
+
+fn give_told(args: &[u64], state: [u64; 10], given: Given) -> Turn {
+    let arrival = given.arrival;
+    told(args, arrival, rest_at(args, state), behind(state, given))
+}
+
+// `end USED TAKEN`
+fn end_told(args: &[u64], state: [u64; 10], given: Given) -> Turn {
+    let arrival = given.arrival;
+    match arrival {
+        Arrival::End { used } => ended(
+            args,
+            few(USED_TAKEN, used as u64, state[TAKEN], 0, 0),
+            behind(state, given),
+        ),
+        _ => give_told(args, state, given),
     }
 }
 
@@ -197,38 +221,29 @@ fn kept(room: &[u8], written: usize, before: u64, turn: Turn) -> Turn {
 }
 
 // Gives what is left of the block.
-fn call_give(line: &[u8], args: &[u64], room: &mut [u8], state: [u64; 10]) -> Given {
+fn call_give(line: &[u8], args: &[u64], room: &mut [u8], state: [u64; 10]) -> Turn {
     let block = wire::part_of(line, op_place(args, state[WORD] as usize));
     let rest = part(block, state[AT] as usize, block.len());
     let arriving = arriving_in(state);
-    arriving.give(text(line, args, 1), text(line, args, 2), room, rest)
+    let given = arriving.give(text(line, args, 1), text(line, args, 2), room, rest);
+    give_told(args, state, given)
 }
 
 fn give_turn(line: &[u8], args: &[u64], room: &mut [u8], state: [u64; 10]) -> Turn {
     let written = state[WRITTEN] as usize;
     let before = digest(part(room, 0, written));
-    let given = call_give(line, args, room, state);
-    let block = op_place(args, state[WORD] as usize);
-    let from = plus(block.start, state[AT] as usize);
-    let arrival = given.arrival;
-    kept(
-        room,
-        written,
-        before,
-        told(args, arrival, from, behind(state, given)),
-    )
+    let turn = call_give(line, args, room, state);
+    kept(room, written, before, turn)
 }
 
-// The end of input: `end USED TAKEN`. This call is lent the carry to read alone.
+// The end of input. This call is lent the carry to read alone.
 fn end_turn(line: &[u8], args: &[u64], room: &[u8], state: [u64; 10]) -> Turn {
     let arriving = arriving_in(state);
-    let given = arriving.end(text(line, args, 1), text(line, args, 2), room);
-    let next = behind(state, given);
-    let arrival = given.arrival;
-    match arrival {
-        Arrival::End { used } => ended(args, few(USED_TAKEN, used as u64, next[TAKEN], 0, 0), next),
-        _ => told(args, arrival, 0, next),
-    }
+    end_told(
+        args,
+        state,
+        arriving.end(text(line, args, 1), text(line, args, 2), room),
+    )
 }
 
 // The first call prints nothing.
