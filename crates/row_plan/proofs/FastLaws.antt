@@ -75,8 +75,8 @@ module _ (s : List ℕ) (at : ℕ) (d d′ : List ℕ) (to : ℕ) where
       → Took YearByte s at d d′ to 1
   unfolding isTaken need decode fault placed valueNumbers
   took-year x y h e ey =
-      took-some YearByte s at d d′ to 1 (oneListed 7 y) (omega arith) (omega arith)
-      (λ by p. sym (ap (numbered by) (got YearByte p s at 1 (Year y) (at + 1) refl refl (omega arith) refl (ap Year (ey ∙ ap yearOf e)) refl)))
+      took-some YearByte s at d d′ to 1 (oneListed 7 y) (omega arith) (omega arith) (λ by p. sym (ap (numbered by)
+      (got YearByte p s at 1 (Year y) (at + 1) refl refl (omega arith) refl (ap Year (ey ∙ ap yearOf e)) refl)))
 
 -- ---- temporals: whole part and fraction are at hand, and no part is out of range
 timed-got : (k : Storage) (p : ℕ) (s : List ℕ) (at a f : ℕ) → at + temporalSize k ≤ length s
