@@ -27,7 +27,8 @@ notedNumbers (Value₂ column v) taken next = ok (arrivalNumbers next (sortOf v)
 notedNumbers (Bytes sort column n) taken next = ok (arrivalNumbers next sort column taken (n ∷ []))
 notedNumbers (Refused₁ r) taken next = refused r
 
-noted-told : (a : Arrival) (taken : ℕ) (next : Arriving) → said arrivedNumbers (arrivalTold a taken next) ≡ notedNumbers (notedOf a) taken next
+noted-told : (a : Arrival) (taken : ℕ) (next : Arriving)
+    → said arrivedNumbers (arrivalTold a taken next) ≡ notedNumbers (notedOf a) taken next
 unfolding toldBlock
 noted-told More taken next = refl
 noted-told (Null column) taken next = refl

@@ -20,8 +20,8 @@ ghost use Rattle.wire.specs.Stored.{stored, answerOf};
 ghost use Rattle.value_parts.specs.Parts.{sortOf, partsOf};
 ghost use Rattle.feed_abi.specs.Answers.{answerNumber, answerNumbers, statusOf, numbersLeft, bytesLeft};
 ghost use Rattle.feed_abi.specs.Calls.{said};
-ghost use Rattle.feed_abi.specs.Blocks.{phaseNumber, phaseAsked, stateNumbers, stateAsked, arrivalHead, arrivalNumbers, arrivedNumbers};
-ghost use Rattle.feed_abi.specs.Blocks.{feedBegin, feedGive, feedEnd};
+ghost use Rattle.feed_abi.specs.Blocks.{phaseNumber, phaseAsked, stateNumbers, stateAsked};
+ghost use Rattle.feed_abi.specs.Blocks.{arrivalHead, arrivalNumbers, arrivedNumbers, feedBegin, feedGive, feedEnd};
 ghost use Rattle.feed_abi.specs.Inner.Blocks.{givenTold, notedOf};
 
 // What arrives beside values, each with a number that no sort of value has.

@@ -41,7 +41,8 @@ unfolding feedBegin
 returns-2 c = let a = c .before .before .before .before .before .before .before .before .before .before .before .before .before .args in
     let o = beginBlocks (a .profile .now) (a .presence .now) (a .carry .now) in
     said-ok 5 (a .out .now) stateNumbers o _ _ _ (omega arith)
-    (sym (begun-told o) ∙ sym (ap begunTold (c .before .before .before .before .before .before .before .begin .ensures)) ∙ ap begunTold (c .before .before .before .before .before .at .given .1))
+    (sym (begun-told o) ∙ sym (ap begunTold (c .before .before .before .before .before .before .before .begin .ensures))
+    ∙ ap begunTold (c .before .before .before .before .before .at .given .1))
     (c .before .before .tell-state .ensures .0) (c .before .before .tell-state .ensures .1)
 
 same-length-2 : tie.Need-same-length-2
@@ -52,7 +53,8 @@ unfolding feedBegin
 returns-3 c = let a = c .before .before .before .before .before .before .before .before .before .before .before .before .before .args in
     let o = beginBlocks (a .profile .now) (a .presence .now) (a .carry .now) in
     said-refused 5 (a .out .now) stateNumbers o _ _ _ (omega arith)
-    (sym (begun-told o) ∙ sym (ap begunTold (c .before .before .before .before .before .before .before .begin .ensures)) ∙ ap begunTold (c .before .before .before .before .before .r .given .1))
+    (sym (begun-told o) ∙ sym (ap begunTold (c .before .before .before .before .before .before .before .begin .ensures))
+    ∙ ap begunTold (c .before .before .before .before .before .r .given .1))
     (c .before .before .tell-refusal .ensures .0) (c .before .before .tell-refusal .ensures .1)
 
 pub feed-begin-spec : {M : Type 1} → statement M

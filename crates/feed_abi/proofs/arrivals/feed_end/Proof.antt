@@ -32,7 +32,8 @@ unfolding feedEnd
 returns-2 c =
     let a = c .before .before .before .before .before .before .before .before .before .before .before .args in
     tells-told 15 (a .out .now) _ _ _ _ (omega arith)
-    (end-told (a .profile .now) (a .presence .now) (a .carry .now) _ _ _ (c .before .before .before .before .before .state-asked .ensures) (c .before .before .before .before .end .ensures))
+    (end-told (a .profile .now) (a .presence .now) (a .carry .now) _ _ _
+    (c .before .before .before .before .before .state-asked .ensures) (c .before .before .before .before .end .ensures))
     (c .before .before .tell-given .ensures .0) (c .before .before .tell-given .ensures .1)
 
 pub feed-end-spec : {M : Type 1} → statement M

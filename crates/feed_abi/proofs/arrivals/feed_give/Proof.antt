@@ -36,9 +36,13 @@ same-length-2 c = search needs
 returns-2 : tie.Need-returns-2
 unfolding feedGive
 returns-2 c =
-    let a = c .before .before .before .before .before .before .before .before .before .before .before .before .before .before .before .args in
+    let a =
+    c .before .before .before .before .before .before .before .before .before .before .before .before .before .before .before .args in
     let g = give-told (a .profile .now) (a .presence .now) (a .carry .now) (a .block .now) _ _ _ _
-    (c .before .before .before .before .before .before .before .before .state-asked .ensures) (c .before .before .before .before .before .before .give .ensures .0) (c .before .before .before .before .before .before .give .ensures .1) in
+    (c .before .before .before .before .before .before .before .before .state-asked .ensures)
+    (c .before .before .before .before .before .before .give .ensures .0)
+    (c .before .before .before .before .before .before .give .ensures .1)
+    in
     wrote-told 15 (a .out .now) (a .carry .now) arrivedNumbers
     (giveBlock (a .profile .now) (a .presence .now) (stateAsked (a .phase) (a .column) (a .held) (a .left) (a .used)) (a .carry .now)
     (a .block .now)) _ _ _ _ _ (omega arith) refl (g .0) (c .before .before .tell-given .ensures .0)

@@ -1,5 +1,5 @@
 -- `feed_abi::arrivals::tell_bytes` meets its contract. Assumes nothing.
-use mathlib.Core.Path.{refl, _∙_}
+use mathlib.Core.Path.{refl}
 use native.Mathlib.Omega.{arith}
 use Rattle.value_parts.specs.Parts.{padded}
 use Rattle.feed_abi.proofs.Tells.{head-then}
@@ -25,7 +25,11 @@ same-length c = search needs
 
 returns : tie.Need-returns
 unfolding padded
-returns c = (refl, head-then 8 _ _ _ _ _ refl (omega arith) (c .before .before .before .before .before .before .before .put-arrival .ensures) (c .before .before .put-numbers .ensures))
+returns c = (
+  refl,
+  head-then 8 _ _ _ _ _ refl (omega arith) (c .before .before .before .before .before .before .before .put-arrival .ensures)
+      (c .before .before .put-numbers .ensures),
+)
 
 pub tell-bytes-spec : {M : Type 1} → statement M
 tell-bytes-spec =

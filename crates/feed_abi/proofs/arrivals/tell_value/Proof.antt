@@ -35,7 +35,10 @@ returns c = (
   refl,
   head-then 8 _ _ _ _ _ refl (omega arith) (c .before .before .before .before .before .before .before .put-arrival .ensures)
       (c .before .before .put-numbers .ensures)
-      ∙ rw (c .before .before .before .before .before .before .before .before .before .sort-of .ensures, c .before .before .before .before .before .before .before .before .before .before .parts-of .ensures .0),
+      ∙ rw (
+        c .before .before .before .before .before .before .before .before .before .sort-of .ensures,
+        c .before .before .before .before .before .before .before .before .before .before .parts-of .ensures .0,
+      ),
 )
 
 pub tell-value-spec : {M : Type 1} → statement M
