@@ -65,6 +65,12 @@ uint64_t rows_by_steps(const uint8_t *profile, size_t profile_length, const uint
 /* How many values are asked for at a time. */
 #define BATCH 256
 
+/* the numbers of one value, added in pairs: a sum that waits for each number costs more than the reading of it */
+static uint64_t value_sum(const uint64_t *v)
+{
+    return ((v[0] + v[1]) + (v[2] + v[3])) + ((v[4] + v[5]) + (v[6] + v[7]));
+}
+
 uint64_t rows_by_run(const uint8_t *profile, size_t profile_length, const uint8_t *presence, size_t presence_length,
                      const uint8_t *images, size_t images_length, uint64_t *out)
 {
@@ -97,8 +103,8 @@ uint64_t rows_by_run(const uint8_t *profile, size_t profile_length, const uint8_
         item = answer[FEED_RUN_ITEM];
         offset = answer[FEED_RUN_OFFSET];
         numbers = FEED_VALUE_NUMBERS * answer[FEED_RUN_VALUES];
-        for (i = 0; i < numbers; i++)
-            sum += values[i];
+        for (i = 0; i < numbers; i += FEED_VALUE_NUMBERS)
+            sum += value_sum(values + i);
         out[0] = sum;
     }
 }

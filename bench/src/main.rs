@@ -37,6 +37,7 @@ fn sides() -> Vec<Box<dyn Side>> {
         Box::new(port::Run),
         Box::new(port::RunFromC),
         Box::new(port::Crate),
+        Box::new(port::CrateImages),
         Box::new(port::Steps),
         Box::new(port::StepsFromC),
     ]

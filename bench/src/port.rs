@@ -298,6 +298,42 @@ impl Crate {
     }
 }
 
+/// The same crate's iterator over all images at once.
+pub struct CrateImages;
+
+impl CrateImages {
+    #[inline(always)]
+    fn each(lent: Lent, mut told: impl FnMut(Value)) -> Ended {
+        let record = feed::Record::from_bytes(lent.record.to_vec()).map_err(our_refusal)?;
+        let images = record
+            .images(lent.presence, lent.images)
+            .map_err(our_refusal)?;
+        for item in images {
+            let (_, value) = item.map_err(our_refusal)?;
+            told(our_value(value));
+        }
+        Ok(())
+    }
+}
+
+impl Side for CrateImages {
+    fn name(&self) -> &'static str {
+        "crate-images"
+    }
+
+    fn walk(&self, lent: Lent, told: &mut dyn FnMut([u64; 8])) -> Option<Ended> {
+        Some(CrateImages::each(lent, |value| {
+            told(value.numbers(lent.images))
+        }))
+    }
+
+    fn sum(&self, lent: Lent) -> (u64, Ended) {
+        let mut sum = 0u64;
+        let ended = CrateImages::each(lent, |value| sum = sum.wrapping_add(value.sum(lent.images)));
+        (sum, ended)
+    }
+}
+
 fn our_refusal(theirs: feed::Refusal) -> Refusal {
     Refusal {
         number: theirs.number(),

@@ -310,14 +310,24 @@ pub(crate) fn run(
     (item, offset): (usize, usize),
     values: &mut [u64],
 ) -> Result<Answer, Refusal> {
+    run_on(plan, image, (0, item, offset), values)
+}
+
+/// Values of images laid end to end, from where an image starts, an item of it and its offset on.
+pub(crate) fn run_on(
+    plan: &[u8],
+    images: &[u8],
+    (start, item, offset): (usize, usize, usize),
+    values: &mut [u64],
+) -> Result<Answer, Refusal> {
     let mut out = [0; NUMBERS];
     let status = unsafe {
         feed_run(
             plan.as_ptr(),
             plan.len(),
-            image.as_ptr(),
-            image.len(),
-            0,
+            images.as_ptr(),
+            images.len(),
+            start,
             item,
             offset,
             values.as_mut_ptr(),

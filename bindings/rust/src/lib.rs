@@ -16,6 +16,7 @@
 mod abi;
 mod event;
 mod fields;
+mod images;
 mod plan;
 pub mod refusal;
 mod row;
@@ -26,6 +27,7 @@ mod value;
 pub use event::{code, ChangedRow, Image, Rows, RowsEvent};
 pub use fields::{field_type, fields, groups, integers, pairs, strings};
 pub use fields::{Field, Fields, Group, Groups, Integers, Pairs, Strings};
+pub use images::Images;
 pub use refusal::{Part, Refusal};
 pub use row::Row;
 pub use table::{table, KeyPart, Table, TableColumn};

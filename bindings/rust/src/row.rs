@@ -16,8 +16,8 @@ const BATCH: usize = 16;
 pub struct Row<'a> {
     plan: Arc<Plan>,
     image: &'a [u8],
-    // numbers of values that were read, of the item `first` and of those behind it
-    numbers: [u64; NUMBERS * BATCH],
+    // values that were read, as numbers: of the item `first` and of those behind it
+    values: [[u64; NUMBERS]; BATCH],
     first: usize,
     // the item to give next, and the one to read next with the offset of its value
     given: usize,
@@ -42,41 +42,8 @@ impl Row<'_> {
         }
     }
 
-    /// Reads on, no further than the row goes. A refusal comes only if it is the first item's.
-    fn read_on(&mut self, left: usize) -> Result<(), Refusal> {
-        let room = &mut self.numbers[..NUMBERS * left.min(BATCH)];
-        let at = (self.item, self.offset);
-        let out = abi::run(&self.plan.bytes, self.image, at, room)?;
-        // the library takes no bytes for the end of all images; here an image is due
-        if out[0] == 0 {
-            return Err(Refusal::at(refusal::IMAGE_SHORT, 0));
-        }
-        self.first = self.item;
-        self.item = out[2] as usize;
-        self.offset = out[3] as usize;
-        Ok(())
-    }
-}
-
-impl<'a> Row<'a> {
-    /// The item to give, which was read.
-    fn give(&mut self) -> Result<(usize, Value<'a>), Refusal> {
-        let column = self.plan.columns[self.given];
-        let at = NUMBERS * (self.given - self.first);
-        let mut parts = [0; NUMBERS - 1];
-        parts.copy_from_slice(&self.numbers[at + 1..at + NUMBERS]);
-        // the library answers only the kinds that it names, and bytes that lie in the image
-        let value = Value::from_parts(self.numbers[at], parts, self.image)
-            .ok_or(Refusal::at(refusal::IMAGE_SHORT, column as u64))?;
-        self.given += 1;
-        Ok((column, value))
-    }
-}
-
-impl<'a> Iterator for Row<'a> {
-    type Item = Result<(usize, Value<'a>), Refusal>;
-
-    fn next(&mut self) -> Option<Self::Item> {
+    /// Reads on, no further than the row goes: nothing at its end. A refusal comes only if it is the next value's.
+    fn read_on(&mut self) -> Option<Result<(), Refusal>> {
         let State::On = self.state else {
             return None;
         };
@@ -85,16 +52,52 @@ impl<'a> Iterator for Row<'a> {
             self.state = State::Ended;
             return None;
         }
-        let read = if self.given == self.item {
-            self.read_on(left)
-        } else {
-            Ok(())
+        let room = self.values[..left.min(BATCH)].as_flattened_mut();
+        let at = (self.item, self.offset);
+        let out = match abi::run(&self.plan.bytes, self.image, at, room) {
+            Ok(out) => out,
+            Err(why) => return Some(Err(self.stop(why))),
         };
-        let given = read.and_then(|()| self.give());
-        if given.is_err() {
-            self.state = State::Refused;
+        // the library takes no bytes for the end of all images; here an image is due
+        if out[0] == 0 {
+            return Some(Err(self.stop(Refusal::at(refusal::IMAGE_SHORT, 0))));
         }
-        Some(given)
+        self.first = self.item;
+        self.item = out[2] as usize;
+        self.offset = out[3] as usize;
+        Some(Ok(()))
+    }
+
+    /// Ends the walk, for a refusal.
+    #[cold]
+    fn stop(&mut self, why: Refusal) -> Refusal {
+        self.state = State::Refused;
+        self.given = self.item;
+        why
+    }
+}
+
+impl<'a> Iterator for Row<'a> {
+    type Item = Result<(usize, Value<'a>), Refusal>;
+
+    // inlined, so that whoever takes the value apart again finds it in registers
+    #[inline(always)]
+    fn next(&mut self) -> Option<Self::Item> {
+        if self.given == self.item {
+            if let Err(why) = self.read_on()? {
+                return Some(Err(why));
+            }
+        }
+        let column = self.plan.columns[self.given];
+        let numbers = &self.values[self.given - self.first];
+        self.given += 1;
+        // the library answers only the kinds that it names, and bytes that lie in the image
+        match Value::from_numbers(numbers, self.image) {
+            Some(value) => Some(Ok((column, value))),
+            None => Some(Err(
+                self.stop(Refusal::at(refusal::IMAGE_SHORT, column as u64))
+            )),
+        }
     }
 }
 
@@ -109,7 +112,7 @@ impl Record {
         Ok(Row {
             plan,
             image,
-            numbers: [0; NUMBERS * BATCH],
+            values: [[0; NUMBERS]; BATCH],
             first: 0,
             given: 0,
             item: 0,

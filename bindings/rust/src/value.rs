@@ -87,8 +87,9 @@ const BYTES: u64 = 11;
 
 impl<'a> Value<'a> {
     /// The value of a kind and its parts, which the library answers within the widths that they are cut to here.
-    pub(crate) fn from_parts(kind: u64, parts: [u64; 7], image: &'a [u8]) -> Option<Value<'a>> {
-        let [a, b, c, d, e, f, g] = parts;
+    #[inline(always)]
+    pub(crate) fn from_numbers(numbers: &[u64; NUMBERS], image: &'a [u8]) -> Option<Value<'a>> {
+        let [kind, a, b, c, d, e, f, g] = *numbers;
         Some(match kind {
             NULL => Value::Null,
             INT => Value::Int(a as i64),

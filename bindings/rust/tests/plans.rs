@@ -512,3 +512,113 @@ fn presence_bits_may_change_with_every_row() {
     let wrong = record.row(&[0; 2], &image).unwrap_err();
     assert_eq!(wrong, Refusal::BadBits);
 }
+
+// all values of images laid end to end, read a row at a time, and why there is no further one
+fn by_rows<'a>(
+    record: &'a Record,
+    presence: &'a [u8],
+    images: &'a [u8],
+) -> (Vec<(usize, Value<'a>)>, Option<Refusal>) {
+    let (mut values, mut rest) = (Vec::new(), images);
+    while !rest.is_empty() {
+        let (row, ended) = by_crate(record, presence, rest);
+        values.extend(row);
+        match ended {
+            // where no column is present an image takes no bytes
+            Ok(0) => return (values, Some(Refusal::of(9, 0, 0))),
+            Ok(used) => rest = &rest[used..],
+            Err(why) => return (values, Some(why)),
+        }
+    }
+    (values, None)
+}
+
+fn same_as_rows(record: &Record, presence: &[u8], images: &[u8]) -> (usize, Option<Refusal>) {
+    let mut all = match record.images(presence, images) {
+        Ok(all) => all,
+        Err(why) => {
+            assert_eq!(by_rows(record, presence, images).1, Some(why));
+            return (0, Some(why));
+        }
+    };
+    let (mut values, mut stop) = (Vec::new(), None);
+    for item in all.by_ref() {
+        match item {
+            Ok(value) => values.push(value),
+            Err(why) => stop = Some(why),
+        }
+    }
+    assert_eq!(all.next(), None);
+    let wanted = by_rows(record, presence, images);
+    let got = (values, stop);
+    assert_eq!(
+        format!("{got:?}"),
+        format!("{wanted:?}"),
+        "{presence:?} {images:?}"
+    );
+    (got.0.len(), stop)
+}
+
+#[test]
+fn images_laid_end_to_end_are_read_as_their_rows_are() {
+    let record = many_forms();
+    let mut seed = 21;
+    let (mut whole, mut cut) = (0, 0);
+    for _ in 0..2000 {
+        let presence = (next(&mut seed) & next(&mut seed)).to_le_bytes();
+        let length = next(&mut seed) % 200;
+        let images: Vec<u8> = (0..length)
+            .map(|_| (next(&mut seed) & next(&mut seed) & next(&mut seed) & 0xff) as u8)
+            .collect();
+        match same_as_rows(&record, &presence[..3], &images).1 {
+            None => whole += 1,
+            Some(_) => cut += 1,
+        }
+    }
+    assert!(whole > 10 && cut > 300, "{whole} {cut}");
+}
+
+#[test]
+fn images_are_more_than_a_buffer_holds() {
+    let record = record_of(&[[3, 12, 0, 0], [18, 8, 6, 0], [13, 8, 0, 0]]);
+    let values = [
+        Value::Int(-7),
+        Value::Datetime {
+            year: 2024,
+            month: 2,
+            day: 29,
+            hour: 23,
+            minute: 59,
+            second: 58,
+            micros: 999_999,
+        },
+        Value::Null,
+    ];
+    let image = record.write_row(&[7], &values).unwrap();
+    let mut images = image.repeat(1000);
+    assert_eq!(same_as_rows(&record, &[7], &images), (3000, None));
+    assert_eq!(record.images(&[7], &images).unwrap().row_len(), 3);
+    // the last row ends early, or a part of it is out of range
+    let last = images.len();
+    images.truncate(last - 1);
+    let short = Refusal::of(9, 1, 0);
+    assert_eq!(same_as_rows(&record, &[7], &images), (2998, Some(short)));
+    images.push(0x40);
+    images[last - 3..].fill(0xff);
+    let fraction = Refusal::of(10, 1, 7);
+    assert_eq!(same_as_rows(&record, &[7], &images), (2998, Some(fraction)));
+}
+
+#[test]
+fn no_present_column_leaves_the_images_over() {
+    let record = record_of(&[[3, 12, 0, 0]]);
+    assert_eq!(same_as_rows(&record, &[0], &[]), (0, None));
+    assert_eq!(
+        same_as_rows(&record, &[0], &[1]),
+        (0, Some(Refusal::of(9, 0, 0)))
+    );
+    assert_eq!(
+        same_as_rows(&record, &[2, 0], &[1]),
+        (0, Some(Refusal::of(12, 0, 0)))
+    );
+}

@@ -1,10 +1,11 @@
 -- What a run does at an item of an image that was tested, and where it turns to the next image. Assumes nothing.
-use Prim.Native.Nat.{ℕ, zero, suc, _+_, _-_, _*_, _≤_, _<_, _^_}
+use Prim.Native.Nat.{ℕ, zero, suc, _+_, _-_, _*_, _/_, _≤_, _<_, _^_, min}
 use mathlib.Core.Path.{_≡_, refl, sym, ap, _∙_}
 use mathlib.Core.Bool.{Bool, true, false, cond, _&&_}
 use mathlib.Core.List.{List, [], _∷_, _++_}
 use mathlib.Core.Logic.{dite}
 use native.Mathlib.Decide.{decLe}
+use native.Mathlib.Nat.{add-zero}
 use native.Mathlib.Omega.{arith}
 use borrow.Author.Tests.{eq-eqb, ne-eqb, le-leb, lt-leb, le-ltb, lt-ltb, ltb-false}
 use lib.ListN.{length, set, getD, take, drop, length-drop, length-take}
@@ -26,7 +27,9 @@ use Rattle.row_plan.specs.declared.row.RowCursor.{RowCursor}
 use Rattle.row_plan.specs.Plan.{itemCount, itemAt, rowCursor, RowStepped, null, value, rowNext, planStep}
 use Rattle.row_plan.specs.Runs.{valueNumbers, turned, isOver, RowRan, ran, runOn, runFrom}
 use Rattle.row_plan.specs.Inner.Numbers.{numbered, itemNumbers}
-use Rattle.row_plan.specs.Inner.Paused.{Stands, rowGate}
+use Rattle.row_plan.specs.Inner.Fast.{Took, TookItem}
+use Rattle.row_plan.specs.Inner.Paused.{Stands, Running, rowGate}
+use Rattle.row_plan.proofs.NumberLaws.{oneListed}
 use Rattle.row_plan.proofs.Goes.{goes, slots-here, row-none, row-short, row-past, row-end}
 
 -- ---- eight numbers stored one after the other
@@ -244,17 +247,6 @@ pub standing : (plan images : List ℕ) (items : ℕ) (c : RowCursor) (item offs
     → offset ≤ length images - c .start → Stands plan images items (rowCursor (c .start) item offset)
 standing plan images items c item offset t i o = record { count = t .count; item = i; nulls = t .nulls; offset = o }
 
-pub record Running (plan images : List ℕ) (items room had : ℕ) (d₀ : List ℕ) (here : RowCursor) (d : List ℕ) (item offset values : ℕ) :
-    Type 0 where
-  pub more : had ≤ values
-  pub most : values ≤ room
-  pub counted : item ≤ items
-  pub first : values ≡ had → item < items
-  pub same : length d ≡ length d₀
-  pub inside : offset ≤ length images - here .start
-  pub goes : runFrom (room - values) plan images (rowCursor (here .start) item offset) values d
-      ≡ runFrom (room - had) plan images here had d₀
-
 pub run-begin : (plan images : List ℕ) (items room had : ℕ) (d : List ℕ) (here : RowCursor) → Stands plan images items here → had < room
     → Running plan images items room had d here d (here .item) (here .offset) had
 run-begin plan images items room had d here t h = record {
@@ -296,3 +288,123 @@ module _ (plan images : List ℕ) (items room had : ℕ) (d₀ : List ℕ) (here
       let m : room - values ≡ suc (room - (values + 1)) = omega arith in
       sym (run-bad plan images items (rowCursor (here .start) item offset) u is (room - (values + 1)) values d w e)
       ∙ ap (λ (k : ℕ). runFrom k plan images (rowCursor (here .start) item offset) values d) (sym m) ∙ r .goes
+
+-- ---- an item read fast
+pub took-null : (plan image : List ℕ) (item offset : ℕ) (d d′ : List ℕ) (to : ℕ) → bitLsb0 image item ≡ true
+    → d′ ≡ stored (oneListed 1 0) d to → TookItem plan image item offset d d′ to 1
+unfolding valueNumbers
+took-null plan image item offset d d′ to e s = record {
+  few = omega arith;
+  left = λ x. absurd (omega (arith, x));
+  taken = λ f. record { numbers = oneListed 1 0; read = λ by p. rw add-zero (item-null plan image by item offset e); put = s };
+}
+
+pub took-left : (plan image : List ℕ) (item offset : ℕ) (d d′ : List ℕ) (to : ℕ) → d′ ≡ d → TookItem plan image item offset d d′ to 0
+took-left plan image item offset d d′ to e = record { few = omega arith; left = λ x. e; taken = λ f. absurd (f refl) }
+
+pub took-read : (plan image : List ℕ) (item offset op : ℕ) (d d′ : List ℕ) (to n : ℕ) → bitLsb0 image item ≡ false
+    → op ≡ getD plan (3 * item) 0 → Took (shapeFor op) image offset d d′ to n → (n ≡ 0 → ⊥)
+    → TookItem plan image item offset d d′ to (1 + n)
+took-read plan image item offset op d d′ to n e o t f =
+    let k = t .taken f in
+    let m : 1 + n - 1 ≡ n = omega arith in
+    let j = leValue (take 2 (drop (3 * item + 1) plan)) in
+    record {
+      few = omega (arith, t .few);
+      left = λ x. absurd (omega (arith, x));
+      taken = λ x. record {
+        numbers = k .numbers;
+        read = λ by p. rw m (item-read plan image by item offset op j e o refl ∙ k .read by j);
+        put = k .put;
+      };
+    }
+
+-- ---- the loop that reads fast, up to a limit: for each item before it eight bytes and room for a value are there
+pub record Taking (plan images : List ℕ) (items room had : ℕ) (d₀ : List ℕ) (here : RowCursor) (d : List ℕ)
+    (item offset values limit : ℕ) : Type 0 where
+  pub run : Running plan images items room had d₀ here d item offset values
+  pub space : values + (limit - item) ≤ room
+  pub bytes : offset + 8 * (limit - item) ≤ length images - here .start
+  pub most : limit ≤ items
+
+-- the limit: as many items as there are, as there is room for, and as there are eight bytes for
+min-left : (a b : ℕ) → min a b ≤ a
+min-left a b = omega arith
+
+min-right : (a b : ℕ) → min a b ≤ b
+min-right a b = omega arith
+
+within : (items room had item offset len a b : ℕ) → item < items → had < room → offset ≤ len → a ≤ items - item → a ≤ room - had → b ≤ a
+    → b ≤ (len - offset) / 8 → (item + b ≤ items) × (had + b ≤ room) × (offset + 8 * b ≤ len)
+within items room had item offset len a b i h o x y z u = (omega arith, omega arith, omega arith)
+
+pub limit-of : (items room had item offset len left a b : ℕ) → item < items → had < room → offset ≤ len → len ≡ left
+    → a ≡ min (items - item) (room - had) → b ≡ min a ((len - offset) / 8)
+    → (item + b ≤ items) × (had + b ≤ room) × (offset + 8 * b ≤ left)
+limit-of items room had item offset len left a b i h o e ea eb =
+    let w = within items room had item offset len a b i h o (rw ea (min-left _ _)) (rw ea (min-right _ _)) (rw eb (min-left _ _))
+    (rw eb (min-right _ _)) in
+    (w .0, w .1, rw (← e) (w .2))
+
+pub take-begin : (plan images : List ℕ) (items room had : ℕ) (d : List ℕ) (here : RowCursor) (b : ℕ) → Stands plan images items here
+    → had < room → here .item + b ≤ items → had + b ≤ room → here .offset + 8 * b ≤ length images - here .start
+    → Taking plan images items room had d here d (here .item) (here .offset) had (here .item + b)
+take-begin plan images items room had d here b t h x y z =
+    let m : here .item + b - here .item ≡ b = omega arith in
+    record { run = run-begin plan images items room had d here t h; space = rw m y; bytes = rw m z; most = x }
+
+pub take-fits : (offset limit item len n : ℕ) → offset + 8 * (limit - item) ≤ len → item < limit → n ≤ 9 → len < 2 ^ 64
+    → offset + (n - 1) < 2 ^ 64
+take-fits offset limit item len n h l f b = omega arith
+
+module _ (plan images : List ℕ) (items room had : ℕ) (d₀ : List ℕ) (here : RowCursor) (t : Stands plan images items here) (d : List ℕ)
+    (item offset values limit : ℕ) (r : Taking plan images items room had d₀ here d item offset values limit) (l : item < limit)
+    {im : List ℕ} (is : im ≡ drop (here .start) images) where
+  pub take-turn : (n : ℕ) (d′ : List ℕ) → TookItem plan im item offset d d′ (8 * values) n → (n ≡ 0 → ⊥) → length d′ ≡ length d
+      → Taking plan images items room had d₀ here d′ (item + 1) (offset + (n - 1)) (values + 1) limit
+  take-turn n d′ k f e =
+      let g = k .taken f in
+      record {
+        run = run-turn plan images items room had d₀ here t d item offset values (r .run) (omega (arith, r .space))
+            (omega (arith, r .most)) is (g .numbers) (offset + (n - 1)) d′ (g .read (here .start) 0) (g .put) e;
+        space = omega (arith, r .space);
+        bytes = omega (arith, r .bytes, k .few);
+        most = r .most;
+      }
+
+-- ---- the loop through one image, at a cursor
+pub record Along (plan images : List ℕ) (items room had : ℕ) (d₀ : List ℕ) (here : RowCursor) (d : List ℕ) (at : RowCursor) (values : ℕ) :
+    Type 0 where
+  pub run : Running plan images items room had d₀ here d (at .item) (at .offset) values
+  pub start : at .start ≡ here .start
+
+module _ (plan images : List ℕ) (items room had : ℕ) (d₀ : List ℕ) (here : RowCursor) (d : List ℕ) (at : RowCursor) (values : ℕ)
+    (r : Along plan images items room had d₀ here d at values) where
+  pub along-goes : runFrom (room - values) plan images at values d ≡ runFrom (room - had) plan images here had d₀
+  along-goes =
+      ap (λ (s : ℕ). runFrom (room - values) plan images (rowCursor s (at .item) (at .offset)) values d) (r .start) ∙ r .run .goes
+
+  pub along-stands : Stands plan images items here → at .item < items → Stands plan images items at
+  along-stands t i = record {
+    count = t .count;
+    item = i;
+    nulls = omega (arith, t .nulls, r .start);
+    offset = omega (arith, r .run .inside, r .start);
+  }
+
+  -- on from where another run stood that began here
+  pub along-join : (d′ : List ℕ) (item offset values′ : ℕ) → Running plan images items room values d at d′ item offset values′
+      → Along plan images items room had d₀ here d′ (rowCursor (here .start) item offset) values′
+  along-join d′ item offset values′ q = record {
+    run = record {
+      more = omega (arith, r .run .more, q .more);
+      most = q .most;
+      counted = q .counted;
+      first = λ e. q .first (omega (arith, r .run .more, q .more, e));
+      same = q .same ∙ r .run .same;
+      inside = omega (arith, q .inside, r .start);
+      goes =
+          ap (λ (s : ℕ). runFrom (room - values′) plan images (rowCursor s item offset) values′ d′) (sym (r .start)) ∙ q .goes ∙ along-goes;
+    };
+    start = refl;
+  }

@@ -1,4 +1,5 @@
 // Many values read by a plan at once, as numbers: for C, and for whoever reads in batches.
+use crate::fast::take_op;
 use crate::make::ITEM_BYTES;
 use crate::numbers::Numbers;
 use crate::numbers::NumbersRead;
@@ -6,19 +7,22 @@ use crate::numbers::number_op;
 use crate::numbers::one;
 use crate::row::RowCursor;
 use crate::row::column_at;
+use crate::row::least;
 use value_parts::sort::NULL;
 use wire::Refusal;
 use wire::refusal::IMAGE_SHORT;
 use wire::refusal::NO_COLUMN;
 use wire::refusal::NO_ROOM;
 ghost use mathlib.Core.Path.{_≡_};
-ghost use Prim.Native.Nat.{_+_, _-_, _*_, _≤_, _<_, _^_};
+ghost use Prim.Native.Nat.{_+_, _-_, _*_, _/_, _≤_, _<_, _^_};
 ghost use lib.ListN.{length};
+ghost use Rattle.wire.specs.Bits.{bitLsb0};
 ghost use Rattle.wire.specs.Stored.{stored, answerOf, leftOf};
 ghost use Rattle.row_plan.specs.Plan.{itemCount};
 ghost use Rattle.row_plan.specs.Runs.{turned, isOver, runFrom, readRun, ranTold};
 ghost use Rattle.row_plan.specs.Inner.Numbers.{listed, numbersTold, itemNumbers};
-ghost use Rattle.row_plan.specs.Inner.Paused.{rowGate, gateTold, pausedRun, Further, Stands, stopAnswer};
+ghost use Rattle.row_plan.specs.Inner.Fast.{TookItem};
+ghost use Rattle.row_plan.specs.Inner.Paused.{rowGate, gateTold, pausedRun, Further, Stands, Running, stopAnswer};
 
 // How many numbers a value has: its sort and seven parts.
 pub const VALUE_NUMBERS: usize = 8;
@@ -42,6 +46,13 @@ pub(crate) enum Paused {
     },
 }
 
+// How far an image was read fast: how many values are stored, and where the next stands.
+pub(crate) struct Reached {
+    pub(crate) values: usize,
+    pub(crate) item: usize,
+    pub(crate) offset: usize,
+}
+
 // Whether there may be a value at a cursor.
 pub(crate) enum Gate {
     Open,
@@ -49,7 +60,7 @@ pub(crate) enum Gate {
 }
 
 // The numbers of a value, stored where there is room for them.
-fn put(n: Numbers, out: &mut [u64], at: usize)
+pub(crate) fn put(n: Numbers, out: &mut [u64], at: usize)
     requires { ⌜ at + 8 ≤ length (now out) ⌝ }
     ensures { λ _. ⌜ now (out .exit) ≡ stored (listed n) (now (out .entry)) at ⌝ }
 {
@@ -79,8 +90,86 @@ fn number_item(plan: &[u8], image: &[u8], by: usize, item: usize, offset: usize)
     number_op(plan[at], image, offset, column_at(plan, at), by)
 }
 
-// From an item of an image on, to the image's end, to that of the room, or to a value that is refused. The image was tested before, so that
-// each value costs its own bytes alone.
+// Whether an item is NULL; its bit is there.
+fn is_null(image: &[u8], item: usize) -> bool
+    requires { ⌜ item / 8 < length (now image) ⌝ }
+    ensures { λ r. ⌜ r ≡ bitLsb0 (now (image .entry)) item ⌝ }
+{
+    (image[item / 8] >> (item % 8)) % 2 == 1
+}
+
+// The value of one item: one more than how many bytes it takes, NULL none, or 0 if it is left.
+fn take_item(
+    plan: &[u8],
+    image: &[u8],
+    item: usize,
+    offset: usize,
+    out: &mut [u64],
+    to: usize,
+) -> usize
+    requires { ⌜ (3 * item + 3 ≤ length (now plan)) × (item / 8 < length (now image)) ⌝ }
+    requires { ⌜ (offset + 8 ≤ length (now image)) × (to + 8 ≤ length (now out)) ⌝ }
+    ensures { λ r. ⌜ TookItem (now (plan .entry)) (now (image .entry)) item offset (now (out .entry)) (now (out .exit)) to r ⌝ }
+{
+    if is_null(image, item) {
+        put(one(NULL, 0), out, to);
+        return 1;
+    }
+    let n = take_op(plan[ITEM_BYTES * item], image, offset, out, to);
+    if n == 0 {
+        return 0;
+    }
+    1 + n
+}
+
+// From an item of an image on, as far as values are read fast: to a value that is left, to the image's end, to that of the room, or to
+// where eight bytes for each value might not be there. So no value tests what is left of the images.
+fn take_items(
+    here: RowCursor,
+    plan: &[u8],
+    images: &[u8],
+    items: usize,
+    room: usize,
+    had: usize,
+    out: &mut [u64],
+) -> Reached
+    requires { ⌜ Stands (now plan) (now images) items here ⌝ }
+    requires { ⌜ (had < room) × (8 * room ≤ length (now out)) ⌝ }
+    ensures { λ r. ⌜ Running (now (plan .entry)) (now (images .entry)) items room had (now (out .entry)) here (now (out .exit)) (r .item)
+        (r .offset) (r .values) ⌝ }
+{
+    let start = here.start;
+    let image = &images[start..];
+    let mut item = here.item;
+    let mut offset = here.offset;
+    let mut values = had;
+    let limit = item
+        + least(
+            least(items - item, room - values),
+            (image.len() - offset) / 8,
+        );
+    while item < limit {
+        let n = take_item(plan, image, item, offset, out, VALUE_NUMBERS * values);
+        if n == 0 {
+            return Reached {
+                values,
+                item,
+                offset,
+            };
+        }
+        offset += n - 1;
+        item += 1;
+        values += 1;
+    }
+    Reached {
+        values,
+        item,
+        offset,
+    }
+}
+
+// From an item of an image on, to the image's end, to that of the room, or to a value that is refused: values are read fast, and what is
+// left is read as everywhere. The image was tested before, so that each value costs its own bytes alone.
 fn run_image(
     here: RowCursor,
     plan: &[u8],
@@ -98,48 +187,45 @@ fn run_image(
 {
     let start = here.start;
     let image = &images[start..];
-    let mut item = here.item;
-    let mut offset = here.offset;
+    let mut at = here;
     let mut values = had;
     while values < room {
-        if item == items {
-            return Paused::On {
-                values,
-                next: RowCursor {
-                    start,
-                    item,
-                    offset,
-                },
-            };
+        if at.item == items {
+            return Paused::On { values, next: at };
         }
-        match number_item(plan, image, start, item, offset) {
+        let far = take_items(at, plan, images, items, room, values, out);
+        values = far.values;
+        at = RowCursor {
+            start,
+            item: far.item,
+            offset: far.offset,
+        };
+        if far.item == items {
+            continue;
+        }
+        if far.values == room {
+            continue;
+        }
+        match number_item(plan, image, start, far.item, far.offset) {
             NumbersRead::Got { numbers, next } => {
-                put(numbers, out, VALUE_NUMBERS * values);
-                offset = next;
+                put(numbers, out, VALUE_NUMBERS * far.values);
+                at = RowCursor {
+                    start,
+                    item: far.item + 1,
+                    offset: next,
+                };
             }
             NumbersRead::Refused(why) => {
                 return Paused::Stopped {
                     values,
-                    next: RowCursor {
-                        start,
-                        item,
-                        offset,
-                    },
+                    next: at,
                     why,
                 };
             }
         }
-        item += 1;
         values += 1;
     }
-    Paused::On {
-        values,
-        next: RowCursor {
-            start,
-            item,
-            offset,
-        },
-    }
+    Paused::On { values, next: at }
 }
 
 // How many bytes of the images stand from a place on.

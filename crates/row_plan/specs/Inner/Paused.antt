@@ -13,7 +13,7 @@ use Rattle.row_plan.specs.declared.run.Paused.{Paused}
 use Rattle.row_plan.specs.declared.run.Paused.the-variants.{On, Stopped}
 use Rattle.row_plan.specs.declared.run.Gate.{Gate}
 use Rattle.row_plan.specs.declared.run.Gate.the-variants.{Open, Refused}
-use Rattle.row_plan.specs.Plan.{itemCount}
+use Rattle.row_plan.specs.Plan.{itemCount, rowCursor}
 use Rattle.row_plan.specs.Runs.{RowRan, ran, runFrom}
 
 -- the tests of a step that come before its value, so many bytes being left from the image's start on
@@ -33,6 +33,19 @@ pub record Stands (plan images : List ℕ) (items : ℕ) (c : RowCursor) : Type 
   pub item : c .item < items
   pub nulls : bytesFor items ≤ length images - c .start
   pub offset : c .offset ≤ length images - c .start
+
+-- a run from `here` on, with `had` values stored before, that came to an item of the same image, or behind the last: what it comes to
+-- hangs on where it stands
+pub record Running (plan images : List ℕ) (items room had : ℕ) (d₀ : List ℕ) (here : RowCursor) (d : List ℕ) (item offset values : ℕ) :
+    Type 0 where
+  pub more : had ≤ values
+  pub most : values ≤ room
+  pub counted : item ≤ items
+  pub first : values ≡ had → item < items
+  pub same : length d ≡ length d₀
+  pub inside : offset ≤ length images - here .start
+  pub goes : runFrom (room - values) plan images (rowCursor (here .start) item offset) values d
+      ≡ runFrom (room - had) plan images here had d₀
 
 -- the run that goes on from where it left an image
 abbrev pub pausedRun : ℕ → List ℕ → List ℕ → List ℕ → Paused → RowRan
