@@ -15,13 +15,14 @@ use Rattle.value.specs.Shapes.{fault}
 use Rattle.value.specs.Reading.{judged}
 use Rattle.record.specs.Records.{countOf, recordValid, readRecord}
 use Rattle.image.specs.Split.{Slot, slotsAt, headOf}
-use Rattle.image.proofs.CursorLaws.Heads.{Over, head-is}
+use Rattle.image.proofs.CursorLaws.Heads.{Over, nullBytes, head-is}
 use Rattle.blocks.specs.declared.state.Phase.{Phase}
 use Rattle.blocks.specs.declared.state.Phase.the-variants.{Open, Long, Closed}
 use Rattle.blocks.specs.declared.state.Arriving.{Arriving}
 use Rattle.blocks.specs.Turns.{TurnSaid, wait, long, whole, turnOf}
 use Rattle.blocks.specs.Fits.{isCounted, fitsIn, isFit}
-use Rattle.blocks.specs.Gives.{headCarry, byTurn, giveOver, atHand, giveOpen, giveLong, giveIn, givenFit, giveBlock}
+use Rattle.blocks.specs.States.{begun}
+use Rattle.blocks.specs.Gives.{headCarry, byTurn, giveOver, atHand, giveOpen, giveLong, giveIn, givenFit, giveBlock, beginBlocks}
 use Rattle.blocks.specs.Ends.{endedFit, endBlocks}
 
 pub data Not9 {A : Type 0} : Outcome A → Type 0 where
@@ -82,3 +83,15 @@ pub closed-refused : (r p : List ℕ) (st : Arriving) (carry block : List ℕ) �
 unfolding giveBlock headCarry givenFit endBlocks endedFit isFit fitsIn
 closed-refused r p st carry block u h e =
     rw (head-is r p u, le-ltb (length carry) 1024 h, e, and-false (isCounted r p (countOf r) (length carry) st)) (refl, refl)
+
+-- and so is any other that is not fit
+pub unfit-refused : (r p : List ℕ) (st : Arriving) (carry block : List ℕ) → Over r p → 1024 ≤ length carry
+    → isFit r p (countOf r) (nullBytes r p) st carry ≡ false
+    → (giveBlock r p st carry block ≡ refuse 21 0) × (endBlocks r p st carry ≡ refuse 21 0)
+unfolding giveBlock headCarry givenFit endBlocks endedFit
+unfit-refused r p st carry block u h e = rw (head-is r p u, le-ltb (length carry) 1024 h, e) (refl, refl)
+
+-- the first call
+pub begins-begun : (r p carry : List ℕ) → Over r p → 1024 ≤ length carry → beginBlocks r p carry ≡ ok begun
+unfolding beginBlocks headCarry
+begins-begun r p carry u h = rw (head-is r p u, le-ltb (length carry) 1024 h)

@@ -7,7 +7,7 @@ use mathlib.Core.List.{List, [], _∷_, _++_, append-assoc}
 use native.Mathlib.Nat.{add-zero}
 use native.Mathlib.Decide.{decLe}
 use native.Mathlib.Omega.{arith}
-use borrow.Author.Tests.{le-leb, lt-leb, ne-eqb}
+use borrow.Author.Tests.{le-leb, lt-leb, eq-eqb, ne-eqb}
 use lib.ListN.{length, take, drop, length-drop}
 use lib.Seq.{take-add, drop-at, drop-drop, length-take-le}
 use Rattle.wire.specs.Outcome.{Outcome, ok, refused, refuse, why}
@@ -32,22 +32,22 @@ use Rattle.blocks.proofs.Turned.{TooLong, is-long, prefix-most}
 
 -- ---- bytes joined
 pub join-bytes : (s : List ℕ) (left j : ℕ) (got : List ℕ) (ps : List Piece) → 0 < left → left ≤ length s
-    → joinPieces left got (bytePieces j (take left s) ++ ps) ≡ (j, bytes (got ++ take left s)) ∷ joinPieces 0 [] ps
+    → joinPieces j left got (bytePieces j (take left s) ++ ps) ≡ (j, bytes (got ++ take left s)) ∷ joinPieces 0 0 [] ps
 unfolding joinPieces
 join-bytes [] left j got ps h l = absurd (omega arith)
 join-bytes (b ∷ s) zero j got ps h l = absurd (omega arith)
-join-bytes (b ∷ s) (suc zero) j got ps h l = refl
+join-bytes (b ∷ s) (suc zero) j got ps h l = rw (eq-eqb j j refl)
 join-bytes (b ∷ s) (suc (suc m)) j got ps h l =
     let e : suc (suc m) - 1 ≡ suc m = omega arith in
-    rw (ne-eqb (suc (suc m)) 1 (λ (z : suc (suc m) ≡ 1). absurd (omega arith)), e)
+    rw (eq-eqb j j refl, ne-eqb (suc (suc m)) 1 (λ (z : suc (suc m) ≡ 1). absurd (omega arith)), e)
     (join-bytes s (suc m) j (got ++ (b ∷ [])) ps (omega arith) (omega arith)
-    ∙ ap (λ (x : List ℕ). (j, bytes x) ∷ joinPieces 0 [] ps) (append-assoc got (b ∷ []) (take (suc m) s)))
+    ∙ ap (λ (x : List ℕ). (j, bytes x) ∷ joinPieces 0 0 [] ps) (append-assoc got (b ∷ []) (take (suc m) s)))
 
-pub join-short : (s : List ℕ) (left j : ℕ) (got : List ℕ) → length s < left → joinPieces left got (bytePieces j s) ≡ []
+pub join-short : (s : List ℕ) (left j : ℕ) (got : List ℕ) → length s < left → joinPieces j left got (bytePieces j s) ≡ []
 unfolding joinPieces
 join-short [] left j got h = refl
 join-short (b ∷ s) left j got h =
-    rw (ne-eqb left 1 (λ (z : left ≡ 1). absurd (omega arith))) (join-short s (left - 1) j (got ++ (b ∷ [])) (omega arith))
+    rw (eq-eqb j j refl, ne-eqb left 1 (λ (z : left ≡ 1). absurd (omega arith))) (join-short s (left - 1) j (got ++ (b ∷ [])) (omega arith))
 
 -- ---- only counted bytes are ever long
 pub long-decode : (sh : Shape) (b : List ℕ) → 0 < prefix sh → (decode sh b ≡ bytes (drop (prefix sh) b)) × (fault sh b ≡ 0)

@@ -15,6 +15,7 @@ pub mod Fits
 pub mod Runs
 pub mod Answers
 pub mod Taken
+pub mod Lasts
 pub mod Hands
 pub mod Opens
 pub mod Values

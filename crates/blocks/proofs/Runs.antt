@@ -28,7 +28,7 @@ use Rattle.blocks.specs.Ends.{endIn, endedFit, endBlocks}
 use Rattle.blocks.specs.Streams.{Piece, datum, size, byte, Stream, bytePieces, stopped, with, told}
 use Rattle.blocks.specs.Joins.{joined}
 use Rattle.blocks.specs.Runs.{goesOn, Run, ends, refuses, rests, answers, concat, AllBytes}
-use Rattle.blocks.specs.Inner.Futures.{streamSlots, future}
+use Rattle.blocks.specs.Inner.Futures.{streamSlots, futureIn, future}
 use Rattle.blocks.proofs.Ons.{from, future-from, On, Still, Left, open-left, long-left, Leaves, open-on, open-leaves}
 use Rattle.blocks.proofs.Longs.{long-on}
 use Rattle.blocks.proofs.Fits.{null-most, begun-left, left-fit, spent-room, fit-left, fit-room, long-leaves}
@@ -157,6 +157,21 @@ pub blocks : (r p carry : List ℕ) (bs : List (List ℕ)) (s : Stream) (n : ℕ
 blocks r p carry bs s n u m bc bb x =
     ap joined (run-future r p x bb (begun-left (Unit {0}) r p carry u m (λ k. bc)) (λ z. begun-quiet r p carry))
     ∙ begun-walk r p carry (concat bs) u (omega (arith, null-most r p u))
+
+-- and with carries of one length all is told the same, piece by piece
+begun-same : (r p carry carry′ t : List ℕ) → length carry ≡ length carry′
+    → future r p (nullBytes r p) begun carry t ≡ future r p (nullBytes r p) begun carry′ t
+unfolding futureIn
+begun-same r p carry carry′ t e = rw e
+
+pub same-pieces : (r p carry carry′ : List ℕ) (cs bs : List (List ℕ)) (s t : Stream) (m n : ℕ) → Over r p → 1024 ≤ length carry
+    → length carry ≡ length carry′ → Bytes carry → Bytes carry′ → AllBytes cs → AllBytes bs → concat cs ≡ concat bs
+    → Run r p begun carry cs s m → Run r p begun carry′ bs t n → s ≡ t
+same-pieces r p carry carry′ cs bs s t m n u h e ca cb a b k x y =
+    run-future r p x a (begun-left (Unit {0}) r p carry u h (λ k. ca)) (λ z. begun-quiet r p carry)
+    ∙ begun-same r p carry carry′ (concat cs) e
+    ∙ ap (future r p (nullBytes r p) begun carry′) k
+    ∙ sym (run-future r p y b (begun-left (Unit {0}) r p carry′ u (omega (arith, e)) (λ k. cb)) (λ z. begun-quiet r p carry′))
 
 -- ---- and there is always such a run: each answer takes something of what is to come
 told-less : (r p b t c : List ℕ) (g : BlockGiven) (w : Stream) → goesOn (g .arrival) ≡ true → On r p (nullBytes r p) b t w (ok (g, c))

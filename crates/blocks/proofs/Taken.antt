@@ -1,11 +1,12 @@
 -- The bytes taken are the bytes used; and what the calls leave stays fit. Assumes nothing.
-use Prim.Native.Nat.{ℕ, _+_, _-_, _≤_}
+use Prim.Native.Nat.{ℕ, _+_, _-_, _≤_, _<_}
 use mathlib.Core.Path.{_≡_, refl, sym, ap, subst, _∙_}
 use mathlib.Core.Bool.{Bool, true, false, cond, true≢false}
 use mathlib.Core.List.{List, [], _∷_}
 use native.Mathlib.Nat.{add-zero}
 use native.Mathlib.Omega.{arith}
-use lib.ListN.{length, take, drop}
+use borrow.Author.Tests.{leb-true, ltb-false, eqb-true}
+use lib.ListN.{length, take, drop, length-append, length-take, length-drop}
 use lib.Dec.{leb, ltb, eqb}
 use Rattle.wire.specs.declared.refusal.Refusal.{Refusal}
 use Rattle.wire.specs.Outcome.{Outcome, ok, refused, refuse, after, outOf}
@@ -14,12 +15,15 @@ use Rattle.wire.specs.Stored.{stored}
 use Rattle.wire.proofs.Outcomes.{after-is-ok, by-test, same-ok, same-refused, ok-not-refused}
 use Rattle.wire.proofs.Stores.{stored-none}
 use Rattle.value.specs.declared.shape.Shape.{Shape}
-use Rattle.value.specs.Shapes.{decode, fault}
+use Rattle.value.specs.Shapes.{prefix, decode, fault}
 use Rattle.value.specs.Reading.{judged, placed}
+use Rattle.value.proofs.Appends.{prefix-within}
 use Rattle.record.specs.Records.{countOf}
 use Rattle.image.specs.declared.cursor.Head.{Head}
-use Rattle.image.specs.Present.{countBits}
-use Rattle.image.specs.Split.{Slot, slotsAt}
+use Rattle.image.specs.Present.{countBits, shapeAt, Present, presentFrom}
+use Rattle.image.specs.Split.{Slot, slots, slotsAt}
+use Rattle.image.proofs.StepLaws.Splits.{Each}
+use Rattle.image.proofs.PresenceLaws.Presents.{each-from}
 use Rattle.image.proofs.CursorLaws.Heads.{Over, nullBytes}
 use Rattle.blocks.specs.declared.state.Phase.{Phase}
 use Rattle.blocks.specs.declared.state.Phase.the-variants.{Open, Long, Closed}
@@ -28,81 +32,145 @@ use Rattle.blocks.specs.States.{opened, longed, Arrived, more, null, val
 use Rattle.blocks.specs.Turns.{TurnSaid, wait, long as long₁, whole, turnOf}
 use Rattle.blocks.specs.Fits.{isFit}
 use Rattle.blocks.specs.Gives.{Handed, byTurn, giveOver, atHand, giveOpen, giveLong, giveIn, givenFit, headCarry, giveBlock, commit}
-use Rattle.blocks.specs.Gives.{usedTo, parted}
+use Rattle.blocks.specs.Gives.{usedTo, waiting, parted}
 use Rattle.blocks.specs.Ends.{endOver, endIn, endedFit, endBlocks}
 use Rattle.blocks.specs.Streams.{Stream, told}
 use Rattle.blocks.specs.Runs.{goesOn, Run, ends, refuses, rests, answers, Came, begins, gives}
+use Rattle.blocks.proofs.Turned.{turn-long, turn-whole}
 use Rattle.blocks.proofs.Ons.{Left, open-left, long-left}
 use Rattle.blocks.proofs.Fits.{begun-left, left-fit, spent-room, fit-left, fit-room}
 use Rattle.blocks.proofs.Fitting.{carry-tested}
 use Rattle.blocks.proofs.Runs.{give-is, give-leaves, end-is}
 
--- ---- whatever the state: what a call takes is counted, and no more than that is stored behind what the carry held
-data Adds (st : Arriving) (carry block : List ℕ) : Outcome Handed → Type 0 where
-  adds : (x : Handed) (m : ℕ) → x .0 .next .used ≡ st .used + x .0 .taken → m ≤ x .0 .taken → x .1 ≡ stored (take m block) carry (st .held)
-      → Adds st carry block (ok x)
-  none : (w : Refusal) → Adds st carry block (refused w)
+-- ---- whatever the state: what a call takes is of the block, and counted, and no more than that is stored behind what the carry held
+-- what an answer says besides: `more` took all of the block; a long value has no room; a part is not stored
+abbrev pub Truly : List ℕ → ℕ → List ℕ → List ℕ → ℕ → List ℕ → Arrived → Type 0
+Truly r room carry block taken left more = taken ≡ length block
+Truly r room carry block taken left (null j) = Unit {0}
+Truly r room carry block taken left (value j v) = Unit {0}
+Truly r room carry block taken left (long j n) = room < prefix (shapeAt r j) + n
+Truly r room carry block taken left (part j n) = left ≡ carry
+Truly r room carry block taken left (end used) = Unit {0}
 
-module _ (st : Arriving) (carry block : List ℕ) where
-  adds-test : (b : Bool) {x y : Outcome Handed} → Adds st carry block x → Adds st carry block y → Adds st carry block (cond b x y)
-  adds-test true u v = u
-  adds-test false u v = v
-
-  adds-after : {A : Type 0} (o : Outcome A) (f : A → Outcome Handed) → ((a : A) → Adds st carry block (f a))
-      → Adds st carry block (after o f)
-  adds-after (ok a) f v = v a
-  adds-after (refused w) f v = none w
-
-  adds-all : (upto : ℕ) (a : Arrived) (next : Arriving) → next .used ≡ usedTo st upto
-      → Adds st carry block (ok (commit st carry block upto a next))
-  unfolding commit
-  adds-all upto a next e = adds _ (upto - st .held) e (omega arith) refl
-
-  adds-part : (a : Arrived) (n : ℕ) (next : Arriving) → next .used ≡ st .used + n → Adds st carry block (parted st carry a n next)
-  adds-part a n next e = adds _ 0 e (omega arith) (sym (stored-none carry (st .held)))
-
-  adds-turn : (nb : ℕ) (sh : Shape) (j : ℕ) (x : List ℕ) (v : TurnSaid) → Adds st carry block (byTurn nb sh j x st carry block v)
-  unfolding byTurn
-  adds-turn nb sh j x wait = adds-all _ _ _ refl
-  adds-turn nb sh j x (long₁ n) = adds-all _ _ _ refl
-  adds-turn nb sh j x (whole n) = adds-after (judged sh j (take n x)) _ (λ d. adds-all _ _ _ refl)
-
-  adds-over : (room nb : ℕ) (is : List Slot) (x : List ℕ) → Adds st carry block (giveOver room nb is x st carry block)
-  unfolding giveOver
-  adds-over room nb [] x = adds-all _ _ _ refl
-  adds-over room nb (i ∷ is) x =
-      adds-test (i .null) (adds-all _ _ _ refl)
-      (adds-turn nb (i .present .shape) (i .present .column) x (turnOf room (i .present .shape) x))
-
-  adds-in : (f : Phase) (r p : List ℕ) (nb : ℕ) → Adds st carry block (giveIn f r p nb st carry block)
-  unfolding giveIn giveOpen giveLong
-  adds-in Open r p nb =
-      let y = atHand st carry block in
-      adds-test (ltb (length y) nb) (adds-all _ _ _ refl) (adds-over (length carry - nb) nb (slotsAt r p y (st .column)) (drop nb y))
-  adds-in Long r p nb =
-      adds-test (eqb (length block) 0) (adds-part _ _ _ (sym (add-zero (st .used))))
-      (adds-test (leb (st .left) (length block)) (adds-part _ _ _ refl) (adds-part _ _ _ refl))
-  adds-in Closed r p nb = none _
-
-  give-adds : (r p : List ℕ) → Adds st carry block (giveBlock r p st carry block)
-  unfolding giveBlock givenFit
-  give-adds r p =
-      adds-after (headCarry r p carry) _
-      (λ h. adds-test (isFit r p (h .columns) (h .nulls) st carry) (adds-in (st .phase) r p (h .nulls)) (none _))
-
-pub record Given (st : Arriving) (carry block : List ℕ) (x : Handed) : Type 0 where
+pub record Given (r : List ℕ) (nb : ℕ) (st : Arriving) (carry block : List ℕ) (x : Handed) : Type 0 where
   pub used : x .0 .next .used ≡ st .used + x .0 .taken
+  pub front : x .0 .taken ≤ length block
   pub few : ℕ
   pub within : few ≤ x .0 .taken
   pub left : x .1 ≡ stored (take few block) carry (st .held)
+  pub truly : Truly r (length carry - nb) carry block (x .0 .taken) (x .1) (x .0 .arrival)
+
+data Adds (r : List ℕ) (nb : ℕ) (st : Arriving) (carry block : List ℕ) : Outcome Handed → Type 0 where
+  adds : (x : Handed) → Given r nb st carry block x → Adds r nb st carry block (ok x)
+  none : (w : Refusal) → Adds r nb st carry block (refused w)
+
+-- the shape of the first slot is its column's
+abbrev Shaped : List ℕ → List Slot → Type 0
+Shaped r [] = Unit {0}
+Shaped r (i ∷ is) = i .present .shape ≡ shapeAt r (i .present .column)
+
+first-shaped : (r : List ℕ) (cs : List Present) (k : ℕ) (y : List ℕ) → Each (λ c. c .shape ≡ shapeAt r (c .column)) cs
+    → Shaped r (slots cs k y)
+unfolding slots Each
+first-shaped r [] k y e = tt
+first-shaped r (c ∷ cs) k y e = e .0
+
+slots-shaped : (r p y : List ℕ) (j : ℕ) → Shaped r (slotsAt r p y j)
+unfolding slotsAt
+slots-shaped r p y j =
+    first-shaped r (presentFrom (countOf r - j) r p j) (countBits p j) y
+    (each-from (λ c. c .shape ≡ shapeAt r (c .column)) (countOf r - j) r p j (λ i a b. refl))
+
+module _ (r : List ℕ) (nb : ℕ) (st : Arriving) (carry block : List ℕ) where
+  abbrev has : Outcome Handed → Type 0
+  has o = Adds r nb st carry block o
+
+  abbrev room : ℕ
+  room = length carry - nb
+
+  adds-test : (b : Bool) {x y : Outcome Handed} → (b ≡ true → has x) → (b ≡ false → has y) → has (cond b x y)
+  adds-test true u v = u refl
+  adds-test false u v = v refl
+
+  adds-after : {A : Type 0} (o : Outcome A) (f : A → Outcome Handed) → ((a : A) → has (f a)) → has (after o f)
+  adds-after (ok a) f v = v a
+  adds-after (refused w) f v = none w
+
+  -- at hand is no more than was held and the block
+  hand-most : length (atHand st carry block) ≤ st .held + length block
+  hand-most = omega (arith, length-append (take (st .held) carry) block, length-take (st .held) carry)
+
+  adds-all : (upto : ℕ) (a : Arrived) (next : Arriving) → next .used ≡ usedTo st upto → upto - st .held ≤ length block
+      → Truly r room carry block (upto - st .held) (stored (take (upto - st .held) block) carry (st .held)) a
+      → has (ok (commit st carry block upto a next))
+  unfolding commit
+  adds-all upto a next e h t =
+      adds _ (record { used = e; front = h; few = upto - st .held; within = omega arith; left = refl; truly = t })
+
+  adds-part : (a : Arrived) (n : ℕ) (next : Arriving) → next .used ≡ st .used + n → n ≤ length block
+      → Truly r room carry block n carry a → has (parted st carry a n next)
+  adds-part a n next e h t =
+      adds _ (record { used = e; front = h; few = 0; within = omega arith; left = sym (stored-none carry (st .held)); truly = t })
+
+  adds-wait : (j : ℕ) → has (waiting st carry block j)
+  adds-wait j =
+      let e : st .held + length block - st .held ≡ length block = omega arith in
+      adds-all (st .held + length block) more _ refl (omega (arith, e)) e
+
+  module _ (h : nb ≤ length (atHand st carry block)) where
+    abbrev x : List ℕ
+    x = drop nb (atHand st carry block)
+
+    adds-turn : (j : ℕ) (v : TurnSaid) → turnOf room (shapeAt r j) x ≡ v → has (byTurn nb (shapeAt r j) j x st carry block v)
+    unfolding byTurn
+    adds-turn j wait e = adds-wait j
+    adds-turn j (long₁ n) e =
+        let w = turn-long room (shapeAt r j) x n e in
+        adds-all _ _ _ refl (omega (arith, hand-most, length-drop nb (atHand st carry block), w .0 .there, h))
+        (omega (arith, w .0 .over, w .1, prefix-within (shapeAt r j) x))
+    adds-turn j (whole n) e =
+        let w = turn-whole room (shapeAt r j) x n e in
+        adds-after (judged (shapeAt r j) j (take n x)) _
+        (λ d. adds-all _ _ _ refl (omega (arith, hand-most, length-drop nb (atHand st carry block), w, h)) tt)
+
+    adds-over : (is : List Slot) → Shaped r is → has (giveOver room nb is x st carry block)
+    unfolding giveOver
+    adds-over [] f = adds-all nb _ _ refl (omega (arith, hand-most, h)) tt
+    adds-over (i ∷ is) f =
+        let j = i .present .column in
+        adds-test (i .null) (λ u. adds-all nb _ _ refl (omega (arith, hand-most, h)) tt)
+        (λ u.
+        subst (λ (sh : Shape). has (byTurn nb sh j x st carry block (turnOf room sh x))) (sym f)
+        (adds-turn j (turnOf room (shapeAt r j) x) refl))
+
+  adds-in : (f : Phase) (p : List ℕ) → has (giveIn f r p nb st carry block)
+  unfolding giveIn giveOpen giveLong
+  adds-in Open p =
+      let y = atHand st carry block in
+      adds-test (ltb (length y) nb) (λ u. adds-wait (st .column))
+      (λ u. adds-over (ltb-false (length y) nb u) (slotsAt r p y (st .column)) (slots-shaped r p y (st .column)))
+  adds-in Long p =
+      adds-test (eqb (length block) 0)
+      (λ u. adds-part more 0 st (sym (add-zero (st .used))) (omega arith) (sym (eqb-true (length block) 0 u)))
+      (λ u.
+      adds-test (leb (st .left) (length block)) (λ v. adds-part _ _ _ refl (leb-true (st .left) (length block) v) refl)
+      (λ v. adds-part _ _ _ refl (omega arith) refl))
+  adds-in Closed p = none _
 
 pub give-given : (r p : List ℕ) (st : Arriving) (carry block : List ℕ) {x : Handed} → giveBlock r p st carry block ≡ ok x
-    → Given st carry block x
-give-given r p st carry block {x} e = go (giveBlock r p st carry block) (give-adds st carry block r p) e
+    → Given r (nullBytes r p) st carry block x
+unfolding giveBlock givenFit
+give-given r p st carry block {x} e =
+    let a = after-is-ok (headCarry r p carry) _ x e in
+    let t = carry-tested r p carry (a .1) in
+    let n : a .0 .nulls ≡ nullBytes r p = t .bits ∙ ap (λ (k : ℕ). bytesFor (countBits p k)) (t .count) in
+    by-test (isFit r p (a .0 .columns) (a .0 .nulls) st carry) _ _ _ (a .2)
+    (λ u f. go (giveIn (st .phase) r p (nullBytes r p) st carry block) (adds-in r (nullBytes r p) st carry block (st .phase) p)
+    (subst (λ (k : ℕ). giveIn (st .phase) r p k st carry block ≡ ok x) n f))
+    (λ u f. absurd (ok-not-refused (sym f)))
   where
-    go : (o : Outcome Handed) → Adds st carry block o → o ≡ ok x → Given st carry block x
-    go _ (adds y m h l c) f =
-        subst (Given st carry block) (same-ok f) (record { used = h; few = m; within = l; left = c })
+    go : (o : Outcome Handed) → Adds r (nullBytes r p) st carry block o → o ≡ ok x → Given r (nullBytes r p) st carry block x
+    go _ (adds y h) f = subst (Given r (nullBytes r p) st carry block) (same-ok f) h
     go _ (none w) f = absurd (ok-not-refused (sym f))
 
 pub give-used : (r p : List ℕ) (st : Arriving) (carry block : List ℕ) {x : Handed} → giveBlock r p st carry block ≡ ok x
@@ -190,7 +258,7 @@ pub came-fit : (r p : List ℕ) {st : Arriving} {carry : List ℕ} → Over r p 
     → isFit r p (countOf r) (nullBytes r p) st carry ≡ true
 came-fit r p {carry} u w = let l = came-left r p u w in left-fit (Unit {0}) r p carry l (spent-room (Unit {0}) r p carry tt l)
 
--- ---- with what a call left, give refuses with 10 alone, and the end with 9 alone
+-- ---- with a fit state, give refuses with 10 alone, and the end with 9 alone
 pub data Only {A : Type 0} (n : ℕ) : Outcome A → Type 0 where
   fine : (a : A) → Only n (ok a)
   just : (w : Refusal) → w .number ≡ n → Only n (refused w)
@@ -252,16 +320,17 @@ nine-left K r p carry (open-left column held used q) =
     only-test (ltb held (nullBytes r p)) (just _ refl) (nine-over (slotsAt r p (take held carry) column) used)
 nine-left K r p carry (long-left column held left used q) = just _ refl
 
-pub came-ten : (r p : List ℕ) {st : Arriving} {carry : List ℕ} (block : List ℕ) {w : Refusal} → Over r p → Came r p st carry
-    → giveBlock r p st carry block ≡ refused w → w .number ≡ 10
-came-ten r p {st} {carry} block u c e =
-    let l = came-left r p u c in
-    only-is (giveIn (st .phase) r p (nullBytes r p) st carry block) (ten-left (Unit {0}) r p carry block l)
-    (sym (give-is (Unit {0}) r p carry block l (spent-room (Unit {0}) r p carry tt l)) ∙ e)
+-- of a fit state, made up or not
+module _ (r p : List ℕ) (st : Arriving) (carry : List ℕ) {w : Refusal} (u : Over r p) (h : 1024 ≤ length carry)
+    (f : isFit r p (countOf r) (nullBytes r p) st carry ≡ true) where
+  pub fit-ten : (block : List ℕ) → giveBlock r p st carry block ≡ refused w → w .number ≡ 10
+  fit-ten block e =
+      let l = fit-left r p carry u h st f in
+      only-is (giveIn (st .phase) r p (nullBytes r p) st carry block) (ten-left ⊥ r p carry block l)
+      (sym (give-is ⊥ r p carry block l (fit-room r p carry u h st f)) ∙ e)
 
-pub came-nine : (r p : List ℕ) {st : Arriving} {carry : List ℕ} {w : Refusal} → Over r p → Came r p st carry
-    → endBlocks r p st carry ≡ refused w → w .number ≡ 9
-came-nine r p {st} {carry} u c e =
-    let l = came-left r p u c in
-    only-is (endIn (st .phase) r p (nullBytes r p) st carry) (nine-left (Unit {0}) r p carry l)
-    (sym (end-is (Unit {0}) r p carry l (spent-room (Unit {0}) r p carry tt l)) ∙ e)
+  pub fit-nine : endBlocks r p st carry ≡ refused w → w .number ≡ 9
+  fit-nine e =
+      let l = fit-left r p carry u h st f in
+      only-is (endIn (st .phase) r p (nullBytes r p) st carry) (nine-left ⊥ r p carry l)
+      (sym (end-is ⊥ r p carry l (fit-room r p carry u h st f)) ∙ e)

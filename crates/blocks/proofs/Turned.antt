@@ -1,5 +1,5 @@
 -- What the bytes at hand say of a value stays so when more come. Assumes nothing.
-use Prim.Native.Nat.{ℕ, _+_, _≤_, _<_}
+use Prim.Native.Nat.{ℕ, _+_, _-_, _≤_, _<_}
 use mathlib.Core.Path.{_≡_, sym, ap, subst, _∙_}
 use mathlib.Core.Bool.{true, false}
 use mathlib.Core.List.{List, _++_}
@@ -9,7 +9,7 @@ use lib.ListN.{length, take, drop, length-append, length-take, take-append-drop}
 use lib.Seq.{length-take-le}
 use lib.Dec.{leb, ltb, eqb}
 use Rattle.wire.specs.Outcome.{ok, after, outOf}
-use Rattle.wire.proofs.Outcomes.{both-true, test-is-ok}
+use Rattle.wire.proofs.Outcomes.{both-true, by-test, test-is-ok}
 use Rattle.value.specs.declared.shape.Shape.{Shape}
 use Rattle.value.specs.declared.shape.Shape.the-variants.{Unsigned, Signed, FloatBits, DoubleBits, YearByte, Timed, Fixed, Counted}
 use Rattle.value.specs.declared.shape.Shape.the-variants.{NotTaken}
@@ -21,7 +21,7 @@ use Rattle.value.specs.Reading.{cut, judged, readDatum, placed, datumOf}
 use Rattle.value.proofs.Facts.{need-take, said}
 use Rattle.value.proofs.Laws.{taken-at}
 use Rattle.value.proofs.Appends.{need-front, need-more, cut-more}
-use Rattle.blocks.specs.Turns.{tooLong}
+use Rattle.blocks.specs.Turns.{TurnSaid, wait, long, whole, tooLong, turnOf}
 
 -- ---- too long
 pub record TooLong (room : ℕ) (sh : Shape) (x : List ℕ) : Type 0 where
@@ -43,6 +43,34 @@ unfolding tooLong
 not-long room sh x e h =
     let f : ltb room (need sh x) ≡ false = rw (le-leb (prefix sh) (length x) h) at e in
     ltb-false room (need sh x) f
+
+-- what a turn says
+abbrev longSize : TurnSaid → ℕ
+longSize wait = 0
+longSize (long n) = n + 1
+longSize (whole n) = 0
+
+abbrev wholeSize : TurnSaid → ℕ
+wholeSize wait = 0
+wholeSize (long n) = 0
+wholeSize (whole n) = n + 1
+
+pub turn-long : (room : ℕ) (sh : Shape) (x : List ℕ) (n : ℕ) → turnOf room sh x ≡ long n → TooLong room sh x × (need sh x - prefix sh ≡ n)
+unfolding turnOf
+turn-long room sh x n e =
+    by-test (tooLong room sh x) _ _ _ e
+    (λ u f. let k : need sh x - prefix sh + 1 ≡ n + 1 = ap longSize f in (is-long room sh x u, omega (arith, k)))
+    (λ u f.
+    by-test (ltb (length x) (need sh x)) _ _ _ f (λ v g. let k : 0 ≡ n + 1 = ap longSize g in absurd (omega (arith, k)))
+    (λ v g. let k : 0 ≡ n + 1 = ap longSize g in absurd (omega (arith, k))))
+
+pub turn-whole : (room : ℕ) (sh : Shape) (x : List ℕ) (n : ℕ) → turnOf room sh x ≡ whole n → n ≤ length x
+unfolding turnOf
+turn-whole room sh x n e =
+    by-test (tooLong room sh x) _ _ _ e (λ u f. let k : 0 ≡ n + 1 = ap wholeSize f in absurd (omega (arith, k)))
+    (λ u f.
+    by-test (ltb (length x) (need sh x)) _ _ _ f (λ v g. let k : 0 ≡ n + 1 = ap wholeSize g in absurd (omega (arith, k)))
+    (λ v g. let k : need sh x + 1 ≡ n + 1 = ap wholeSize g in omega (arith, k, ltb-false (length x) (need sh x) v)))
 
 -- once the length is told
 pub long-front : (room : ℕ) (sh : Shape) (x t : List ℕ) → prefix sh ≤ length x → tooLong room sh (x ++ t) ≡ tooLong room sh x
