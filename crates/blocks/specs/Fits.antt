@@ -1,4 +1,5 @@
--- Which states are fit: what a call may have left under this record, these presence bits and this carry. Assumes nothing.
+-- Which states are fit under this record, these presence bits and this carry: all that a call left, and some that none leaves. Assumes
+-- nothing.
 use Prim.Native.Nat.{ℕ, _-_}
 use mathlib.Core.Bool.{Bool, false, cond, _&&_, _||_, not}
 use mathlib.Core.List.{List, [], _∷_}

@@ -1,4 +1,4 @@
-// Whether a state is one that a call may have left.
+// Whether a state is fit.
 use crate::hand::head_of;
 use crate::state::Arriving;
 use crate::state::Phase;
@@ -131,6 +131,7 @@ fn fits_long(
     }
 }
 
+// Whether so many bytes can be left of a long value of n.
 fn is_part(left: usize, n: usize) -> bool
     ensures { λ r. ⌜ r ≡ (ltb 0 left && leb left n) ⌝ }
 {

@@ -6,9 +6,9 @@ use crate::state::Arriving;
 use crate::state::Begun;
 use crate::state::Given;
 use crate::state::Phase;
-use crate::state::longed;
-use crate::state::opened;
+use crate::state::longing;
 use crate::state::shut;
+use crate::state::standing;
 use crate::state::took;
 use image::HeadRead;
 use wire::refusal::SMALL_CARRY;
@@ -46,7 +46,7 @@ pub fn begin(profile: &[u8], presence: &[u8], carry: &[u8]) -> Begun
     ensures { λ r. ⌜ r ≡ begunOf (beginBlocks (now (profile .entry)) (now (presence .entry)) (now (carry .entry))) ⌝ }
 {
     match read_head_carry(profile, presence, carry) {
-        HeadRead::Read(_) => Begun::Begins(opened(0, 0)),
+        HeadRead::Read(_) => Begun::Begins(standing(0, 0)),
         HeadRead::Refused(r) => Begun::Refused(r),
     }
 }
@@ -63,10 +63,10 @@ fn give_long(at: Arriving, nulls: usize, block: &[u8]) -> Given
         return took(at, 0, Arrival::More, at);
     }
     if left <= len {
-        let next = opened(column + 1, nulls);
+        let next = standing(column + 1, nulls);
         return took(at, left, Arrival::Part { column, len: left }, next);
     }
-    let next = longed(column, at.held, left - len);
+    let next = longing(column, at.held, left - len);
     took(at, len, Arrival::Part { column, len }, next)
 }
 

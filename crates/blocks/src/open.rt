@@ -7,9 +7,9 @@ use crate::hand::less;
 use crate::state::Arrival;
 use crate::state::Arriving;
 use crate::state::Given;
-use crate::state::longed;
-use crate::state::opened;
+use crate::state::longing;
 use crate::state::shut;
+use crate::state::standing;
 use crate::state::took;
 use crate::turn::Turn;
 use crate::turn::prefix_of;
@@ -71,7 +71,14 @@ pub(crate) fn give_open(
     let column = at.column;
     if is_short(held, block.len(), nulls) {
         let upto = held + block.len();
-        return take_to(carry, block, at, upto, Arrival::More, opened(column, upto));
+        return take_to(
+            carry,
+            block,
+            at,
+            upto,
+            Arrival::More,
+            standing(column, upto),
+        );
     }
     let found = image::first_set(presence, column, columns);
     if found == columns {
@@ -82,12 +89,12 @@ pub(crate) fn give_open(
             at,
             nulls,
             Arrival::End { used },
-            opened(column, nulls),
+            standing(column, nulls),
         );
     }
     let rank = image::count_bits(presence, found);
     if bit_at(carry, held, block, rank) {
-        let next = opened(found + 1, nulls);
+        let next = standing(found + 1, nulls);
         return take_to(
             carry,
             block,
@@ -123,11 +130,11 @@ fn give_value(
     match turn_of(shape, &head, len, room) {
         Turn::Wait => {
             let upto = held + block.len();
-            take_to(carry, block, at, upto, Arrival::More, opened(found, upto))
+            take_to(carry, block, at, upto, Arrival::More, standing(found, upto))
         }
         Turn::Long(n) => {
             let upto = nulls + prefix_of(shape);
-            let next = longed(found, upto, n);
+            let next = longing(found, upto, n);
             take_to(
                 carry,
                 block,
@@ -169,7 +176,7 @@ fn give_timed(
 {
     match value::read_value(kind, head, 0, found) {
         Read::Got { value, next: _ } => {
-            let next = opened(found + 1, nulls);
+            let next = standing(found + 1, nulls);
             take_to(
                 carry,
                 block,
@@ -208,7 +215,7 @@ fn give_stored(
     let taken = commit(carry, held, block, nulls + n);
     match value::read_value(kind, carry, nulls, found) {
         Read::Got { value, next: _ } => {
-            let next = opened(found + 1, nulls);
+            let next = standing(found + 1, nulls);
             took(
                 at,
                 taken,

@@ -63,7 +63,7 @@ pub(crate) fn shut(arrival: Arrival) -> Given
 }
 
 // The bytes used are counted where they are taken.
-pub(crate) fn opened(column: usize, held: usize) -> Arriving
+pub(crate) fn standing(column: usize, held: usize) -> Arriving
     ensures { λ r. ⌜ r ≡ standing column held ⌝ }
 {
     Arriving {
@@ -75,7 +75,7 @@ pub(crate) fn opened(column: usize, held: usize) -> Arriving
     }
 }
 
-pub(crate) fn longed(column: usize, held: usize, left: usize) -> Arriving
+pub(crate) fn longing(column: usize, held: usize, left: usize) -> Arriving
     ensures { λ r. ⌜ r ≡ longing column held left ⌝ }
 {
     Arriving {

@@ -25,7 +25,7 @@ pub(crate) fn prefix_of(shape: Shape) -> usize
     }
 }
 
-// How many bytes the value at the head of s takes, its length bytes being among the first eight.
+// How many bytes the value takes that begins with `head`; its length bytes are among these eight.
 pub(crate) fn need_of(shape: Shape, head: &[u8]) -> usize
     requires { ⌜ Sized shape ⌝ }
     ensures { λ r. ⌜ r ≡ need shape (now (head .entry)) ⌝ }

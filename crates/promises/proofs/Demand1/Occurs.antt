@@ -89,6 +89,7 @@ occurs = record {
   image-room = (refl, refl);
   begin-blocks = (refl, refl, refl);
   give-block = (refl, refl, refl, refl, refl);
+  unfit-states = (refl, refl, refl, refl);
   end-blocks = (refl, refl, refl, refl, refl, refl, refl);
   make-plan = (refl, refl, refl);
   step-plan = (refl, refl, refl, refl, refl, refl);

@@ -14,8 +14,8 @@ read-head-carry-requires c κs = search needs
 enum-told : tie.Need-enum-told
 enum-told c = search needs
 
-opened-requires : tie.Need-opened-requires
-opened-requires c κs = search needs
+standing-requires : tie.Need-standing-requires
+standing-requires c κs = search needs
 
 enum-known-r : tie.Need-enum-known-r
 enum-known-r c = search needs
@@ -23,7 +23,7 @@ enum-known-r c = search needs
 returns : tie.Need-returns
 unfolding beginBlocks
 returns c =
-    rw (sym (c .before .before .before .read-head-carry .ensures) ∙ ap headTold (c .before .enum-told .given .1), c .opened .ensures)
+    rw (sym (c .before .before .before .read-head-carry .ensures) ∙ ap headTold (c .before .enum-told .given .1), c .standing .ensures)
 
 returns-2 : tie.Need-returns-2
 unfolding beginBlocks
@@ -35,7 +35,7 @@ begin-spec =
     (tie.spec
     read-head-carry-requires
     enum-told
-    opened-requires
+    standing-requires
     enum-known-r
     returns
     returns-2)

@@ -8,8 +8,8 @@ use Rattle.blocks.proofs.give.give_long.Statement.{statement}
 use Rattle.blocks.proofs.give.give_long.Tie as tie
 use Rattle.blocks.proofs.give.give_long.Reads as reads
 use Rattle.blocks.proofs.give.give_long.Lts as lts
-use Rattle.blocks.proofs.state.longed.Reads as longed-reads
-use Rattle.blocks.proofs.state.opened.Reads as opened-reads
+use Rattle.blocks.proofs.state.longing.Reads as longing-reads
+use Rattle.blocks.proofs.state.standing.Reads as standing-reads
 use Rattle.blocks.proofs.state.took.Reads as took-reads
 
 took-requires : tie.Need-took-requires
@@ -20,11 +20,11 @@ returns c =
     part-none (c .before .before .before .args .at) (c .before .before .before .args .nulls) (c .before .before .before .args .block .now)
     (omega arith) (c .took .ensures)
 
-add-opened : tie.Need-add-opened
-add-opened c = search needs
+add-standing : tie.Need-add-standing
+add-standing c = search needs
 
-opened-requires : tie.Need-opened-requires
-opened-requires c κs = search needs
+standing-requires : tie.Need-standing-requires
+standing-requires c κs = search needs
 
 took-requires-2 : tie.Need-took-requires-2
 took-requires-2 c κs = search needs
@@ -34,13 +34,13 @@ returns-2 c =
     part-last (c .before .before .before .before .before .args .at) (c .before .before .before .before .before .args .nulls)
     (c .before .before .before .before .before .args .block .now)
     (λ (e : length (c .before .before .before .before .before .args .block .now) ≡ 0). absurd (omega arith)) (omega arith)
-    (c .before .opened .ensures) (c .took2 .ensures)
+    (c .before .standing .ensures) (c .took2 .ensures)
 
-sub-longed : tie.Need-sub-longed
-sub-longed c = search needs
+sub-longing : tie.Need-sub-longing
+sub-longing c = search needs
 
-longed-requires : tie.Need-longed-requires
-longed-requires c κs = search needs
+longing-requires : tie.Need-longing-requires
+longing-requires c κs = search needs
 
 took-requires-3 : tie.Need-took-requires-3
 took-requires-3 c κs = search needs
@@ -50,7 +50,7 @@ returns-3 c =
     part-some (c .before .before .before .before .before .args .at) (c .before .before .before .before .before .args .nulls)
     (c .before .before .before .before .before .args .block .now)
     (λ (e : length (c .before .before .before .before .before .args .block .now) ≡ 0). absurd (omega arith)) (omega arith)
-    (c .before .longed .ensures) (c .took3 .ensures)
+    (c .before .longing .ensures) (c .took3 .ensures)
 
 pub give-long-spec : {M : Type 1} → statement M
 give-long-spec =
@@ -58,11 +58,11 @@ give-long-spec =
     (tie.spec
     took-requires
     returns
-    add-opened
-    opened-requires
+    add-standing
+    standing-requires
     took-requires-2
     returns-2
-    sub-longed
-    longed-requires
+    sub-longing
+    longing-requires
     took-requires-3
     returns-3)

@@ -12,7 +12,7 @@ use Rattle.blocks.proofs.hand.is_short.Reads as is-short-reads
 use Rattle.blocks.proofs.hand.less.Reads as less-reads
 use Rattle.blocks.proofs.open.give_value.Reads as give-value-reads
 use Rattle.blocks.proofs.open.take_to.Reads as take-to-reads
-use Rattle.blocks.proofs.state.opened.Reads as opened-reads
+use Rattle.blocks.proofs.state.standing.Reads as standing-reads
 use Rattle.image.proofs.count_bits.Reads as count-bits-reads
 use Rattle.image.proofs.first_set.Reads as first-set-reads
 use Rattle.record.proofs.column_of.Reads as column-of-reads
@@ -24,8 +24,8 @@ is-short-requires c κs = search needs
 add-upto : tie.Need-add-upto
 add-upto c = search needs
 
-opened-requires : tie.Need-opened-requires
-opened-requires c κs = search needs
+standing-requires : tie.Need-standing-requires
+standing-requires c κs = search needs
 
 take-to-requires : tie.Need-take-to-requires
 take-to-requires c κs =
@@ -40,7 +40,7 @@ returns c = let a = c .before .before .before .before .before .before .before .b
     short-returns (a .carry .now) (a .block .now)
     (c .before .before .before .before .before .before .before .before .before .before .before .pre)
     (c .before .before .before .before .before .before .is-short .ensures) (c .before .before .before .before .before .if1 .taken)
-    (c .before .before .before .opened .ensures) (c .before .before .take-to .ensures)
+    (c .before .before .before .standing .ensures) (c .before .before .take-to .ensures)
 
 first-set-requires : tie.Need-first-set-requires
 first-set-requires c κs = search needs
@@ -58,8 +58,8 @@ add-used c =
           (c .before .less .ensures),
     )
 
-opened-requires-2 : tie.Need-opened-requires-2
-opened-requires-2 c κs = search needs
+standing-requires-2 : tie.Need-standing-requires-2
+standing-requires-2 c κs = search needs
 
 take-to-requires-2 : tie.Need-take-to-requires-2
 take-to-requires-2 c κs =
@@ -87,7 +87,7 @@ returns-2 c =
     (c .before .before .before .before .before .before .before .before .before .if1 .left))
     (c .before .before .before .before .before .before .before .before .first-set .ensures)
     (c .before .before .before .before .before .before .before .if2 .taken)
-    (c .before .before .before .before .before .before .less .ensures) (c .before .before .before .opened2 .ensures)
+    (c .before .before .before .before .before .before .less .ensures) (c .before .before .before .standing2 .ensures)
     (c .before .before .take-to2 .ensures)
 
 count-bits-requires : tie.Need-count-bits-requires
@@ -96,8 +96,8 @@ count-bits-requires c κs = search needs
 bit-at-requires : tie.Need-bit-at-requires
 bit-at-requires c κs = search needs
 
-add-opened : tie.Need-add-opened
-add-opened c =
+add-standing : tie.Need-add-standing
+add-standing c =
     omega (
       arith,
       found-below (c .before .before .before .before .before .before .before .before .before .before .before .before .pre)
@@ -106,8 +106,8 @@ add-opened c =
       c .before .before .before .before .before .before .before .before .before .before .before .before .pre .few,
     )
 
-opened-requires-3 : tie.Need-opened-requires-3
-opened-requires-3 c κs = search needs
+standing-requires-3 : tie.Need-standing-requires-3
+standing-requires-3 c κs = search needs
 
 take-to-requires-3 : tie.Need-take-to-requires-3
 take-to-requires-3 c κs =
@@ -139,7 +139,7 @@ returns-3 c =
     (c .before .before .before .before .before .before .before .before .before .if2 .left)
     (c .before .before .before .before .before .before .before .before .count-bits .ensures)
     (c .before .before .before .before .before .before .bit-at .ensures) (c .before .before .before .before .before .if3 .taken)
-    (c .before .before .before .before .opened3 .ensures) (c .before .before .take-to3 .ensures)
+    (c .before .before .before .before .standing3 .ensures) (c .before .before .take-to3 .ensures)
 
 entry-in-requires : tie.Need-entry-in-requires
 entry-in-requires c κs = search needs
@@ -185,21 +185,21 @@ give-open-spec =
     (tie.spec
     is-short-requires
     add-upto
-    opened-requires
+    standing-requires
     take-to-requires
     same-length
     returns
     first-set-requires
     less-requires
     add-used
-    opened-requires-2
+    standing-requires-2
     take-to-requires-2
     same-length-2
     returns-2
     count-bits-requires
     bit-at-requires
-    add-opened
-    opened-requires-3
+    add-standing
+    standing-requires-3
     take-to-requires-3
     same-length-3
     returns-3

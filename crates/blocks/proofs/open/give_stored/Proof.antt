@@ -9,7 +9,7 @@ use Rattle.blocks.proofs.open.give_stored.Tie as tie
 use Rattle.blocks.proofs.open.give_stored.Reads as reads
 use Rattle.blocks.proofs.open.give_stored.Lts as lts
 use Rattle.blocks.proofs.hand.commit.Reads as commit-reads
-use Rattle.blocks.proofs.state.opened.Reads as opened-reads
+use Rattle.blocks.proofs.state.standing.Reads as standing-reads
 use Rattle.blocks.proofs.state.shut.Reads as shut-reads
 use Rattle.blocks.proofs.state.took.Reads as took-reads
 use Rattle.value.proofs.read_value.Reads as read-value-reads
@@ -26,11 +26,11 @@ read-value-requires c κs = search needs
 enum-known-value : tie.Need-enum-known-value
 enum-known-value c = search needs
 
-add-opened : tie.Need-add-opened
-add-opened c = search needs
+add-standing : tie.Need-add-standing
+add-standing c = search needs
 
-opened-requires : tie.Need-opened-requires
-opened-requires c κs = search needs
+standing-requires : tie.Need-standing-requires
+standing-requires c κs = search needs
 
 took-requires : tie.Need-took-requires
 took-requires c κs = search needs
@@ -51,7 +51,7 @@ returns c = let a = c .before .before .before .before .before .before .before .b
     (c .before .before .before .before .before .before .before .before .before .before .before .before .before .pre .1)
     (c .before .before .before .before .before .before .before .before .before .commit .ensures .1)
     (sym (c .before .before .before .before .before .read-value .ensures) ∙ ap readTold (c .before .before .before .value .given .1))
-    (c .before .before .before .before .before .before .before .before .before .commit .ensures .0) (c .before .opened .ensures)
+    (c .before .before .before .before .before .before .before .before .before .commit .ensures .0) (c .before .standing .ensures)
     (c .took .ensures)
 
 same-length-2 : tie.Need-same-length-2
@@ -73,8 +73,8 @@ give-stored-spec =
     commit-requires
     read-value-requires
     enum-known-value
-    add-opened
-    opened-requires
+    add-standing
+    standing-requires
     took-requires
     enum-known-r
     shut-requires

@@ -11,7 +11,7 @@ use Rattle.blocks.proofs.open.give_timed.Tie as tie
 use Rattle.blocks.proofs.open.give_timed.Reads as reads
 use Rattle.blocks.proofs.open.give_timed.Lts as lts
 use Rattle.blocks.proofs.open.take_to.Reads as take-to-reads
-use Rattle.blocks.proofs.state.opened.Reads as opened-reads
+use Rattle.blocks.proofs.state.standing.Reads as standing-reads
 use Rattle.blocks.proofs.state.shut.Reads as shut-reads
 use Rattle.value.proofs.read_value.Reads as read-value-reads
 
@@ -21,11 +21,11 @@ read-value-requires c κs = search needs
 enum-known-value : tie.Need-enum-known-value
 enum-known-value c = search needs
 
-add-opened : tie.Need-add-opened
-add-opened c = search needs
+add-standing : tie.Need-add-standing
+add-standing c = search needs
 
-opened-requires : tie.Need-opened-requires
-opened-requires c κs = search needs
+standing-requires : tie.Need-standing-requires
+standing-requires c κs = search needs
 
 add-take-to : tie.Need-add-take-to
 add-take-to c = search needs
@@ -51,7 +51,7 @@ returns c = let a = c .before .before .before .before .before .before .before .b
     (a .head .now) (q .2)
     (sym (c .before .before .before .before .before .before .before .before .read-value .ensures) ∙ ap readTold
     (c .before .before .before .before .before .before .value .given .1)))
-    (c .before .before .before .before .opened .ensures) (c .before .before .take-to .ensures)
+    (c .before .before .before .before .standing .ensures) (c .before .before .take-to .ensures)
 
 returns-2 : tie.Need-returns-2
 returns-2 c = let a = c .before .before .before .before .before .before .before .before .args in
@@ -67,8 +67,8 @@ give-timed-spec =
     (tie.spec
     read-value-requires
     enum-known-value
-    add-opened
-    opened-requires
+    add-standing
+    standing-requires
     add-take-to
     take-to-requires
     enum-known-r

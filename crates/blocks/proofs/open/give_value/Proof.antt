@@ -23,8 +23,8 @@ use Rattle.blocks.proofs.hand.head_of.Reads as head-of-reads
 use Rattle.blocks.proofs.open.give_stored.Reads as give-stored-reads
 use Rattle.blocks.proofs.open.give_timed.Reads as give-timed-reads
 use Rattle.blocks.proofs.open.take_to.Reads as take-to-reads
-use Rattle.blocks.proofs.state.longed.Reads as longed-reads
-use Rattle.blocks.proofs.state.opened.Reads as opened-reads
+use Rattle.blocks.proofs.state.longing.Reads as longing-reads
+use Rattle.blocks.proofs.state.standing.Reads as standing-reads
 use Rattle.blocks.proofs.turn.prefix_of.Reads as prefix-of-reads
 use Rattle.blocks.proofs.turn.turn_of.Reads as turn-of-reads
 use Rattle.value.proofs.shape_of.Reads as shape-of-reads
@@ -57,8 +57,8 @@ enum-told c = search needs
 add-upto : tie.Need-add-upto
 add-upto c = search needs
 
-opened-requires : tie.Need-opened-requires
-opened-requires c κs = search needs
+standing-requires : tie.Need-standing-requires
+standing-requires c κs = search needs
 
 take-to-requires : tie.Need-take-to-requires
 take-to-requires c κs = let a = c .before .before .before .before .before .before .before .before .before .before .before .args in
@@ -92,8 +92,8 @@ add-upto-2 c = let a = c .before .before .before .before .before .before .before
       c .before .before .before .before .before .before .before .before .before .before .before .pre .narrow,
     )
 
-longed-requires : tie.Need-longed-requires
-longed-requires c κs = search needs
+longing-requires : tie.Need-longing-requires
+longing-requires c κs = search needs
 
 take-to-requires-2 : tie.Need-take-to-requires-2
 take-to-requires-2 c κs =
@@ -173,7 +173,7 @@ returns c =
     (a .at .held + length (a .block .now))
     (wait-answer (a .kind) (a .carry .now) (a .block .now) _ (a .nulls) (a .at) (a .found) q
     (c .before .before .before .before .before .before .before .before .before .head-of .ensures) t)
-    (c .before .before .before .opened .ensures) (c .before .before .take-to .ensures)
+    (c .before .before .before .standing .ensures) (c .before .before .take-to .ensures)
 
 same-length-2 : tie.Need-same-length-2
 same-length-2 c = search needs
@@ -198,7 +198,7 @@ returns-2 c =
     (c .before .before .before .before .before .before .before .n .given .0 .0)
     (long-answers (a .kind) (a .carry .now) (a .block .now) _ (a .nulls) (a .at) (a .found) q
     (c .before .before .before .before .before .before .before .before .before .before .before .head-of .ensures) _ t ∙ rw e)
-    (c .before .before .before .before .longed .ensures) (c .before .before .take-to2 .ensures)
+    (c .before .before .before .before .longing .ensures) (c .before .before .take-to2 .ensures)
 
 same-length-3 : tie.Need-same-length-3
 same-length-3 c = search needs
@@ -251,12 +251,12 @@ give-value-spec =
     turn-of-requires
     enum-told
     add-upto
-    opened-requires
+    standing-requires
     take-to-requires
     enum-known-n
     prefix-of-requires
     add-upto-2
-    longed-requires
+    longing-requires
     take-to-requires-2
     enum-known-n-2
     enum-told-2
