@@ -80,7 +80,7 @@ enum {
     FEED_OTHER_EVENT = 16,     /* a rows event of another code, another table id, or another number of columns; place: 0 for code and table id, else where the
                                   event's column count stands */
     FEED_SMALL_CARRY = 20,     /* a carry of fewer than FEED_CARRY_LEAST bytes; place: 0 */
-    FEED_UNFIT_STATE = 21      /* the closed state, or one that no call leaves; place: 0 */
+    FEED_UNFIT_STATE = 21      /* the closed state, or one that is unfit; place: 0 */
 };
 
 /* Which part of a date or time is out of range. FEED_PART_NEGATIVE is tested first, then the others in their order; the first is told. */
@@ -95,8 +95,8 @@ enum {
     FEED_PART_NEGATIVE = 8  /* a datetime below zero */
 };
 
-/* Kinds of values (sorts, in the crates), with their parts in order. feed_step and feed_give answer them, feed_run stores and feed_put takes
-   all but FEED_END. */
+/* Kinds of values (sorts, in the crates), with their parts in order. feed_step and feed_give answer them, feed_run stores and feed_put
+   takes all but FEED_END. */
 enum {
     FEED_END = 0,      /* no value: the image is at its end; of feed_give and feed_end: the bytes used */
     FEED_NULL = 1,     /* (no part) */
@@ -122,9 +122,9 @@ enum {
 
 /* The phases of an image that arrives in blocks. Any other number is taken as FEED_CLOSED. */
 enum {
-    FEED_OPEN = 0,
+    FEED_OPEN = 0,    /* in the null bits, at or in a value that is not long, or behind the last one */
     FEED_IN_LONG = 1, /* in a long value */
-    FEED_CLOSED = 2   /* behind a refusal or the end: with it every call is refused with FEED_UNFIT_STATE */
+    FEED_CLOSED = 2   /* behind a refusal or feed_end: with it every call is refused with FEED_UNFIT_STATE */
 };
 
 /*
@@ -415,20 +415,20 @@ uint64_t feed_room(const uint8_t *profile, size_t profile_length, const uint8_t 
                    uint64_t *out, size_t out_length);
 
 /*
- * Begins a row image that arrives in blocks. carry is a buffer of FEED_CARRY_LEAST bytes or more, for the null bits and then for the value in
- * progress; here it is only measured. A value that takes more than what the null bits leave of it, its length bytes included, is long, and is
- * answered in parts that never go through it.
+ * Begins a row image that arrives in blocks. carry is a buffer of FEED_CARRY_LEAST bytes or more, for the null bits and then for the value
+ * in progress; here it is only measured. A value that takes more than what the null bits leave of it, its length bytes included, is long,
+ * and is answered in parts that never go through it.
  * Answer, 5 numbers: the first state, phase, column, held, left and used, to give feed_give and feed_end. Record, presence bits, state and
- * carry go from call to call as each left them. States may be made up: one that no call leaves is refused with FEED_UNFIT_STATE
- * (docs/DECISIONS.md, Q10.6, lists them), and any other is obeyed as it stands.
+ * carry go from call to call as each left them. States may be made up: one that docs/DECISIONS.md, Q10.6, lists as unfit is refused with
+ * FEED_UNFIT_STATE, and any other is obeyed as it stands.
  */
 uint64_t feed_begin(const uint8_t *profile, size_t profile_length, const uint8_t *presence, size_t presence_length,
                     const uint8_t *carry, size_t carry_length, uint64_t *out, size_t out_length);
 
 /*
- * Takes bytes from the front of a block, as many as one answer needs. Give what is left of the block again, until the answer is FEED_MORE, which
- * took all of it, or FEED_END, behind which the rest is not the image's. A block may be empty. What is answered does not depend on how the
- * image was cut, but for the lengths of FEED_LONG_PART. FEED_IMAGE_SHORT is never answered: that is for feed_end to tell.
+ * Takes bytes from the front of a block, as many as one answer needs. Give what is left of the block again, until the answer is FEED_MORE,
+ * which took all of it, or FEED_END, behind which the rest is not the image's. A block may be empty. What is answered does not depend on
+ * how the image was cut, but for the lengths of FEED_LONG_PART. FEED_IMAGE_SHORT is never answered: that is for feed_end to tell.
  * Answer, 15 numbers: the next state, kind, column, bytes taken, and seven parts. A FEED_BYTES value stands in carry until the next call.
  * After a refusal the next state is the closed one: give FEED_CLOSED as phase, not the numbers of out, which then has place and part.
  * Each call costs as much as the record has columns: give blocks of some hundred bytes, and not single bytes.
@@ -438,8 +438,8 @@ uint64_t feed_give(const uint8_t *profile, size_t profile_length, const uint8_t 
                    uint64_t phase, size_t column, size_t held, size_t left, size_t used, uint64_t *out, size_t out_length);
 
 /*
- * Tells that no more bytes come. FEED_IMAGE_SHORT if the image is not at its end: at 0 in the null bits, else at the first column that is not
- * NULL and was not answered.
+ * Tells that no more bytes come. FEED_IMAGE_SHORT if the image is not at its end: at 0 in the null bits, else at the first column that is
+ * not NULL and was not answered.
  * Answer, 15 numbers, as of feed_give: the closed state, FEED_END, 0, 0, and the bytes used.
  */
 uint64_t feed_end(const uint8_t *profile, size_t profile_length, const uint8_t *presence, size_t presence_length,
@@ -447,8 +447,8 @@ uint64_t feed_end(const uint8_t *profile, size_t profile_length, const uint8_t *
                   uint64_t phase, size_t column, size_t held, size_t left, size_t used, uint64_t *out, size_t out_length);
 
 /*
- * Where the column names of an event stand. Answer, 3 numbers: 1, and start and length, in the event, of the value of its first names field,
- * which may have no bytes; or three zeros if its optional fields come to their end without one. It is refused if the event is, or an
+ * Where the column names of an event stand. Answer, 3 numbers: 1, and start and length, in the event, of the value of its first names
+ * field, which may have no bytes; or three zeros if its optional fields come to their end without one. It is refused if the event is, or an
  * optional field before the names, as in a map that is asked in another dialect than its server's: its names are not known then, and a list
  * of your own does not stand in for them. What stands behind the names is not looked at.
  */

@@ -1,4 +1,5 @@
-"""The images of the lists as they arrive: each in one block, byte by byte, cut at random, and cut in two at every place or, if it is long, at some."""
+"""The images of the lists as they arrive: each in one block, byte by byte, cut at random, and cut in two at every place, or at some if it
+is long."""
 import random
 
 from program import answers

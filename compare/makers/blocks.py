@@ -42,8 +42,9 @@ def in_blocks(s, size):
 
 # ---- rules
 def rule_worked():
-    """the worked row in one block, in two and in three, byte by byte; with bytes behind it, and empty blocks; ended early, and not at all"""
-    for ops in ([IMAGE], [IMAGE + b"\x07"], *halves(IMAGE), *halves(IMAGE + b"\x07\x08"), byte_by_byte(IMAGE), [b"", *byte_by_byte(IMAGE), b""]):
+    """the worked row in one block, in two, byte by byte; with bytes behind it, and empty blocks; ended early, and not at all"""
+    single = byte_by_byte(IMAGE)
+    for ops in ([IMAGE], [IMAGE + b"\x07"], *halves(IMAGE), *halves(IMAGE + b"\x07\x08"), single, [b"", *single, b""]):
         yield blocks_line(RECORD, b"\x07", [*ops, END])
         yield blocks_line(RECORD, b"\x07", ops)
     for cut in cuts(IMAGE):
@@ -70,8 +71,8 @@ def rule_calls():
     """calls behind the end of input, behind a refusal, and behind the image's end"""
     good, bad = IMAGE, b"\xfe\x20\x1e\xff"
     dates = record_of([(DATE, 10, 0)])
-    starts = ((RECORD, b"\x07", [good]), (RECORD, b"\x07", [good[:3]]), (RECORD, b"\x07", []), (RECORD, b"\x00", []), (dates, b"\x01", [bad]),
-              (dates, b"\x01", [bad[:3], bad[3:]]), (dates, b"\x01", [b"\xff"]), (record_of([]), b"", []))
+    starts = ((RECORD, b"\x07", [good]), (RECORD, b"\x07", [good[:3]]), (RECORD, b"\x07", []), (RECORD, b"\x00", []),
+              (dates, b"\x01", [bad]), (dates, b"\x01", [bad[:3], bad[3:]]), (dates, b"\x01", [b"\xff"]), (record_of([]), b"", []))
     for record, presence, ops in starts:
         for behind in ([], [END], [END, END], [b""], [b"", b"", END], [b"\x07", END], [END, b"\x07"], [END, b"", END], [good, END, good]):
             if ops or behind:
@@ -124,7 +125,7 @@ class Long:
 
 
 def rule_long():
-    """values of one byte less than there is room, of as many and of one more: whole, cut around the length bytes and around the end, ended early"""
+    """values of one byte less than there is room, of as many and of one more: whole, cut around length bytes and end, ended early"""
     for k in (2, 3, 4):
         for present in (1, 9, 100):
             for over in (-1, 0, 1):
@@ -140,7 +141,8 @@ def rule_long():
     for k, size in ((2, 65535), (3, 2 ** 24 - 1), (4, 2 ** 31), (4, 2 ** 32 - 1)):
         record = record_of([(Column(252, k, 0), 10, 0), (TINY, 10, 0)])
         head = b"\xfc" + size.to_bytes(k, "little")
-        for ops in ([head], [head, b"\x01", b"\x02\x03"], [head + b"\x01\x02", END, b"\x03"], byte_by_byte(head), [*byte_by_byte(head), END]):
+        single = byte_by_byte(head)
+        for ops in ([head], [head, b"\x01", b"\x02\x03"], [head + b"\x01\x02", END, b"\x03"], single, [*single, END]):
             yield blocks_line(record, b"\x03", ops)
 
 
@@ -148,8 +150,8 @@ def rule_wide():
     """more than 255 columns: null bits of many bytes, NULLs, a value out of range, an early end"""
     for n in TURNS:
         wide = table(n)
-        presence, good = wide.presence(wide.all), wide.image(wide.all)
-        for ops in ([good], in_blocks(good, 100), [good[:10], good[10:]], [good[:-1]], [good[:bytes_for(n)], good[bytes_for(n):] + b"\x00"]):
+        presence, good, head = wide.presence(wide.all), wide.image(wide.all), bytes_for(n)
+        for ops in ([good], in_blocks(good, 100), [good[:10], good[10:]], [good[:-1]], [good[:head], good[head:] + b"\x00"]):
             yield blocks_line(wide.record, presence, [*ops, END])
         for image in (wide.image(wide.all, null={255, n - 1}), wide.image(wide.all, wrong={255} & set(range(n - 1)))):
             yield blocks_line(wide.record, presence, [*in_blocks(image, 200), END])
@@ -208,7 +210,8 @@ def some_ops(rng, image):
     if not chance(rng, 4):
         ops.append(END)
     while chance(rng, 3):
-        ops.insert(rng.randrange(len(ops) + 1) if chance(rng, 2) else len(ops), rng.choice((b"", b"", END, some_bytes(rng, rng.randrange(1, 4)))))
+        place = rng.randrange(len(ops) + 1) if chance(rng, 2) else len(ops)
+        ops.insert(place, rng.choice((b"", b"", END, some_bytes(rng, rng.randrange(1, 4)))))
     return ops or [END]
 
 

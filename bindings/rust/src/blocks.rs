@@ -1,9 +1,11 @@
 //! Row images that arrive in blocks.
 
+use std::fmt;
+
 use crate::abi::{self, Answer, State};
 use crate::refusal;
 use crate::row::buffer;
-use crate::value::Value;
+use crate::value::{Value, NUMBERS};
 use crate::{Record, Refusal};
 
 /// The least bytes of a carry: with fewer an image is refused with 20.
@@ -27,8 +29,8 @@ const PARTS: usize = 8;
 /// With this state every call is refused with 21.
 const CLOSED: State = [2, 0, 0, 0, 0];
 
-/// A row image of which block after block is given. It keeps the null bits and the value in progress in a buffer of its own, the carry, so a
-/// block is done with when it has been given.
+/// A row image of which block after block is given. It keeps the null bits and the value in progress in a buffer of its own, the carry, so
+/// a block is done with when it has been given.
 ///
 /// ```no_run
 /// # fn f(record: feed::Record, presence: &[u8], downlink: Vec<Vec<u8>>) -> Result<(), feed::Refusal> {
@@ -45,7 +47,7 @@ const CLOSED: State = [2, 0, 0, 0, 0];
 /// ```
 ///
 /// Each call costs as much as the record has columns, whatever the block has: give blocks of some hundred bytes, and not single bytes.
-#[derive(Clone, Debug)]
+#[derive(Clone)]
 pub struct Blocks<'r> {
     record: &'r Record,
     presence: Vec<u8>,
@@ -53,6 +55,18 @@ pub struct Blocks<'r> {
     state: State,
     // once the image has come to its end
     used: Option<usize>,
+}
+
+/// The state, and of the carry its length alone: it may have many thousand bytes.
+impl fmt::Debug for Blocks<'_> {
+    fn fmt(&self, f: &mut fmt::Formatter<'_>) -> fmt::Result {
+        f.debug_struct("Blocks")
+            .field("presence", &self.presence)
+            .field("carry", &self.carry.len())
+            .field("state", &self.state)
+            .field("used", &self.used)
+            .finish_non_exhaustive()
+    }
 }
 
 /// One thing that arrived.
@@ -73,7 +87,7 @@ pub enum Arrival<'a> {
         /// How many bytes all parts have together.
         length: usize,
     },
-    /// The next bytes of a long value, none of them empty, borrowed from the block.
+    /// The next bytes of a long value, never empty, borrowed from the block.
     Part {
         /// The column.
         column: usize,
@@ -149,8 +163,8 @@ impl Blocks<'_> {
         self.used
     }
 
-    /// Tells that no more bytes come: the bytes that the image took, or refusal 9 if it is not at its end. NULLs that were not asked for are
-    /// not missed.
+    /// Tells that no more bytes come: the bytes that the image took, or refusal 9 if it is not at its end. NULLs that were not asked for
+    /// are not missed.
     pub fn end(self) -> Result<usize, Refusal> {
         let out = abi::end(&self.record.bytes, &self.presence, &self.carry, self.state)?;
         Ok(out[PARTS] as usize)
@@ -179,7 +193,7 @@ fn value<'a>(
     carry: &'a [u8],
     column: usize,
 ) -> Result<Value<'a>, Refusal> {
-    let mut parts = [0; 7];
-    parts.copy_from_slice(&out[PARTS..]);
-    Value::from_parts(kind, parts, carry).ok_or(Refusal::at(refusal::IMAGE_SHORT, column as u64))
+    let mut numbers = [kind; NUMBERS];
+    numbers[1..].copy_from_slice(&out[PARTS..]);
+    Value::from_numbers(&numbers, carry).ok_or(Refusal::at(refusal::IMAGE_SHORT, column as u64))
 }

@@ -37,7 +37,7 @@ pub const BAD_EXTRA: u64 = 15;
 pub const OTHER_EVENT: u64 = 16;
 /// The carry of an image that arrives in blocks has fewer than 1,024 bytes. Place: 0.
 pub const SMALL_CARRY: u64 = 20;
-/// A call after a refusal or after the end, or with a state that no call leaves. Place: 0.
+/// A call after a refusal or after the end call, or with a state that is unfit. Place: 0.
 pub const UNFIT_STATE: u64 = 21;
 
 /// Why a call did not answer. Printed, it is a sentence with its number; [`number`](Refusal::number), [`place`](Refusal::place) and
@@ -117,7 +117,7 @@ pub enum Refusal {
     },
     /// [`SMALL_CARRY`]: the carry of an image that arrives in blocks has fewer than 1,024 bytes.
     SmallCarry,
-    /// [`UNFIT_STATE`]: a call after a refusal or after the end, or with a state that no call leaves.
+    /// [`UNFIT_STATE`]: a call after a refusal or after the end call, or with a state that is unfit.
     UnfitState,
     /// Numbers that this crate has no name for. The library that it was made with tells none.
     Other {
@@ -374,7 +374,7 @@ impl fmt::Display for Refusal {
             ),
             Refusal::SmallCarry => f.write_str("the carry has fewer than 1,024 bytes"),
             Refusal::UnfitState => {
-                f.write_str("the image was refused or ended before, or no call leaves such a state")
+                f.write_str("the image was refused or its end told before, or the state is unfit")
             }
             Refusal::Other { place, part, .. } => {
                 write!(f, "it was refused at {place}, part {part}")

@@ -70,6 +70,7 @@ fn begin(record: &Record, presence: &[u8], carry: &[u8], out: &mut [u64]) -> u64
 
 fn give(
     record: &Record,
+    presence: &[u8],
     carry: &mut [u8],
     block: &[u8],
     [phase, column, held, left, used]: State,
@@ -80,8 +81,8 @@ fn give(
         feed_give(
             r.as_ptr(),
             r.len(),
-            [7].as_ptr(),
-            1,
+            presence.as_ptr(),
+            presence.len(),
             carry.as_mut_ptr(),
             carry.len(),
             block.as_ptr(),
@@ -99,6 +100,7 @@ fn give(
 
 fn end(
     record: &Record,
+    presence: &[u8],
     carry: &[u8],
     [phase, column, held, left, used]: State,
     out: &mut [u64],
@@ -108,8 +110,8 @@ fn end(
         feed_end(
             r.as_ptr(),
             r.len(),
-            [7].as_ptr(),
-            1,
+            presence.as_ptr(),
+            presence.len(),
             carry.as_ptr(),
             carry.len(),
             phase,
@@ -177,7 +179,11 @@ fn arrived(mut row: Blocks, blocks: &[&[u8]]) -> Told {
             let arrival = match row.give(&mut block) {
                 Ok(Some(arrival)) => arrival,
                 Ok(None) => break,
-                Err(why) => return (values, Err(why)),
+                Err(why) => {
+                    // only the end call tells that bytes are missing
+                    assert!(!matches!(why, Refusal::ImageShort { .. }), "{why}");
+                    return (values, Err(why));
+                }
             };
             match arrival {
                 Arrival::Value { column, value } => values.push((column, owned(value))),
@@ -462,6 +468,12 @@ fn what_is_lent_is_tested_first() {
     assert_eq!(Refusal::UnfitState.number(), refusal::UNFIT_STATE);
 }
 
+#[test]
+fn blocks_are_shown_without_their_carry() {
+    let shown = "Blocks { presence: [7], carry: 65536, state: [0, 0, 0, 0, 0], used: None, .. }";
+    assert_eq!(format!("{:?}", three().blocks(&[7]).unwrap()), shown);
+}
+
 const KEPT: u64 = 77;
 
 #[test]
@@ -472,48 +484,122 @@ fn the_calls_tell_a_state_and_what_arrived() {
     assert_eq!(begin(&record, &[7], &carry, &mut out[..5]), 0);
     assert_eq!(out[..6], [0, 0, 0, 0, 0, KEPT]);
     // the first column, and two bytes of the next
-    assert_eq!(give(&record, &mut carry, &IMAGE[..7], [0; 5], &mut out), 0);
+    assert_eq!(
+        give(&record, &[7], &mut carry, &IMAGE[..7], [0; 5], &mut out),
+        0
+    );
     let int = [0, 1, 1, 0, 5, 2, 0, 5, (-2i64) as u64, 0, 0, 0, 0, 0, 0];
     assert_eq!(out, int);
     let state = [0, 1, 1, 0, 5];
-    assert_eq!(give(&record, &mut carry, &IMAGE[5..7], state, &mut out), 0);
+    assert_eq!(
+        give(&record, &[7], &mut carry, &IMAGE[5..7], state, &mut out),
+        0
+    );
     assert_eq!(out, [0, 1, 3, 0, 7, 12, 0, 2, 0, 0, 0, 0, 0, 0, 0]);
     assert_eq!(carry[..6], [0xf8, 2, b'a', 0xff, 0xff, 9]);
     let state = [0, 1, 3, 0, 7];
-    assert_eq!(give(&record, &mut carry, &IMAGE[7..], state, &mut out), 0);
+    assert_eq!(
+        give(&record, &[7], &mut carry, &IMAGE[7..], state, &mut out),
+        0
+    );
     assert_eq!(out, [0, 2, 1, 0, 8, 11, 1, 1, 2, 2, 0, 0, 0, 0, 0]);
     assert_eq!(carry[2..4], *b"ab");
     // the end closes, and is told like all else
     let state = [0, 3, 1, 0, 9];
-    assert_eq!(end(&record, &carry, state, &mut out), 0);
+    assert_eq!(end(&record, &[7], &carry, state, &mut out), 0);
     assert_eq!(out, [2, 0, 0, 0, 0, 0, 0, 0, 9, 0, 0, 0, 0, 0, 0]);
 }
 
+/// Whether a state is refused with 21, by both calls, all being left as it was. The carry has these bytes at its front, and then zeros.
+fn unfit(record: &Record, presence: &[u8], front: &[u8], state: State) -> bool {
+    let mut lent = front.to_vec();
+    lent.resize(LEAST_CARRY, 0);
+    let mut carry = lent.clone();
+    let mut out = [KEPT; 15];
+    let ended = end(record, presence, &carry, state, &mut out) == 21;
+    assert!(!ended || is_place_0(&out), "{state:?}");
+    out = [KEPT; 15];
+    let given = give(record, presence, &mut carry, IMAGE, state, &mut out) == 21;
+    assert!(!given || is_place_0(&out) && carry == lent, "{state:?}");
+    assert_eq!(given, ended, "{state:?}");
+    given
+}
+
+fn is_place_0(out: &[u64]) -> bool {
+    out[..2] == [0, 0] && out[2..].iter().all(|&number| number == KEPT)
+}
+
 #[test]
-fn a_made_up_state_is_refused_and_all_is_left_as_it_was() {
+fn an_unfit_state_is_refused_and_all_is_left_as_it_was() {
     let record = three();
-    let unfit = [
+    let states = [
         [2, 0, 0, 0, 0],        // closed
         [3, 0, 0, 0, 0],        // no phase
         [u64::MAX, 0, 0, 0, 0], // no phase
         [0, 4, 1, 0, 1],        // no column
-        [0, 0, 1025, 0, 1025],  // more held than there is
+        [0, 1, 0, 0, 0],        // a column in the null bits
+        [0, 0, 0, 0, 1],        // used unlike held there
+        [0, 0, 0, 1, 0],        // bytes left there
+        [0, 0, 5, 0, 5],        // a whole value held
+        [0, 3, 2, 0, 2],        // bytes held of no column
         [0, 1, 1, 0, 0],        // less used than held
         [0, 1, 1, 1, 1],        // bytes left of no long value
-        [0, 1, 1, 0, 99_999],   // more used than an image takes
+        [0, 0, 2, 1, 2],        // the same, in a value
+        [0, 1, 1, 0, 263],      // more used than an image takes
         [1, 1, 2, 1, 2],        // not a long value
         [1, 0, 1, 1, 1],        // a column that is never long
     ];
-    for state in unfit {
-        let mut carry = vec![0; 1024];
-        let mut out = [KEPT; 15];
-        assert_eq!(give(&record, &mut carry, IMAGE, state, &mut out), 21);
-        assert_eq!(out[..3], [0, 0, KEPT], "{state:?}");
-        assert!(carry.iter().all(|&byte| byte == 0), "{state:?}");
-        out = [KEPT; 15];
-        assert_eq!(end(&record, &carry, state, &mut out), 21, "{state:?}");
-        assert_eq!(out[..3], [0, 0, KEPT]);
+    for state in states {
+        assert!(unfit(&record, &[7], &[], state), "{state:?}");
     }
+    // their neighbours are obeyed, made up as they are
+    let states = [
+        [0, 0, 0, 0, 0],
+        [0, 0, 4, 0, 4],
+        [0, 3, 1, 0, 1],
+        [0, 1, 1, 0, 262],
+    ];
+    for state in states {
+        assert!(!unfit(&record, &[7], &[], state), "{state:?}");
+    }
+    // a byte held of the first column, which is there, is NULL, or is absent
+    let state = [0, 0, 2, 0, 2];
+    assert!(!unfit(&record, &[7], &[0], state));
+    assert!(unfit(&record, &[7], &[1], state));
+    assert!(unfit(&record, &[6], &[0], state));
+}
+
+#[test]
+fn an_unfit_state_of_a_long_value_is_refused() {
+    let record = record_of(&[[252, 8, 2, 0], [1, 12, 0, 0], [252, 8, 2, 0]]);
+    // null bits, and the length 3,000
+    let long = [0, 0xb8, 0x0b];
+    let states = [
+        [1, 0, 3, 0, 3],          // nothing left
+        [1, 0, 3, 3001, 3],       // more left than it has
+        [1, 0, 2, 3000, 2],       // a part of its length held
+        [1, 0, 4, 2999, 4],       // a byte of it held
+        [1, 0, 0, 3000, 3],       // no null bits held
+        [1, 1, 3, 3000, 3],       // of another column
+        [1, 3, 3, 3000, 3],       // of no column
+        [1, 0, 3, 3000, 2],       // less used than held
+        [1, 0, 3, 3000, 131_077], // more used than an image takes
+        [0, 0, 3, 0, 3],          // a long value told, and not begun
+        [0, 0, 1025, 0, 1025],    // more held than there is
+    ];
+    for state in states {
+        assert!(unfit(&record, &[7], &long, state), "{state:?}");
+    }
+    let states = [[1, 0, 3, 3000, 3], [1, 0, 3, 1, 131_076], [0, 0, 2, 0, 2]];
+    for state in states {
+        assert!(!unfit(&record, &[7], &long, state), "{state:?}");
+    }
+    // the column is NULL, is absent, or has a value that is not long
+    let state = [1, 0, 3, 3, 3];
+    assert!(!unfit(&record, &[7], &long, state));
+    assert!(unfit(&record, &[7], &[1, 0xb8, 0x0b], state));
+    assert!(unfit(&record, &[6], &long, state));
+    assert!(unfit(&record, &[7], &[0, 3, 0], state));
 }
 
 #[test]
@@ -521,15 +607,18 @@ fn a_short_carry_or_a_short_buffer_of_numbers_changes_nothing() {
     let record = three();
     let mut out = [KEPT; 15];
     let mut carry = vec![9; 1024];
-    assert_eq!(give(&record, &mut carry, IMAGE, [0; 5], &mut out[..14]), 8);
-    assert_eq!(end(&record, &carry, [0; 5], &mut out[..14]), 8);
+    assert_eq!(
+        give(&record, &[7], &mut carry, IMAGE, [0; 5], &mut out[..14]),
+        8
+    );
+    assert_eq!(end(&record, &[7], &carry, [0; 5], &mut out[..14]), 8);
     assert_eq!(begin(&record, &[7], &carry, &mut out[..4]), 8);
     assert!(out == [KEPT; 15] && carry.iter().all(|&byte| byte == 9));
     // 20 comes before 21
     carry.pop();
     assert_eq!(begin(&record, &[7], &carry, &mut out), 20);
-    assert_eq!(give(&record, &mut carry, IMAGE, [2; 5], &mut out), 20);
-    assert_eq!(end(&record, &carry, [2; 5], &mut out), 20);
+    assert_eq!(give(&record, &[7], &mut carry, IMAGE, [2; 5], &mut out), 20);
+    assert_eq!(end(&record, &[7], &carry, [2; 5], &mut out), 20);
     assert_eq!(out[..3], [0, 0, KEPT]);
     assert!(carry.iter().all(|&byte| byte == 9));
 }
