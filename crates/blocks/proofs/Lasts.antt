@@ -1,7 +1,7 @@
 -- When `end` is told: where the end call would accept, and nowhere else. Assumes nothing.
 use Prim.Native.Nat.{ℕ, _-_, _≤_}
 use mathlib.Core.Path.{_≡_, refl, sym, ap, subst, _∙_}
-use mathlib.Core.Bool.{Bool, true, false, cond, true≢false}
+use mathlib.Core.Bool.{Bool, true, false, true≢false}
 use mathlib.Core.List.{List, [], _∷_, _++_}
 use native.Mathlib.Nat.{add-zero}
 use native.Mathlib.Omega.{arith}
@@ -9,7 +9,7 @@ use borrow.Author.Tests.{le-ltb, ltb-false}
 use lib.ListN.{length, take, drop, length-append}
 use lib.Seq.{length-take-le}
 use lib.Dec.{ltb}
-use Rattle.wire.specs.Outcome.{ok, refuse}
+use Rattle.wire.specs.Outcome.{ok}
 use Rattle.wire.specs.Number.{Bytes}
 use Rattle.wire.proofs.Outcomes.{by-test, same-ok, ok-not-refused}
 use Rattle.image.specs.Split.{Slot, slotsAt}
@@ -18,11 +18,10 @@ use Rattle.image.proofs.CursorLaws.Heads.{Over, nullBytes}
 use Rattle.image.proofs.AppendLaws.GrownSteps.{slots-more}
 use Rattle.blocks.specs.declared.state.Arriving.{Arriving}
 use Rattle.blocks.specs.States.{opened, Arrived, end, BlockGiven}
-use Rattle.blocks.specs.Gives.{Handed, commit, byTurn, giveOver, giveOpen, giveIn, giveBlock}
+use Rattle.blocks.specs.Gives.{Handed, commit, giveOver, giveOpen, giveIn, giveBlock}
 use Rattle.blocks.specs.Ends.{endOver, endIn, endBlocks}
 use Rattle.blocks.specs.Streams.{Stream, stopped}
 use Rattle.blocks.specs.Runs.{goesOn, Came}
-use Rattle.blocks.specs.Turns.{turnOf}
 use Rattle.blocks.specs.Inner.Futures.{future}
 use Rattle.blocks.proofs.Ons.{On, Still, Ready, Left, open-left, long-left}
 use Rattle.blocks.proofs.Fits.{spent-room}

@@ -6,7 +6,7 @@ use mathlib.Core.Bool.{true, false}
 use mathlib.Core.List.{List, _++_}
 use lib.ListN.{length}
 use Rattle.wire.specs.declared.refusal.Refusal.{Refusal}
-use Rattle.wire.specs.Outcome.{Outcome, ok, refused, refuse}
+use Rattle.wire.specs.Outcome.{ok, refused, refuse}
 use Rattle.wire.specs.Number.{Bytes}
 use Rattle.wire.specs.Bits.{bytesFor}
 use Rattle.value.specs.Shapes.{prefix}
@@ -69,8 +69,8 @@ pub record Blocks : Type 0 where
   -- "Bytes behind a finished image stay unread": what the calls took are the bytes used
   pub only-used : (profile presence carry : List ℕ) (bs : List (List ℕ)) (s : Stream) (taken used : ℕ)
       → Run profile presence begun carry bs s taken → joined s .how ≡ ok used → taken ≡ used
-  -- `End` is told where the end call would accept, and nowhere else: behind it that call accepts, and where it would accept a call that goes
-  -- no further tells it, and takes nothing
+  -- `End` is told where the end call would accept, and nowhere else: behind it that call accepts, and where it would accept a call that
+  -- goes no further tells it, and takes nothing
   pub end-only : (profile presence : List ℕ) (st : Arriving) (carry block : List ℕ) (g : BlockGiven) (left : List ℕ) (used : ℕ)
       → Under profile presence → Came profile presence st carry → Bytes block → giveBlock profile presence st carry block ≡ ok (g, left)
       → g .arrival ≡ end used → endBlocks profile presence (g .next) left ≡ ok used
@@ -105,8 +105,8 @@ pub record Blocks : Type 0 where
   pub small-carry : (profile presence : List ℕ) (st : Arriving) (carry block : List ℕ) → Under profile presence → length carry < 1024
       → (giveBlock profile presence st carry block ≡ refuse 20 0) × (endBlocks profile presence st carry ≡ refuse 20 0)
       × (beginBlocks profile presence carry ≡ refuse 20 0)
-  -- "21 for any call after the end call or a refusal": both hand back the closed state and take nothing, and with that state the next call is
-  -- 21
+  -- "21 for any call after the end call or a refusal": both hand back the closed state and take nothing, and with that state the next call
+  -- is 21
   pub refusal-closes : (w : Refusal) → givenOf (refused w) ≡ shutWith (Refused w)
   pub end-closes : (used : ℕ) → endedOf (ok used) ≡ shutWith (End used)
   pub closed-refused : (profile presence : List ℕ) (st : Arriving) (carry block : List ℕ) → Under profile presence → 1024 ≤ length carry

@@ -235,11 +235,12 @@ pub record Occurs : Type 0 where
       × (giveBlock twoColumns onlySecond begun (zeros 1023) [] ≡ refuse 20 0)
       × (giveBlock twoColumns onlySecond closed (zeros 1024) [] ≡ refuse 21 0)
       × (giveBlock twoColumns onlySecond begun (zeros 1024) (0 ∷ month13) ≡ refused (outOf 1 2))
-  -- 21 with a state of each sort that docs/DECISIONS.md lists as unfit (Q10.6): column, bytes held and bytes used out of bounds; in the null
-  -- bits, at a value, held bytes that are of no value, of a NULL, or a whole value; in a long value that is none
+  -- 21 with states of each sort that docs/DECISIONS.md lists as unfit (Q10.6): column, bytes held and bytes used out of bounds; in the null
+  -- bits another column, and other bytes used than held; held bytes of an absent column, of a whole value, and of a NULL; a long value that
+  -- is none, or of which no byte is left, or too many; and bytes left where no value is long
   pub unfit-states : (map (λ st. giveBlock twoColumns onlySecond st (zeros 1024) [])
-      (opened 3 1 1 ∷ opened 0 1025 1025 ∷ opened 0 1 0 ∷ opened 0 1 5 ∷ opened 1 0 0 ∷ opened 0 0 1 ∷ opened 0 2 2 ∷ opened 1 4 4 ∷ longed
-      1 1 1 1 ∷ [])
+      (opened 3 1 1 ∷ opened 0 1025 1025 ∷ opened 0 1 0 ∷ opened 0 1 5 ∷ opened 1 0 0 ∷ opened 0 0 1 ∷ opened 0 2 2 ∷ opened 1 4 4
+      ∷ longed 1 1 1 1 ∷ [])
       ≡ replicate 9 (refuse 21 0))
       × (giveBlock twoColumns onlySecond (opened 1 2 2) (1 ∷ zeros 1023) [] ≡ refuse 21 0)
       × (map (λ st. giveBlock oneBlob onlyFirst st (0 ∷ (0 ∷ (4 ∷ zeros 1021))) []) (longed 0 3 0 3 ∷ longed 0 3 1025 3 ∷ [])

@@ -1,13 +1,13 @@
 -- The refusals of images in blocks. Assumes nothing.
-use Prim.Native.Nat.{ℕ, _+_, _-_, _≤_, _<_}
+use Prim.Native.Nat.{ℕ, _-_, _≤_, _<_}
 use mathlib.Core.Path.{_≡_, refl, sym, subst}
-use mathlib.Core.Bool.{Bool, true, false, cond, true≢false}
+use mathlib.Core.Bool.{true, true≢false}
 use mathlib.Core.List.{List, [], _∷_}
 use native.Mathlib.Omega.{arith}
 use borrow.Author.Tests.{leb-true, eqb-true}
 use lib.ListN.{length, take, drop}
 use lib.Dec.{leb, ltb, eqb}
-use Rattle.wire.specs.Outcome.{Outcome, ok, refused, refuse, why}
+use Rattle.wire.specs.Outcome.{ok, why}
 use Rattle.wire.proofs.Outcomes.{both-true, after-is-ok, by-test, same-ok, ok-not-refused}
 use Rattle.value.specs.declared.shape.Shape.{Shape}
 use Rattle.value.specs.Shapes.{fault}
