@@ -16,6 +16,7 @@
 #[allow(unsafe_code)]
 mod abi;
 mod blocks;
+mod buffers;
 mod event;
 mod fields;
 mod images;
