@@ -13,7 +13,7 @@
  * take for granted, and C does not check:
  *  - a pointer is not NULL, also where the length is 0 (any pointer will do there), and one to numbers is aligned to 8;
  *  - as many elements as the length says can be read, or written where the parameter is not const;
- *  - what is written (image, profile, plan, values, out) overlaps nothing else that the same call is lent;
+ *  - what is written (image, profile, plan, values, carry, out) overlaps nothing else that the same call is lent;
  *  - the elements lent for reading have been written before.
  * Given that, every call returns, whatever the bytes and numbers are. The library keeps no state and takes no memory.
  *
@@ -34,7 +34,7 @@ extern "C" {
 #endif
 
 /* Numbers that are enough for the answer of any call. */
-#define FEED_OUT_NUMBERS 11
+#define FEED_OUT_NUMBERS 15
 
 /* The most columns that a map may have; bytes of the record of a map with n columns, and of the longest record there is. */
 #define FEED_COLUMNS_MOST 4096
@@ -47,6 +47,9 @@ extern "C" {
 /* Bytes of a plan for p present columns; numbers of a value that a run stores: its kind and seven parts. */
 #define FEED_PLAN_BYTES(present) (3 * (size_t)(present))
 #define FEED_VALUE_NUMBERS 8
+
+/* The least bytes of a carry, which an image that arrives in blocks is kept in. */
+#define FEED_CARRY_LEAST 1024
 
 /* Which columns a server counts where its map has a bit or a charset per column. Use the one of the server that wrote the map. */
 enum {
@@ -74,8 +77,10 @@ enum {
     FEED_NOT_TAKEN = 13,       /* a value that the column cannot hold, or a number that the call does not take; place: the column, or 0 */
     FEED_NO_COLUMN = 14,       /* there is no such column, or in a plan no such item; place: the column or item asked */
     FEED_BAD_EXTRA = 15,       /* the length of a rows event's extra data is below 2; place: where that length stands, 8 */
-    FEED_OTHER_EVENT = 16      /* a rows event of another code, another table id, or another number of columns; place: 0 for code and table id, else where the
+    FEED_OTHER_EVENT = 16,     /* a rows event of another code, another table id, or another number of columns; place: 0 for code and table id, else where the
                                   event's column count stands */
+    FEED_SMALL_CARRY = 20,     /* a carry of fewer than FEED_CARRY_LEAST bytes; place: 0 */
+    FEED_UNFIT_STATE = 21      /* the closed state, or one that is unfit; place: 0 */
 };
 
 /* Which part of a date or time is out of range. FEED_PART_NEGATIVE is tested first, then the others in their order; the first is told. */
@@ -90,10 +95,10 @@ enum {
     FEED_PART_NEGATIVE = 8  /* a datetime below zero */
 };
 
-/* Kinds of values (sorts, in the crates), with their parts in order. feed_step answers them, feed_run stores and feed_put takes all but
-   FEED_END. */
+/* Kinds of values (sorts, in the crates), with their parts in order. feed_step and feed_give answer them, feed_run stores and feed_put
+   takes all but FEED_END. */
 enum {
-    FEED_END = 0,      /* no value: the image is at its end */
+    FEED_END = 0,      /* no value: the image is at its end; of feed_give and feed_end: the bytes used */
     FEED_NULL = 1,     /* (no part) */
     FEED_INT = 2,      /* the signed integer, as two's complement in 64 bits */
     FEED_UINT = 3,     /* the unsigned integer; also the number of an ENUM's string */
@@ -104,8 +109,22 @@ enum {
     FEED_DATE = 8,     /* year, month, day */
     FEED_DATETIME = 9, /* year, month, day, hour, minute, second, microseconds */
     FEED_TIME = 10,    /* 1 if negative else 0, hours, minutes, seconds, microseconds */
-    FEED_BYTES = 11    /* start, length: in the image for feed_step, in images for feed_run, in lent for feed_put. Strings, BLOB, SET, BIT,
-                          DECIMAL, JSON, geometry, VECTOR */
+    FEED_BYTES = 11    /* start, length: in the image for feed_step, in images for feed_run, in lent for feed_put, in carry for feed_give.
+                          Strings, BLOB, SET, BIT, DECIMAL, JSON, geometry, VECTOR */
+};
+
+/* What feed_give answers beside these, with its part. */
+enum {
+    FEED_MORE = 12,     /* (no part) all of the block was taken, and nothing can be told without another byte */
+    FEED_LONG = 13,     /* the length of a value that is too long for the carry: its bytes follow in parts */
+    FEED_LONG_PART = 14 /* the length of a part of it, which is the front of the block: the bytes taken */
+};
+
+/* The phases of an image that arrives in blocks. Any other number is taken as FEED_CLOSED. */
+enum {
+    FEED_OPEN = 0,    /* in the null bits, at or in a value that is not long, or behind the last one */
+    FEED_IN_LONG = 1, /* in a long value */
+    FEED_CLOSED = 2   /* behind a refusal or feed_end: with it every call is refused with FEED_UNFIT_STATE */
 };
 
 /*
@@ -221,6 +240,16 @@ enum {
     FEED_STEP_NEXT_COLUMN = 2,
     FEED_STEP_NEXT_OFFSET = 3,
     FEED_STEP_PARTS = 4, /* seven numbers from here on; those that the kind has not are 0 */
+
+    FEED_STATE_PHASE = 0, /* feed_begin, feed_give, feed_end: the state to give the next call */
+    FEED_STATE_COLUMN = 1,
+    FEED_STATE_HELD = 2,
+    FEED_STATE_LEFT = 3,
+    FEED_STATE_USED = 4,
+    FEED_GIVE_KIND = 5, /* feed_give, feed_end: a kind of value, or FEED_END, FEED_MORE, FEED_LONG, FEED_LONG_PART */
+    FEED_GIVE_COLUMN = 6,
+    FEED_GIVE_TAKEN = 7, /* bytes taken from the front of the block */
+    FEED_GIVE_PARTS = 8, /* seven numbers from here on; those that the kind has not are 0 */
 
     FEED_PLAN_LENGTH = 0, /* feed_plan */
     FEED_PLAN_ITEMS = 1,
@@ -386,8 +415,40 @@ uint64_t feed_room(const uint8_t *profile, size_t profile_length, const uint8_t 
                    uint64_t *out, size_t out_length);
 
 /*
- * Where the column names of an event stand. Answer, 3 numbers: 1, and start and length, in the event, of the value of its first names field,
- * which may have no bytes; or three zeros if its optional fields come to their end without one. It is refused if the event is, or an
+ * Begins a row image that arrives in blocks. carry is a buffer of FEED_CARRY_LEAST bytes or more, for the null bits and then for the value
+ * in progress; here it is only measured. A value that takes more than what the null bits leave of it, its length bytes included, is long,
+ * and is answered in parts that never go through it.
+ * Answer, 5 numbers: the first state, phase, column, held, left and used, to give feed_give and feed_end. Record, presence bits, state and
+ * carry go from call to call as each left them. States may be made up: one that docs/DECISIONS.md, Q10.6, lists as unfit is refused with
+ * FEED_UNFIT_STATE, and any other is obeyed as it stands.
+ */
+uint64_t feed_begin(const uint8_t *profile, size_t profile_length, const uint8_t *presence, size_t presence_length,
+                    const uint8_t *carry, size_t carry_length, uint64_t *out, size_t out_length);
+
+/*
+ * Takes bytes from the front of a block, as many as one answer needs. Give what is left of the block again, until the answer is FEED_MORE,
+ * which took all of it, or FEED_END, behind which the rest is not the image's. A block may be empty. What is answered does not depend on
+ * how the image was cut, but for the lengths of FEED_LONG_PART. FEED_IMAGE_SHORT is never answered: that is for feed_end to tell.
+ * Answer, 15 numbers: the next state, kind, column, bytes taken, and seven parts. A FEED_BYTES value stands in carry until the next call.
+ * After a refusal the next state is the closed one: give FEED_CLOSED as phase, not the numbers of out, which then has place and part.
+ * Each call costs as much as the record has columns: give blocks of some hundred bytes, and not single bytes.
+ */
+uint64_t feed_give(const uint8_t *profile, size_t profile_length, const uint8_t *presence, size_t presence_length,
+                   uint8_t *carry, size_t carry_length, const uint8_t *block, size_t block_length,
+                   uint64_t phase, size_t column, size_t held, size_t left, size_t used, uint64_t *out, size_t out_length);
+
+/*
+ * Tells that no more bytes come. FEED_IMAGE_SHORT if the image is not at its end: at 0 in the null bits, else at the first column that is
+ * not NULL and was not answered.
+ * Answer, 15 numbers, as of feed_give: the closed state, FEED_END, 0, 0, and the bytes used.
+ */
+uint64_t feed_end(const uint8_t *profile, size_t profile_length, const uint8_t *presence, size_t presence_length,
+                  const uint8_t *carry, size_t carry_length,
+                  uint64_t phase, size_t column, size_t held, size_t left, size_t used, uint64_t *out, size_t out_length);
+
+/*
+ * Where the column names of an event stand. Answer, 3 numbers: 1, and start and length, in the event, of the value of its first names
+ * field, which may have no bytes; or three zeros if its optional fields come to their end without one. It is refused if the event is, or an
  * optional field before the names, as in a map that is asked in another dialect than its server's: its names are not known then, and a list
  * of your own does not stand in for them. What stands behind the names is not looked at.
  */

@@ -2,8 +2,8 @@
  * read_rows FILE: prints the tables of FILE, whose lines rows.txt explains: the columns with their types, the primary key, then a line for
  * each row, and for a rows event a line for each of its images, with the names of the columns that it has. Values of ENUM and SET columns
  * are shown as the strings that the map has for them.
- * Every row is also read again step by step, and must have the same values; and written again from its values, and must have the bytes that
- * it was read from, but for the spare null bits.
+ * Every row is also read again step by step, and once more as it would arrive in small blocks, and must have the same values; and written
+ * again from its values, and must have the bytes that it was read from, but for the spare null bits.
  */
 #include "../feed.h"
 
@@ -12,7 +12,7 @@
 #include <stdlib.h>
 #include <string.h>
 
-enum { LINE_MOST = 4096, PARTS = 7, POST_HEADER = 8 };
+enum { LINE_MOST = 4096, PARTS = 7, POST_HEADER = 8, BLOCK = 7 };
 
 struct bytes {
     uint8_t at[LINE_MOST];
@@ -477,6 +477,51 @@ static void check_steps(const struct table *table, const struct row *row, size_t
         stop("the steps end elsewhere than the plan");
 }
 
+/* Whether what feed_give told is the value: bytes stand in the carry, and where the plan found them in the image. */
+static int is_value(const uint64_t *out, const uint8_t *carry, const struct value *value, const uint8_t *image)
+{
+    const uint64_t *parts = out + FEED_GIVE_PARTS;
+
+    if (out[FEED_GIVE_KIND] != value->kind || out[FEED_GIVE_COLUMN] != value->column)
+        return 0;
+    if (value->kind != FEED_BYTES)
+        return memcmp(parts, value->parts, sizeof value->parts) == 0;
+    return parts[1] == value->parts[1] && memcmp(carry + parts[0], image + value->parts[0], (size_t)parts[1]) == 0;
+}
+
+/* Reads the row once more in blocks: the same values, and the same number of bytes. No value of a line is too long for the carry. */
+static void check_blocks(const struct table *table, const struct row *row, size_t used)
+{
+    static uint8_t carry[FEED_CARRY_LEAST + LINE_MOST];
+    uint64_t out[FEED_OUT_NUMBERS];
+    size_t at = 0, count = 0, left;
+
+    answered("feed_begin",
+             feed_begin(table->record, table->record_length, row->presence.at, row->presence.length, carry, sizeof carry,
+                        out, FEED_OUT_NUMBERS), out);
+    for (;;) {
+        left = row->image.length - at;
+        answered("feed_give",
+                 feed_give(table->record, table->record_length, row->presence.at, row->presence.length, carry, sizeof carry,
+                           row->image.at + at, left < BLOCK ? left : BLOCK, out[FEED_STATE_PHASE], (size_t)out[FEED_STATE_COLUMN],
+                           (size_t)out[FEED_STATE_HELD], (size_t)out[FEED_STATE_LEFT], (size_t)out[FEED_STATE_USED],
+                           out, FEED_OUT_NUMBERS), out);
+        at += (size_t)out[FEED_GIVE_TAKEN];
+        if (out[FEED_GIVE_KIND] == FEED_END || (out[FEED_GIVE_KIND] == FEED_MORE && left == 0))
+            break;
+        if (out[FEED_GIVE_KIND] == FEED_MORE)
+            continue;
+        if (count == row->count || !is_value(out, carry, &row->values[count++], row->image.at))
+            stop("a block gives another value than the plan");
+    }
+    answered("feed_end",
+             feed_end(table->record, table->record_length, row->presence.at, row->presence.length, carry, sizeof carry,
+                      out[FEED_STATE_PHASE], (size_t)out[FEED_STATE_COLUMN], (size_t)out[FEED_STATE_HELD],
+                      (size_t)out[FEED_STATE_LEFT], (size_t)out[FEED_STATE_USED], out, FEED_OUT_NUMBERS), out);
+    if (count != row->count || at != used || out[FEED_GIVE_PARTS] != used)
+        stop("the blocks end elsewhere than the plan");
+}
+
 static void print_row(const struct table *table, const struct row *row)
 {
     size_t column, next = 0;
@@ -538,6 +583,7 @@ static void do_row(const struct table *table, struct row *row, int show)
     size_t used = read_row(table, row);
 
     check_steps(table, row, used);
+    check_blocks(table, row, used);
     print_row(table, row);
     if (used != row->image.length)
         stop("the row does not take its whole image");

@@ -1,6 +1,7 @@
 """Lines of the program `cases`: words, values, and an answer for each kind of case (docs/CASES.md)."""
 import re
 
+from .blocks import Arriving
 from .check import check
 from .columns import DIALECTS, Column
 from .event import read_event, written_event
@@ -57,6 +58,10 @@ def HEX(word):
         return b""
     need(HEX_DIGITS(word))
     return bytes.fromhex(word)
+
+
+def OP(word):
+    return None if word == "end" else HEX(word)
 
 
 def DIALECT(word):
@@ -130,10 +135,10 @@ def walked(words):
 CASES = {}
 
 
-def case(name, *words, values=False):
-    """a kind of case; with `values`, any number of values may stand behind the words"""
+def case(name, *words, rest=None):
+    """a kind of case; any number of words that `rest` reads may stand behind the others"""
     def add(answer):
-        CASES[name] = words, values, answer
+        CASES[name] = words, rest, answer
         return answer
     return add
 
@@ -307,6 +312,37 @@ def rows_case(code, record, table_id, s):
     return walked(words())
 
 
+@case("blocks", HEX, HEX, ROOM, OP, rest=OP)
+def blocks_case(record, presence, carry, *ops):
+    arriving = Arriving(record, presence, carry)
+    told = []  # values, and words
+    for op in ops:
+        how = []
+        try:
+            if op is None:
+                told.append("end %d %d" % (arriving.end(), len(arriving.taken)))
+            else:
+                is_whole = arriving.give(op, told)
+                how = ["%s %d" % ("whole" if is_whole else "open", len(arriving.taken))]
+        except Refused as refusal:
+            told.append(str(refusal))
+    return " ".join([*long_joined(told), *how])
+
+
+def long_joined(told):
+    """the words of what was told, the parts of a long value joined"""
+    words = []
+    for item in told:
+        if isinstance(item, str):
+            words.append(item)
+        elif item[0] == "part":
+            length, parts = words[-1].rsplit(":", 1)
+            words[-1] = length + ":" + parts.replace("-", "") + item[1].hex()
+        else:
+            words.append(value_word(item + (b"",) if item[0] == "long" else item))
+    return words
+
+
 @case("room", HEX, HEX)
 def room_case(record, presence):
     return ok(Head(record, presence).room())
@@ -324,7 +360,7 @@ def put_case(record, presence, nulls, value, column, offset, room):
     return ok(stored, behind, offset + len(stored))
 
 
-@case("row", HEX, HEX, HEX, ROOM, values=True)
+@case("row", HEX, HEX, HEX, ROOM, rest=VALUE)
 def row_case(record, presence, nulls, room, *values):
     head = Head(record, presence)
     need(len(values) == len(head.present))
@@ -336,12 +372,12 @@ def answer(line):
     name, *given = line.split(" ")
     if len(line) > LONGEST or name not in CASES:
         return "bad"
-    words, values, case_answer = CASES[name]
+    words, rest, case_answer = CASES[name]
     more = len(given) - len(words)
-    if more < 0 or more > 0 and not values:
+    if more < 0 or more > 0 and rest is None:
         return "bad"
     try:
-        return case_answer(*(read(word) for read, word in zip(words + (VALUE,) * more, given)))
+        return case_answer(*(read(word) for read, word in zip(words + (rest,) * more, given)))
     except Bad:
         return "bad"
     except Refused as refusal:

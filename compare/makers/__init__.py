@@ -1,11 +1,11 @@
 """Makers of cases: for each kind of line its rules, each at its bound and one past it; its edges, which are many; and lines at random. Most go deep: good
 maps, valid records, images that are nearly right.
 
-`numbers`, `values`, `lists`, `events`, `fields`, `checks`, `rows` and `rows_events` have a maker for each kind, `malformed` makes lines that are `bad`; `some`,
-`columns` and `maps` are what they share. `wide` has the rules of all kinds for more than 255 columns.
+`numbers`, `values`, `lists`, `events`, `fields`, `checks`, `rows`, `rows_events` and `blocks` have a maker for each kind, `malformed` makes lines that are
+`bad`; `some`, `columns` and `maps` are what they share. `wide` has the rules of all kinds for more than 255 columns.
 """
 from .some import MAKERS
-from . import numbers, values, lists, events, fields, checks, rows, rows_events, malformed  # noqa: F401
+from . import numbers, values, lists, events, fields, checks, rows, rows_events, blocks, malformed  # noqa: F401
 
 __all__ = ["MAKERS", "made"]
 

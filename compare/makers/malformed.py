@@ -19,6 +19,11 @@ NAMES = ("", "packe", "packedx", "PACKED", "cases", "nothing", "bad", "ok", "-",
 LONGEST = 262144
 
 
+def upper(text):
+    """with the letters of ASCII alone in upper case, as another may have no such byte"""
+    return text.encode("latin-1").upper().decode("latin-1")
+
+
 def spoilt(rng, good):
     """a line with one thing changed that most often makes it malformed"""
     words = good.split(" ")
@@ -35,7 +40,7 @@ def spoilt(rng, good):
     elif how == 7:
         words[at] = rng.choice((" ", "\t", "0", "+", "-", "f")) + words[at]
     elif how == 8:
-        words[at] = words[at].upper()
+        words[at] = upper(words[at])
     else:
         words[at] = words[at][:-1]
     return " ".join(words)

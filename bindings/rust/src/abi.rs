@@ -3,7 +3,7 @@
 use crate::Refusal;
 
 /// Numbers that are enough for the answer of any call.
-const NUMBERS: usize = 11;
+const NUMBERS: usize = 15;
 
 /// The numbers of an answer, from the first on; those that a call has not are 0.
 pub(crate) type Answer = [u64; NUMBERS];
@@ -14,6 +14,9 @@ pub(crate) struct Taken<'a> {
     pub(crate) parts: [u64; 7],
     pub(crate) lent: &'a [u8],
 }
+
+/// What one call over blocks leaves for the next: phase, column, held, left, used.
+pub(crate) type State = [u64; 5];
 
 #[link(name = "feed_abi", kind = "static")]
 extern "C" {
@@ -116,6 +119,51 @@ extern "C" {
         profile_length: usize,
         presence: *const u8,
         presence_length: usize,
+        out: *mut u64,
+        out_length: usize,
+    ) -> u64;
+
+    fn feed_begin(
+        profile: *const u8,
+        profile_length: usize,
+        presence: *const u8,
+        presence_length: usize,
+        carry: *const u8,
+        carry_length: usize,
+        out: *mut u64,
+        out_length: usize,
+    ) -> u64;
+
+    fn feed_give(
+        profile: *const u8,
+        profile_length: usize,
+        presence: *const u8,
+        presence_length: usize,
+        carry: *mut u8,
+        carry_length: usize,
+        block: *const u8,
+        block_length: usize,
+        phase: u64,
+        column: usize,
+        held: usize,
+        left: usize,
+        used: usize,
+        out: *mut u64,
+        out_length: usize,
+    ) -> u64;
+
+    fn feed_end(
+        profile: *const u8,
+        profile_length: usize,
+        presence: *const u8,
+        presence_length: usize,
+        carry: *const u8,
+        carry_length: usize,
+        phase: u64,
+        column: usize,
+        held: usize,
+        left: usize,
+        used: usize,
         out: *mut u64,
         out_length: usize,
     ) -> u64;
@@ -389,6 +437,80 @@ pub(crate) fn put(
             value.lent.len(),
             image.as_mut_ptr(),
             image.len(),
+            out.as_mut_ptr(),
+            out.len(),
+        )
+    };
+    answered(status, out)
+}
+
+pub(crate) fn begin(profile: &[u8], presence: &[u8], carry: &[u8]) -> Result<Answer, Refusal> {
+    let mut out = [0; NUMBERS];
+    let status = unsafe {
+        feed_begin(
+            profile.as_ptr(),
+            profile.len(),
+            presence.as_ptr(),
+            presence.len(),
+            carry.as_ptr(),
+            carry.len(),
+            out.as_mut_ptr(),
+            out.len(),
+        )
+    };
+    answered(status, out)
+}
+
+pub(crate) fn give(
+    profile: &[u8],
+    presence: &[u8],
+    carry: &mut [u8],
+    block: &[u8],
+    [phase, column, held, left, used]: State,
+) -> Result<Answer, Refusal> {
+    let mut out = [0; NUMBERS];
+    let status = unsafe {
+        feed_give(
+            profile.as_ptr(),
+            profile.len(),
+            presence.as_ptr(),
+            presence.len(),
+            carry.as_mut_ptr(),
+            carry.len(),
+            block.as_ptr(),
+            block.len(),
+            phase,
+            column as usize,
+            held as usize,
+            left as usize,
+            used as usize,
+            out.as_mut_ptr(),
+            out.len(),
+        )
+    };
+    answered(status, out)
+}
+
+pub(crate) fn end(
+    profile: &[u8],
+    presence: &[u8],
+    carry: &[u8],
+    [phase, column, held, left, used]: State,
+) -> Result<Answer, Refusal> {
+    let mut out = [0; NUMBERS];
+    let status = unsafe {
+        feed_end(
+            profile.as_ptr(),
+            profile.len(),
+            presence.as_ptr(),
+            presence.len(),
+            carry.as_ptr(),
+            carry.len(),
+            phase,
+            column as usize,
+            held as usize,
+            left as usize,
+            used as usize,
             out.as_mut_ptr(),
             out.len(),
         )

@@ -11,8 +11,8 @@ use std::sync::Arc;
 /// How many values are read at once.
 const BATCH: usize = 256;
 
-/// The walk over row images laid end to end, all under the same presence bits: each present column with its value, row after row. A row ends
-/// behind its last present column. After a refusal there is nothing more.
+/// The walk over row images laid end to end, all under the same presence bits: each present column with its value, row after row. A row
+/// ends behind its last present column. After a refusal there is nothing more.
 ///
 /// One buffer serves all rows, and a row costs nothing but its values: where many rows stand in one piece this is faster than a
 /// [`Row`](crate::Row) for each.

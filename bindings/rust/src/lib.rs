@@ -6,7 +6,8 @@
 //! A map is checked once. [`table`] gives a [`Table`]: whose map it is, its columns with their names and types, the strings of ENUM and SET
 //! columns, the primary key, and its [`Record`]. [`check`] gives the record alone, which may be stored. With a table, or a record and the
 //! map's table id, rows events are read row by row ([`Table::rows_event`], [`Record::rows_event`]). Row images are read value by value
-//! ([`Record::row`]) and written ([`Record::write_row`]). Every call answers or refuses; none panics, whatever bytes it is given.
+//! ([`Record::row`]) and written ([`Record::write_row`]); one that arrives in blocks is read as it comes ([`Record::blocks`]). Every call
+//! answers or refuses; none panics, whatever bytes it is given.
 //!
 //! The library is proved; this crate is not. It is for x86-64 Linux, as the library is. docs/ABI.md tells what each refusal means.
 #![warn(missing_docs)]
@@ -14,6 +15,8 @@
 
 #[allow(unsafe_code)]
 mod abi;
+mod blocks;
+mod buffers;
 mod event;
 mod fields;
 mod images;
@@ -24,6 +27,7 @@ mod table;
 mod types;
 mod value;
 
+pub use blocks::{Arrival, Blocks, LEAST_CARRY};
 pub use event::{code, ChangedRow, Image, Rows, RowsEvent};
 pub use fields::{field_type, fields, groups, integers, pairs, strings};
 pub use fields::{Field, Fields, Group, Groups, Integers, Pairs, Strings};

@@ -35,6 +35,10 @@ pub const NO_COLUMN: u64 = 14;
 pub const BAD_EXTRA: u64 = 15;
 /// A rows event of another code, another table id, or another number of columns. Place: 0 for code and table id, else where the event's column count stands.
 pub const OTHER_EVENT: u64 = 16;
+/// The carry of an image that arrives in blocks has fewer than 1,024 bytes. Place: 0.
+pub const SMALL_CARRY: u64 = 20;
+/// A call after a refusal or after the end call, or with a state that is unfit. Place: 0.
+pub const UNFIT_STATE: u64 = 21;
 
 /// Why a call did not answer. Printed, it is a sentence with its number; [`number`](Refusal::number), [`place`](Refusal::place) and
 /// [`part`](Refusal::part) are what C is told. A place is an offset in the given bytes, or a column counted from 0.
@@ -111,6 +115,10 @@ pub enum Refusal {
         /// 0 for code and table id, else where the event's column count stands.
         place: usize,
     },
+    /// [`SMALL_CARRY`]: the carry of an image that arrives in blocks has fewer than 1,024 bytes.
+    SmallCarry,
+    /// [`UNFIT_STATE`]: a call after a refusal or after the end call, or with a state that is unfit.
+    UnfitState,
     /// Numbers that this crate has no name for. The library that it was made with tells none.
     Other {
         /// The number.
@@ -239,6 +247,8 @@ impl Refusal {
             NO_COLUMN => Refusal::NoColumn { column },
             BAD_EXTRA => Refusal::BadExtra { place },
             OTHER_EVENT => Refusal::OtherEvent { place },
+            SMALL_CARRY if place == 0 => Refusal::SmallCarry,
+            UNFIT_STATE if place == 0 => Refusal::UnfitState,
             _ => return None,
         })
     }
@@ -262,6 +272,8 @@ impl Refusal {
             Refusal::NoColumn { .. } => NO_COLUMN,
             Refusal::BadExtra { .. } => BAD_EXTRA,
             Refusal::OtherEvent { .. } => OTHER_EVENT,
+            Refusal::SmallCarry => SMALL_CARRY,
+            Refusal::UnfitState => UNFIT_STATE,
             Refusal::Other { number, .. } => number,
         }
     }
@@ -282,7 +294,12 @@ impl Refusal {
             | Refusal::OutOfRange { column, .. }
             | Refusal::NotTaken { column }
             | Refusal::NoColumn { column } => column,
-            Refusal::TooManyColumns | Refusal::NoRoom | Refusal::BadRecord | Refusal::BadBits => 0,
+            Refusal::TooManyColumns
+            | Refusal::NoRoom
+            | Refusal::BadRecord
+            | Refusal::BadBits
+            | Refusal::SmallCarry
+            | Refusal::UnfitState => 0,
         }
     }
 
@@ -355,6 +372,10 @@ impl fmt::Display for Refusal {
                 f,
                 "the event is of another code, table or number of columns (byte {place})"
             ),
+            Refusal::SmallCarry => f.write_str("the carry has fewer than 1,024 bytes"),
+            Refusal::UnfitState => {
+                f.write_str("the image was refused or its end told before, or the state is unfit")
+            }
             Refusal::Other { place, part, .. } => {
                 write!(f, "it was refused at {place}, part {part}")
             }

@@ -1,6 +1,7 @@
 //! Row images: read and written.
 
 use crate::abi;
+use crate::buffers::{self, Values};
 use crate::plan::{is_set, Plan};
 use crate::refusal;
 use crate::value::{Value, NUMBERS};
@@ -9,7 +10,7 @@ use std::iter::FusedIterator;
 use std::sync::Arc;
 
 /// How many values are read at once.
-const BATCH: usize = 16;
+const BATCH: usize = 256;
 
 /// The walk over one row image: each present column with its value. After a refusal there is nothing more.
 #[derive(Clone, Debug)]
@@ -17,7 +18,7 @@ pub struct Row<'a> {
     plan: Arc<Plan>,
     image: &'a [u8],
     // values that were read, as numbers: of the item `first` and of those behind it
-    values: [[u64; NUMBERS]; BATCH],
+    values: Values,
     first: usize,
     // the item to give next, and the one to read next with the offset of its value
     given: usize,
@@ -52,7 +53,11 @@ impl Row<'_> {
             self.state = State::Ended;
             return None;
         }
-        let room = self.values[..left.min(BATCH)].as_flattened_mut();
+        let room = left.min(BATCH);
+        if self.values.len() < room {
+            self.values.resize(room, [0; NUMBERS]);
+        }
+        let room = self.values[..room].as_flattened_mut();
         let at = (self.item, self.offset);
         let out = match abi::run(&self.plan.bytes, self.image, at, room) {
             Ok(out) => out,
@@ -103,6 +108,12 @@ impl<'a> Iterator for Row<'a> {
 
 impl FusedIterator for Row<'_> {}
 
+impl Drop for Row<'_> {
+    fn drop(&mut self) {
+        buffers::take_back(std::mem::take(&mut self.values));
+    }
+}
+
 impl Record {
     /// Reads a row image. `presence` has a bit for each column, lowest first: set where the column is in the image. The image may be longer
     /// than the row.
@@ -112,7 +123,7 @@ impl Record {
         Ok(Row {
             plan,
             image,
-            values: [[0; NUMBERS]; BATCH],
+            values: buffers::lend(),
             first: 0,
             given: 0,
             item: 0,
@@ -153,17 +164,23 @@ impl Record {
     }
 }
 
-/// A buffer that the image fits in, for the null bits and the values. Memory that is not to be had is a refusal too.
+/// A buffer that the image fits in, for the null bits and the values.
 fn room_for(nulls: &[u8], values: &[Value]) -> Result<Vec<u8>, Refusal> {
-    let room = values
-        .iter()
-        .fold(nulls.len(), |sum, v| sum.saturating_add(v.room()));
-    let mut image = Vec::new();
-    match image.try_reserve_exact(room) {
-        Ok(()) => image.resize(room, 0),
+    buffer(
+        values
+            .iter()
+            .fold(nulls.len(), |sum, v| sum.saturating_add(v.room())),
+    )
+}
+
+/// A buffer of so many bytes. Memory that is not to be had is a refusal too.
+pub(crate) fn buffer(len: usize) -> Result<Vec<u8>, Refusal> {
+    let mut bytes = Vec::new();
+    match bytes.try_reserve_exact(len) {
+        Ok(()) => bytes.resize(len, 0),
         Err(_) => return Err(Refusal::at(refusal::NO_ROOM, 0)),
     }
-    Ok(image)
+    Ok(bytes)
 }
 
 /// A bit for each value, lowest first, set where it is NULL.

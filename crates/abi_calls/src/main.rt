@@ -1,12 +1,14 @@
 // Calls every function of feed_abi, and prints a line for each call. The stored output holds the numbers of the
 // interface, which code and definitions could change together. What is wrong with a run is said on standard
 // error, and its status is told to `./run` if that asks for it.
+mod arrivals;
 mod events;
 mod maps;
 mod rows;
 mod told;
 mod words;
 
+use arrivals::arrival_calls;
 use events::event_calls;
 use libc::STDERR_FILENO;
 use libc::STDOUT_FILENO;
@@ -49,7 +51,7 @@ fn put_record_calls(record: &mut [u8]) -> bool {
 
 fn put_calls() -> bool {
     let mut record = [0u8; RECORD];
-    map_calls(&MAP) && put_record_calls(&mut record)
+    map_calls(&MAP) && put_record_calls(&mut record) && arrival_calls()
 }
 
 // The status of a run whose output was printed, all of it or not.

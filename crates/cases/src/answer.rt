@@ -22,7 +22,7 @@ fn put_turns(
     out: &mut [u8],
     used: usize,
 ) -> usize {
-    let mut state = [0u64; 6];
+    let mut state = [0u64; 10];
     let mut now = used;
     let mut turns = u64::MAX;
     while turns > 0 {

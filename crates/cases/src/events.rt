@@ -14,6 +14,7 @@ use crate::turn::onward;
 use crate::turn::plain;
 use crate::turn::refused;
 use crate::turn::silent;
+use crate::turn::standing;
 use crate::turn::valued;
 use crate::words::number;
 use crate::words::text;
@@ -51,7 +52,7 @@ fn bit(b: bool) -> u64 {
     0
 }
 
-fn state_of(turn: u64, at: Standing) -> [u64; 6] {
+fn state_of(turn: u64, at: Standing) -> [u64; 10] {
     [
         turn,
         at.images.at as u64,
@@ -59,10 +60,14 @@ fn state_of(turn: u64, at: Standing) -> [u64; 6] {
         at.met as u64,
         at.cursor.column as u64,
         at.cursor.offset as u64,
+        0,
+        0,
+        0,
+        0,
     ]
 }
 
-fn standing_at(state: [u64; 6]) -> Standing {
+fn standing_at(state: [u64; 10]) -> Standing {
     Standing {
         images: Images {
             at: state[1] as usize,
@@ -77,7 +82,7 @@ fn standing_at(state: [u64; 6]) -> Standing {
 }
 
 // Before an image: its cursor is not known yet.
-fn before(images: Images, met: usize) -> [u64; 6] {
+fn before(images: Images, met: usize) -> [u64; 10] {
     let cursor = Cursor {
         column: 0,
         offset: 0,
@@ -242,9 +247,9 @@ fn value_turn(rows: Rows, profile: &[u8], event: &[u8], at: Standing) -> Turn {
     }
 }
 
-fn turn_of(rows: Rows, profile: &[u8], event: &[u8], state: [u64; 6]) -> Turn {
+fn turn_of(rows: Rows, profile: &[u8], event: &[u8], state: [u64; 10]) -> Turn {
     match state[0] {
-        0 => onward(flags_told(rows), [SETS, 0, 0, 0, 0, 0]),
+        0 => onward(flags_told(rows), standing(SETS, 0, 0)),
         SETS => with_images(rows),
         IMAGE => image_turn(rows, profile, event, standing_at(state)),
         _ => value_turn(rows, profile, event, standing_at(state)),
@@ -252,7 +257,7 @@ fn turn_of(rows: Rows, profile: &[u8], event: &[u8], state: [u64; 6]) -> Turn {
 }
 
 // `rows CODE RECORD TABLEID HEX`. Each turn reads the event's parts again: a state cannot hold them.
-pub(crate) fn rows_of(line: &[u8], args: &[u64], state: [u64; 6]) -> Turn {
+pub(crate) fn rows_of(line: &[u8], args: &[u64], state: [u64; 10]) -> Turn {
     let profile = text(line, args, 2);
     let event = text(line, args, 4);
     match rows_event::read_rows(number(args, 1), profile, number(args, 3), event) {

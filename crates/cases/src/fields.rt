@@ -16,12 +16,16 @@ use value::Dialect;
 use wire::Part;
 
 // Where a walk stands, behind its first turn: what it counted of the map goes with it.
-fn state_of(fields: Fields) -> [u64; 6] {
+fn state_of(fields: Fields) -> [u64; 10] {
     [
         1,
         fields.at as u64,
         fields.numeric as u64,
         fields.columns as u64,
+        0,
+        0,
+        0,
+        0,
         0,
         0,
     ]
@@ -48,7 +52,7 @@ fn step(fields: Fields, optional: &[u8]) -> Turn {
 }
 
 // A walk over the fields of a map with these types.
-fn walk(dialect: Dialect, types: &[u8], optional: &[u8], state: [u64; 6]) -> Turn {
+fn walk(dialect: Dialect, types: &[u8], optional: &[u8], state: [u64; 10]) -> Turn {
     if state[0] == 0 {
         return step(Fields::new(dialect, types, 0), optional);
     }
@@ -61,7 +65,7 @@ fn walk(dialect: Dialect, types: &[u8], optional: &[u8], state: [u64; 6]) -> Tur
 }
 
 // `fields TYPES OPTIONAL`
-pub(crate) fn fields(line: &[u8], args: &[u64], state: [u64; 6]) -> Turn {
+pub(crate) fn fields(line: &[u8], args: &[u64], state: [u64; 10]) -> Turn {
     walk(
         Dialect::Document,
         text(line, args, 1),
@@ -71,7 +75,7 @@ pub(crate) fn fields(line: &[u8], args: &[u64], state: [u64; 6]) -> Turn {
 }
 
 // `fields-as DIALECT TYPES OPTIONAL`
-pub(crate) fn fields_as(line: &[u8], args: &[u64], state: [u64; 6]) -> Turn {
+pub(crate) fn fields_as(line: &[u8], args: &[u64], state: [u64; 10]) -> Turn {
     walk(
         dialect(args, 1),
         text(line, args, 2),

@@ -8,6 +8,7 @@ use crate::turn::one;
 use crate::turn::onward;
 use crate::turn::refused;
 use crate::turn::silent;
+use crate::turn::standing;
 use crate::turn::two;
 use crate::turn::valued;
 use crate::words::index;
@@ -31,7 +32,7 @@ fn found(column: usize, value: Value, next: Cursor) -> Turn {
     let at = next.column as u64;
     let offset = next.offset as u64;
     let turn = valued(few(OWN, column as u64, at, offset, 0), value);
-    onward(turn, [1, at, offset, 0, 0, 0])
+    onward(turn, standing(1, at, offset))
 }
 
 fn step_in(profile: &[u8], presence: &[u8], image: &[u8], at: Cursor) -> Turn {
@@ -64,13 +65,13 @@ pub(crate) fn step(line: &[u8], args: &[u64]) -> Turn {
 // The first turn of a walk prints nothing.
 fn begin(profile: &[u8], presence: &[u8]) -> Turn {
     match image::first_cursor(profile, presence) {
-        First::At(cursor) => silent([1, cursor.column as u64, cursor.offset as u64, 0, 0, 0]),
+        First::At(cursor) => silent(standing(1, cursor.column as u64, cursor.offset as u64)),
         First::Refused(refusal) => refused(refusal),
     }
 }
 
 // `image RECORD PRESENCE IMAGE`: whether the walk has begun, and its cursor
-pub(crate) fn image_of(line: &[u8], args: &[u64], state: [u64; 6]) -> Turn {
+pub(crate) fn image_of(line: &[u8], args: &[u64], state: [u64; 10]) -> Turn {
     if state[0] == 0 {
         return begin(text(line, args, 1), text(line, args, 2));
     }

@@ -1,6 +1,7 @@
 // The kinds of cases, in the order of docs/CASES.md but for those that write, which stand last. A row
 // has the name, a letter for each word behind it (see `parsing`), and the form of the answer (see
 // `printing`), of a walk that of each item. The constants are the numbers of the rows.
+use crate::arrivals::blocks_of;
 use crate::checks::check;
 use crate::checks::check_as;
 use crate::checks::name;
@@ -33,7 +34,7 @@ use crate::turn::BAD;
 use crate::turn::Turn;
 use crate::turn::plain;
 
-pub(crate) const KINDS: [u8; 515] = *b"packed|hn|ok N N\n\
+pub(crate) const KINDS: [u8; 532] = *b"packed|hn|ok N N\n\
     value|bbbuh|ok * N\n\
     size|bbbuv|ok N\n\
     size-at|bbbuvn|ok N\n\
@@ -60,7 +61,8 @@ pub(crate) const KINDS: [u8; 515] = *b"packed|hn|ok N N\n\
     check-as|dnhr|ok W\n\
     start|hhhr|ok W N N\n\
     put|hhhvnnr|ok W N N\n\
-    row|hhhrv*|ok W\n";
+    row|hhhrv*|ok W\n\
+    blocks|hhroo*|* \n";
 
 const PACKED: usize = 0;
 
@@ -118,6 +120,8 @@ const PUT: usize = 26;
 
 const ROW: usize = 27;
 
+const BLOCKS: usize = 28;
+
 // One turn of a case that reads a value.
 fn value_turn(kind: usize, line: &[u8], args: &[u64]) -> Turn {
     match kind {
@@ -138,7 +142,7 @@ fn map_turn(kind: usize, line: &[u8], args: &[u64]) -> Turn {
 }
 
 // Of one that reads optional fields and their lists.
-fn field_turn(kind: usize, line: &[u8], args: &[u64], state: [u64; 6]) -> Turn {
+fn field_turn(kind: usize, line: &[u8], args: &[u64], state: [u64; 10]) -> Turn {
     match kind {
         FIELDS => fields(line, args, state),
         FIELDS_AS => fields_as(line, args, state),
@@ -158,7 +162,7 @@ fn check_turn(kind: usize, line: &[u8], args: &[u64]) -> Turn {
 }
 
 // Of one that reads images.
-fn image_turn(kind: usize, line: &[u8], args: &[u64], state: [u64; 6]) -> Turn {
+fn image_turn(kind: usize, line: &[u8], args: &[u64], state: [u64; 10]) -> Turn {
     match kind {
         FIRST => first(line, args),
         STEP => step(line, args),
@@ -169,7 +173,7 @@ fn image_turn(kind: usize, line: &[u8], args: &[u64], state: [u64; 6]) -> Turn {
 }
 
 // Of one that reads.
-fn read_turn(kind: usize, line: &[u8], args: &[u64], state: [u64; 6]) -> Turn {
+fn read_turn(kind: usize, line: &[u8], args: &[u64], state: [u64; 10]) -> Turn {
     match kind {
         PACKED..=SIZE_AT => value_turn(kind, line, args),
         EVENT..=EVENT_SIZE => map_turn(kind, line, args),
@@ -190,12 +194,13 @@ fn write_turn(kind: usize, line: &[u8], args: &[u64], room: &mut [u8]) -> Turn {
     }
 }
 
-// Of one that writes an image.
-fn row_turn(kind: usize, line: &[u8], args: &[u64], room: &mut [u8], state: [u64; 6]) -> Turn {
+// Of one that writes an image, or carries one.
+fn row_turn(kind: usize, line: &[u8], args: &[u64], room: &mut [u8], state: [u64; 10]) -> Turn {
     match kind {
         START => start(line, args, room),
         PUT => put(line, args, room),
-        _ => row(line, args, room, state),
+        ROW => row(line, args, room, state),
+        _ => blocks_of(line, args, room, state),
     }
 }
 
@@ -205,12 +210,12 @@ pub(crate) fn take_turn(
     line: &[u8],
     args: &[u64],
     room: &mut [u8],
-    state: [u64; 6],
+    state: [u64; 10],
 ) -> Turn {
     match kind {
         PACKED..=ROOM => read_turn(kind, line, args, state),
         PACK..=CHECK_AS => write_turn(kind, line, args, room),
-        START..=ROW => row_turn(kind, line, args, room, state),
+        START..=BLOCKS => row_turn(kind, line, args, room, state),
         _ => plain(BAD),
     }
 }

@@ -9,6 +9,7 @@ use crate::turn::holding;
 use crate::turn::onward;
 use crate::turn::plain;
 use crate::turn::refused;
+use crate::turn::standing;
 use crate::turn::two;
 use crate::values::GROUP;
 use crate::values::INTEGER;
@@ -40,7 +41,7 @@ const GROUPS: u64 = 4;
 fn item(form: usize, first: u64, second: u64, next: usize) -> Turn {
     let at = next as u64;
     let turn = holding(two(0, at), form, [first, second, 0, 0, 0, 0, 0]);
-    onward(turn, [1, at, 0, 0, 0, 0])
+    onward(turn, standing(1, at, 0))
 }
 
 fn next_integer(s: &[u8], at: usize) -> Turn {
@@ -104,7 +105,7 @@ fn default(s: &[u8]) -> Turn {
         DefaultCharset::Read { charset, pairs } => {
             onward(
                 few(DEFAULT, charset, 0, 0, 0),
-                [1, pairs.at as u64, 0, 0, 0, 0],
+                standing(1, pairs.at as u64, 0),
             )
         }
         DefaultCharset::Refused(refusal) => refused(refusal),
@@ -112,7 +113,7 @@ fn default(s: &[u8]) -> Turn {
 }
 
 // `list KIND HEX`: whether the walk has begun, and where it stands
-pub(crate) fn list(line: &[u8], args: &[u64], state: [u64; 6]) -> Turn {
+pub(crate) fn list(line: &[u8], args: &[u64], state: [u64; 10]) -> Turn {
     let kind = number(args, 1);
     if kind == CHARSETS {
         if state[0] == 0 {

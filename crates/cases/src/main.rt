@@ -1,6 +1,7 @@
 // Reads cases from standard input, a line each, and prints an answer line for each. What is wrong with
 // a run is said on standard error, and its status is told to `./run` if that asks for it.
 mod answer;
+mod arrivals;
 mod checks;
 mod digits;
 mod events;
@@ -79,11 +80,12 @@ fn answer_all(
 }
 
 // The buffers: a block of input; a line; the numbers of its words; the room that a writing case lends;
-// and the output. A row of as many values as the numbers hold has more than any record has columns.
+// and the output. A row of as many values as the numbers hold has more than any record has columns, and
+// no line has more OPs.
 fn answer_input() -> u64 {
     let mut block = [0u8; 65536];
     let mut line = [0u8; 262144];
-    let mut args = [0u64; 131072];
+    let mut args = [0u64; 131104];
     let mut room = [0u8; 262144];
     let mut out = [0u8; 65536];
     let used = answer_all(

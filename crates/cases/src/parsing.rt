@@ -1,6 +1,6 @@
 // The words of a line, read by the letters that its kind has, one for each word. h is a byte string, v
-// a value, n a number, b one of 8 bits, w of 16, u of one, r a room, d a dialect, k a kind of list; a
-// star at the end stands for any number of words like the one before it.
+// a value, n a number, b one of 8 bits, w of 16, u of one, r a room, d a dialect, k a kind of list, o an
+// OP: a byte string or `end`. A star at the end stands for any number of words like the one before it.
 use crate::digits::Decimal;
 use crate::digits::decode_hex;
 use crate::digits::is_hex;
@@ -16,6 +16,7 @@ use crate::values::Numbers;
 use crate::values::parse_value;
 use crate::words::count;
 use crate::words::place_of;
+use crate::words::set_op;
 use crate::words::set_slot;
 use value_parts::sort::BYTES;
 
@@ -127,15 +128,32 @@ fn read_value(word: &[u8], at: usize) -> Slot {
     plain_slot(parse_value(word))
 }
 
+// An OP: `end` is no bytes at 0.
+fn read_op(word: &[u8], at: usize) -> Slot {
+    if same(word, b"end") {
+        return slot_of(true, 0, 0);
+    }
+    read_bytes(word, at)
+}
+
 // The word that starts at `at`.
 fn read_word(letter: u8, word: &[u8], at: usize) -> Slot {
     match letter {
         0 => slot_of(false, 0, 0),
         b'h' => read_bytes(word, at),
         b'v' => read_value(word, at),
+        b'o' => read_op(word, at),
         b'd' => read_name(&DIALECTS, word),
         b'k' => read_name(&LISTS, word),
         _ => read_number(letter, word),
+    }
+}
+
+// Stores what was read of a word.
+fn set_word(args: &mut [u64], letter: u8, word: usize, numbers: [u64; 8]) {
+    match letter {
+        b'o' => set_op(args, word, numbers[0], numbers[1]),
+        _ => set_slot(args, word, numbers),
     }
 }
 
@@ -170,13 +188,14 @@ fn read_words(line: &[u8], end: usize, letters: &[u8], args: &mut [u64]) -> bool
         if to <= at {
             return false;
         }
-        let slot = read_word(letter_of(letters, count), part(line, at, to), at);
+        let letter = letter_of(letters, count);
+        let slot = read_word(letter, part(line, at, to), at);
         if !slot.is_good {
             return false;
         }
         let numbers = slot.numbers;
         count += 1;
-        set_slot(args, count, numbers);
+        set_word(args, letter, count, numbers);
         before = to;
     }
     set_slot(args, 0, own_slot(letters, count));

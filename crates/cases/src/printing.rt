@@ -1,7 +1,8 @@
 // Answers, printed by their forms. In a form N stands for a number, I for a signed one, S for a sign, H
-// for bytes of the line's last byte string and W for bytes of the room (two numbers each), E for a part
-// of the event (one: which), L for the name that the line asks for; a star holds the place of a value
-// or an item, of the form's own numbers one before it; and every other byte is itself.
+// for bytes of the line's last byte string, X for bytes of the line itself and W for bytes of the room
+// (two numbers each), E for a part of the event (one: which), L for the name that the line asks for; a
+// star holds the place of a value or an item, of the form's own numbers one before it; and every other
+// byte is itself.
 use crate::checks::name_asked;
 use crate::maps::event_part;
 use crate::output::put_byte;
@@ -21,7 +22,7 @@ use crate::words::shown;
 use crate::words::text;
 
 // The forms that all kinds share, by the numbers in `turn`.
-const ANSWERS: [u8; 85] = *b"\n\
+const ANSWERS: [u8; 132] = *b"\n\
     bad\n\
     spoiled\n\
     refused N N N\n\
@@ -33,7 +34,15 @@ const ANSWERS: [u8; 85] = *b"\n\
     ok N H \n\
     H \n\
     H,H \n\
-    image N \n";
+    image N \n\
+    bytes:W \n\
+    long:N:\n\
+    X\n\
+    - \n\
+    \x20\n\
+    end N N\n\
+    open N\n\
+    whole N\n";
 
 // The half of all numbers that two's complement takes for negative ones starts here.
 const FIRST_NEGATIVE: u64 = 9223372036854775808;
@@ -42,7 +51,7 @@ const FIRST_NEGATIVE: u64 = 9223372036854775808;
 fn taken(letter: u8) -> usize {
     match letter {
         b'N' | b'I' | b'S' | b'E' => 1,
-        b'H' | b'W' => 2,
+        b'H' | b'X' | b'W' => 2,
         _ => 0,
     }
 }
@@ -67,6 +76,7 @@ fn sign(n: u64) -> u8 {
 fn bytes_of<'a>(letter: u8, first: u64, second: u64, line: &'a [u8], args: &[u64]) -> &'a [u8] {
     match letter {
         b'H' => wire::part_of(shown(line, args), place(first, second)),
+        b'X' => wire::part_of(line, place(first, second)),
         b'E' => event_part(text(line, args, 2), post_header(args, 1), first),
         _ => name_asked(line, args),
     }
@@ -88,7 +98,11 @@ fn put_letter(
         b'I' => put_int(first, out, used),
         b'S' => put_byte(sign(first), out, used),
         b'W' => put_hex(part(room, first as usize, second as usize), out, used),
-        b'H' | b'E' | b'L' => put_hex(bytes_of(letter, first, second, line, args), out, used),
+        b'H' | b'X' | b'E' | b'L' => put_hex(
+            bytes_of(letter, first, second, line, args),
+            out,
+            used,
+        ),
         _ => put_byte(letter, out, used),
     }
 }

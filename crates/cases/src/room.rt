@@ -47,6 +47,18 @@ pub(crate) fn unspoiled(room: &[u8], from: usize, to: usize, answer: Turn) -> Tu
     plain(SPOILED)
 }
 
+// A checksum: it stands in for a copy of the bytes, to see later whether they changed. The remainders
+// show that the sum fits; that of a byte changes nothing.
+pub(crate) fn digest(s: &[u8]) -> u64 {
+    let mut sum: u64 = 0;
+    let mut i: usize = 0;
+    while i < s.len() {
+        sum = sum % 4294967291 * 257 + wire::wide(s[i]) % 256;
+        i += 1;
+    }
+    sum
+}
+
 // What a writer answered that starts at the room's first byte.
 pub(crate) fn written(room: &[u8], answer: Written) -> Turn {
     match answer {

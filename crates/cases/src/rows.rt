@@ -1,4 +1,5 @@
 // The kinds `start`, `put` and `row`: a row image that is written.
+use crate::room::digest;
 use crate::room::unspoiled;
 use crate::slices::part;
 use crate::slices::plus;
@@ -10,6 +11,7 @@ use crate::turn::few;
 use crate::turn::plain;
 use crate::turn::refused;
 use crate::turn::silent;
+use crate::turn::standing;
 use crate::turn::two;
 use crate::words::count;
 use crate::words::index;
@@ -77,14 +79,7 @@ pub(crate) fn put(line: &[u8], args: &[u64], room: &mut [u8]) -> Turn {
 
 // A turn that prints nothing: the next one stores the value of the word at the cursor.
 fn at_value(word: usize, cursor: Cursor) -> Turn {
-    silent([
-        word as u64,
-        cursor.column as u64,
-        cursor.offset as u64,
-        0,
-        0,
-        0,
-    ])
+    silent(standing(word as u64, cursor.column as u64, cursor.offset as u64))
 }
 
 // The first turn of a row: whether there is a value for each present column. A record that is not valid
@@ -93,24 +88,12 @@ fn judge(profile: &[u8], presence: &[u8], words: usize) -> Turn {
     match image::read_head(profile, presence) {
         HeadRead::Read(head) => {
             if words == plus(BEFORE_VALUES, head.present) {
-                return silent([STARTS, 0, 0, 0, 0, 0]);
+                return silent(standing(STARTS, 0, 0));
             }
             plain(BAD)
         }
         HeadRead::Refused(refusal) => refused(refusal),
     }
-}
-
-// A checksum: it stands in for a copy of the bytes, to see later whether they changed. The remainders
-// show that the sum fits; that of a byte changes nothing.
-fn digest(s: &[u8]) -> u64 {
-    let mut sum: u64 = 0;
-    let mut i: usize = 0;
-    while i < s.len() {
-        sum = sum % 4294967291 * 257 + wire::wide(s[i]) % 256;
-        i += 1;
-    }
-    sum
 }
 
 // What became of the start, or of the value before a word. Nothing behind the new cursor may have
@@ -133,7 +116,7 @@ fn put_next(line: &[u8], args: &[u64], room: &mut [u8], word: usize, at: Cursor)
 }
 
 // The turns behind the second: one for each value, and one that tells the bytes.
-fn put_word(line: &[u8], args: &[u64], room: &mut [u8], state: [u64; 6]) -> Turn {
+fn put_word(line: &[u8], args: &[u64], room: &mut [u8], state: [u64; 10]) -> Turn {
     let word = state[0] as usize;
     let at = Cursor {
         column: state[1] as usize,
@@ -146,7 +129,7 @@ fn put_word(line: &[u8], args: &[u64], room: &mut [u8], state: [u64; 6]) -> Turn
 }
 
 // `row RECORD PRESENCE NULLS ROOM VALUE...`: the word whose value comes next, and its cursor
-pub(crate) fn row(line: &[u8], args: &[u64], room: &mut [u8], state: [u64; 6]) -> Turn {
+pub(crate) fn row(line: &[u8], args: &[u64], room: &mut [u8], state: [u64; 10]) -> Turn {
     match state[0] {
         0 => judge(text(line, args, 1), text(line, args, 2), count(args)),
         STARTS => {

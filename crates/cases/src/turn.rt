@@ -32,6 +32,22 @@ pub(crate) const TWO_SETS: usize = 11;
 
 pub(crate) const IMAGE_AT: usize = 12;
 
+pub(crate) const CARRIED: usize = 13;
+
+pub(crate) const LONG: usize = 14;
+
+pub(crate) const PART: usize = 15;
+
+pub(crate) const NO_PART: usize = 16;
+
+pub(crate) const SPACE: usize = 17;
+
+pub(crate) const USED_TAKEN: usize = 18;
+
+pub(crate) const OPEN: usize = 19;
+
+pub(crate) const WHOLE: usize = 20;
+
 // The numbers of the form, of which none has more than that of an event: an id, flags, and a start and a
 // length for each of six parts. Where the form holds a value or an item, `inner` is the row of its form
 // in the table of `values`, and `parts` are its numbers.
@@ -40,7 +56,7 @@ pub(crate) struct Turn {
     pub(crate) numbers: [u64; 14],
     pub(crate) inner: usize,
     pub(crate) parts: [u64; 7],
-    pub(crate) next: [u64; 6],
+    pub(crate) next: [u64; 10],
     pub(crate) is_last: bool,
 }
 
@@ -51,13 +67,13 @@ pub(crate) fn last(form: usize, numbers: [u64; 14]) -> Turn {
         numbers,
         inner: 0,
         parts: [0, 0, 0, 0, 0, 0, 0],
-        next: [0, 0, 0, 0, 0, 0],
+        next: [0, 0, 0, 0, 0, 0, 0, 0, 0, 0],
         is_last: true,
     }
 }
 
 // The same turn with another behind it.
-pub(crate) fn onward(mut turn: Turn, next: [u64; 6]) -> Turn {
+pub(crate) fn onward(mut turn: Turn, next: [u64; 10]) -> Turn {
     turn.next = next;
     turn.is_last = false;
     turn
@@ -101,8 +117,13 @@ pub(crate) fn plain(form: usize) -> Turn {
     few(form, 0, 0, 0, 0)
 }
 
+// Where the next turn starts, in three numbers at most.
+pub(crate) fn standing(a: u64, b: u64, c: u64) -> [u64; 10] {
+    [a, b, c, 0, 0, 0, 0, 0, 0, 0]
+}
+
 // A turn that prints nothing.
-pub(crate) fn silent(next: [u64; 6]) -> Turn {
+pub(crate) fn silent(next: [u64; 10]) -> Turn {
     onward(plain(NOTHING), next)
 }
 

@@ -1,7 +1,9 @@
 // The words of a line as numbers. Each has a slot of eight: a number is the first of them; a byte
 // string is its start and its length in the line, in which it was decoded; a value is its sort and its
-// seven parts. Slot 0 is the line's own. All readers are total: a word that is not there is 0, or has
-// no bytes.
+// seven parts. Slot 0 is the line's own. An OP has no slot: there may be one for each two bytes of a
+// line, and so each is one number behind the slots of the words before the first. All readers are
+// total: a word that is not there is 0, or has no bytes.
+use crate::slices::plus;
 use value::Column;
 use value::Dialect;
 use value::Value;
@@ -19,6 +21,13 @@ const COUNT: usize = 0;
 const ROOM: usize = 1;
 
 const SHOWN: usize = 2;
+
+// The first OP stands behind the slots of three words and the line's own: so far behind the number of
+// its word.
+const OPS: usize = 28;
+
+// Start and length of a block in one number. Both are less than this, as no line is longer.
+const SPAN: u64 = 1048576;
 
 // The slot of a word.
 fn slot(args: &[u64], word: usize) -> &[u64] {
@@ -41,6 +50,21 @@ pub(crate) fn set_slot(args: &mut [u64], word: usize, numbers: [u64; 8]) {
         args[from + i] = numbers[i];
         i += 1;
     }
+}
+
+// The number of an OP: a block, or 0 for `end`, as no block starts at 0. The remainders change nothing,
+// and show that the number fits.
+fn op_number(start: u64, len: u64) -> u64 {
+    start % SPAN * SPAN + len % SPAN
+}
+
+// Stores an OP, where there is a place for it.
+pub(crate) fn set_op(args: &mut [u64], word: usize, start: u64, len: u64) {
+    let at = plus(OPS, word);
+    if args.len() <= at {
+        return;
+    }
+    args[at] = op_number(start, len);
 }
 
 // The number at a place of some, 0 where there is none.
@@ -87,8 +111,14 @@ pub(crate) fn shown<'a>(line: &'a [u8], args: &[u64]) -> &'a [u8] {
     text(line, args, word as usize)
 }
 
-// Where the bytes of a word stand, which is a byte string or a value by its letter; no bytes where it is
-// neither.
+// Where the block of an OP stands, which is at 0 where the OP is `end`.
+pub(crate) fn op_place(args: &[u64], word: usize) -> Part {
+    let op = nth(args, plus(OPS, word));
+    place(op / SPAN, op % SPAN)
+}
+
+// Where the bytes of a word stand, which is a byte string, a value or an OP by its letter; no bytes
+// where it is none.
 pub(crate) fn place_of(args: &[u64], word: usize, letter: u8) -> Part {
     let numbers = slot(args, word);
     let first = nth(numbers, 0);
@@ -96,6 +126,7 @@ pub(crate) fn place_of(args: &[u64], word: usize, letter: u8) -> Part {
     match letter {
         b'h' => place(first, second),
         b'v' => value_place(first, second, nth(numbers, 2)),
+        b'o' => op_place(args, word),
         _ => place(0, 0),
     }
 }

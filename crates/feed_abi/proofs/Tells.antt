@@ -177,13 +177,13 @@ step-refused out o r s x h e p q =
     let t = said-refused 11 out toldNumbers o r s x h e p q in
     (t .0, (t .1, λ z. subst Held (sym e) tt))
 
--- ---- four numbers, and the parts behind them
-pub head-then : (out x y head ps : List ℕ) → length head ≡ 4 → 4 ≤ length out → x ≡ stored head out 0 → y ≡ stored ps x 4
+-- ---- k numbers, and the parts behind them
+pub head-then : (k : ℕ) (out x y head ps : List ℕ) → length head ≡ k → k ≤ length out → x ≡ stored head out 0 → y ≡ stored ps x k
     → y ≡ stored (head ++ ps) out 0
-head-then out x y head ps e h p q =
-    let n : 0 + length head ≡ 4 = omega arith in
-    q ∙ ap (λ (d : List ℕ). stored ps d 4) p
-    ∙ subst (λ (k : ℕ). stored ps (stored head out 0) k ≡ stored (head ++ ps) out 0) n (stored-stored out 0 head ps (omega arith))
+head-then k out x y head ps e h p q =
+    let n : 0 + length head ≡ k = omega arith in
+    q ∙ ap (λ (d : List ℕ). stored ps d k) p
+    ∙ subst (λ (m : ℕ). stored ps (stored head out 0) m ≡ stored (head ++ ps) out 0) n (stored-stored out 0 head ps (omega arith))
 
 -- ---- a step over images: what the code's step answered is the rule's answer under the sets that were asked for
 pub image-asked : (r s : List ℕ) (before : Part) (second after : Second) (w : Rows) (c : Images) (o : Outcome Told₁)

@@ -1,12 +1,16 @@
 // The calls of the port for programs in C and Rust: numbers and lent slices alone, a status as the result, and the answer in a lent buffer
 // of numbers. Each stands over one call of the library.
 mod answer;
+mod arrivals;
 mod events;
 mod fields;
 mod maps;
 mod plans;
 mod rows;
 
+pub use arrivals::feed_begin;
+pub use arrivals::feed_end;
+pub use arrivals::feed_give;
 pub use events::feed_image;
 pub use events::feed_rows;
 pub use fields::feed_field;

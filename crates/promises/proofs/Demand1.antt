@@ -4,6 +4,7 @@ pub mod Only
 pub mod Maps
 pub mod Rows
 pub mod Plans
+pub mod Arrivals
 pub mod Refusals
 pub mod Occurs
 pub mod Buffers

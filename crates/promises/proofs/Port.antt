@@ -10,6 +10,7 @@ use Rattle.promises.proofs.Records.{records}
 use Rattle.promises.proofs.Room.{rooms}
 use Rattle.promises.proofs.RowPlans.{row-plans}
 use Rattle.promises.proofs.Appended.{appended}
+use Rattle.promises.proofs.Blocks.{blocks-of}
 
 pub port : Port
 port = record {
@@ -22,5 +23,6 @@ port = record {
   records = records;
   rooms = rooms;
   appended = appended;
+  blocks = blocks-of;
   row-plans = row-plans;
 }

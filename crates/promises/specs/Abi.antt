@@ -23,12 +23,14 @@ use Rattle.map_check.specs.Check.{checkMap}
 use Rattle.map_check.specs.Names.{listOf, namesField}
 use Rattle.image.specs.declared.cursor.Cursor.{Cursor}
 use Rattle.image.specs.Split.{null, value, stepFrom}
+use Rattle.blocks.specs.declared.state.Arriving.{Arriving}
 use Rattle.row_plan.specs.Plan.{rowCursor}
 use Rattle.row_plan.specs.Runs.{turned}
 use Rattle.feed_abi.specs.Answers.{statusOf, numbersLeft, bytesLeft}
 use Rattle.feed_abi.specs.Calls.{dialectOf, toldNumbers, feedMap, feedCheck, feedColumn, feedNames, feedName, feedFirst, feedStep}
 use Rattle.feed_abi.specs.Calls.{feedStart, feedPut, feedRoom, feedRows, feedImage, feedPlan, feedRun}
 use Rattle.feed_abi.specs.Fields.{feedParts, feedFields, feedField, feedItem}
+use Rattle.feed_abi.specs.Blocks.{phaseNumber, stateAsked, feedBegin, feedGive, feedEnd}
 use Rattle.promises.specs.Refusals.{Line, _at_, _below_, part-below, refusalNumbers, Only, laidOut, eventLines, checkLines, nameLines}
 use Rattle.promises.specs.Refusals.{namesLines, rowsLines, planLines}
 use Rattle.promises.specs.Buffers.{Touched}
@@ -112,6 +114,17 @@ pub record AbiCalls : Type 1 where
   pub feed-run : (plan images : List ℕ) (start item offset : ℕ) (values : List ℕ)
       → Only (answerOf (feedRun plan images start item offset values))
       (8 at 0 ∷ planLines plan (turned plan images (rowCursor start item offset)))
+  -- ---- rows that arrive in blocks
+  -- `feed_begin`: as `begin`
+  pub feed-begin : (profile presence carry : List ℕ) → Only (feedBegin profile presence carry) (11 at 0 ∷ 12 at 0 ∷ 20 at 0 ∷ [])
+  -- `feed_give`: as `Arriving::give`
+  pub feed-give : (profile presence carry block : List ℕ) (phase column held left used : ℕ)
+      → Only (answerOf (feedGive profile presence carry block phase column held left used))
+      (11 at 0 ∷ 12 at 0 ∷ 20 at 0 ∷ 21 at 0 ∷ part-below (countOf profile) ∷ [])
+  -- `feed_end`: as `Arriving::end`
+  pub feed-end : (profile presence carry : List ℕ) (phase column held left used : ℕ)
+      → Only (feedEnd profile presence carry phase column held left used)
+      (11 at 0 ∷ 12 at 0 ∷ 20 at 0 ∷ 21 at 0 ∷ 9 at 0 ∷ 9 below countOf profile ∷ [])
   -- ---- what `feed_check` tells of an accepted map: its record's length, and how many columns it has
   pub check-told : (event : List ℕ) (postHeader dialect : ℕ) (buf : List ℕ) (d : Dialect) (es : List Entry) → dialectOf dialect ≡ ok d
       → checkMap d event postHeader ≡ ok es → entryAt (length es) ≤ length buf
@@ -170,9 +183,16 @@ pub record AbiCalls : Type 1 where
   pub plan-two : (profile presence plan : List ℕ) → Counts 2 (answerOf (feedPlan profile presence plan))
   pub run-four : (plan images : List ℕ) (start item offset : ℕ) (values : List ℕ)
       → Counts 4 (answerOf (feedRun plan images start item offset values))
+  pub begin-five : (profile presence carry : List ℕ) → Counts 5 (feedBegin profile presence carry)
+  pub give-fifteen : (profile presence carry block : List ℕ) (phase column held left used : ℕ)
+      → Counts 15 (answerOf (feedGive profile presence carry block phase column held left used))
+  pub end-fifteen : (profile presence carry : List ℕ) (phase column held left used : ℕ)
+      → Counts 15 (feedEnd profile presence carry phase column held left used)
   -- so many are touched, and no others
   pub numbers-touched : (k : ℕ) (out : List ℕ) (answer : Outcome (List ℕ)) → Counts k answer → Answered k out answer
       → Touched out 0 k (numbersLeft k answer out)
+  -- ---- the five numbers that are told of a state ask for that state
+  pub state-back : (st : Arriving) → stateAsked (phaseNumber (st .phase)) (st .column) (st .held) (st .left) (st .used) ≡ st
   -- ---- what `feed_step` tells of a value makes that value where it is put, whatever stands behind its numbers
   pub value-back : (column : ℕ) (v : Value) (next : Cursor) (rest : List ℕ) → isHeld v ≡ true
       → toldAgain (toldNumbers (value column v next) ++ rest) ≡ ok v

@@ -1,7 +1,7 @@
 -- "Success touches only the bytes reported." For every public call that writes: where it went well, the buffer after the call is the buffer
 -- before it, but for the bytes from where the call began to the place that it answers. Where it refused, see `Refusals`. `buffers` in
 -- proofs/Demand1/Buffers.antt proves it. Assumes nothing.
-use Prim.Native.Nat.{ℕ, _*_}
+use Prim.Native.Nat.{ℕ, _+_, _*_}
 use mathlib.Core.Path.{_≡_}
 use mathlib.Core.List.{List}
 use lib.ListN.{length, getD, take, drop}
@@ -19,10 +19,14 @@ use Rattle.table_map.specs.Writes.{EventParts, writeEvent}
 use Rattle.map_check.specs.Check.{check}
 use Rattle.image.specs.declared.cursor.Cursor.{Cursor}
 use Rattle.image.specs.Puts.{startImage, putFrom}
+use Rattle.blocks.specs.declared.state.Arriving.{Arriving}
+use Rattle.blocks.specs.States.{BlockGiven}
+use Rattle.blocks.specs.Gives.{giveBlock}
 use Rattle.row_plan.specs.declared.row.RowCursor.{RowCursor}
 use Rattle.row_plan.specs.Plan.{makePlan}
 use Rattle.row_plan.specs.Runs.{readRun}
 use Rattle.feed_abi.specs.Calls.{feedCheck, feedStart, feedPut, feedPlan, feedRun}
+use Rattle.feed_abi.specs.Blocks.{feedGive}
 
 -- `left` is `buf` but for the bytes from o to n
 pub record Touched (buf : List ℕ) (o n : ℕ) (left : List ℕ) : Type 0 where
@@ -55,6 +59,10 @@ pub record Buffers : Type 0 where
   -- `RowCursor::read` answers how many values it stored, each in eight numbers
   pub read-run : (plan images : List ℕ) (c : RowCursor) (buf : List ℕ) (values : ℕ) (next : RowCursor) (left : List ℕ)
       → readRun plan images c buf ≡ ok ((values, next), left) → Touched buf 0 (8 * values) left
+  -- `Arriving::give` answers how many bytes it took; they go behind what the carry holds, but for those of a part
+  pub give-block : (profile presence : List ℕ) (st : Arriving) (carry block : List ℕ) (g : BlockGiven) (left : List ℕ)
+      → giveBlock profile presence st carry block ≡ ok (g, left)
+      → Touched carry (st .held) (st .held + g .taken) left
   -- `feed_check` answers the place as its number, `feed_start` and `feed_put` as the second of theirs; what is left of the numbers
   -- themselves is in `Abi`
   pub feed-check : (event : List ℕ) (postHeader dialect : ℕ) (buf ns left : List ℕ) → feedCheck event postHeader dialect buf ≡ ok (ns, left)
@@ -70,3 +78,7 @@ pub record Buffers : Type 0 where
   pub feed-run : (plan images : List ℕ) (start item offset : ℕ) (values ns left : List ℕ)
       → feedRun plan images start item offset values ≡ ok (ns, left)
       → Touched values 0 (8 * getD ns 0 0) left
+  -- `feed_give` answers how many bytes it took as its eighth number
+  pub feed-give : (profile presence carry block : List ℕ) (phase column held left used : ℕ) (ns carried : List ℕ)
+      → feedGive profile presence carry block phase column held left used ≡ ok (ns, carried)
+      → Touched carry held (held + getD ns 7 0) carried

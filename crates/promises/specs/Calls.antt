@@ -96,6 +96,9 @@ use Rattle.image.proofs.start.Statement.{statement as of-start}
 use Rattle.image.proofs.image_room.Statement.{statement as of-image-room}
 use Rattle.image.proofs.cursor.Cursor.put.Statement.{statement as of-cursor-put}
 use Rattle.image.proofs.cursor.Cursor.step.Statement.{statement as of-cursor-step}
+use Rattle.blocks.proofs.begin.Statement.{statement as of-begin}
+use Rattle.blocks.proofs.state.Arriving.give.Statement.{statement as of-arriving-give}
+use Rattle.blocks.proofs.state.Arriving.end.Statement.{statement as of-arriving-end}
 use Rattle.row_plan.proofs.make_plan.Statement.{statement as of-make-plan}
 use Rattle.row_plan.proofs.row.RowCursor.step.Statement.{statement as of-row-cursor-step}
 use Rattle.row_plan.proofs.row.RowCursor.read.Statement.{statement as of-row-cursor-read}
@@ -120,6 +123,9 @@ use Rattle.feed_abi.proofs.feed_put.Statement.{statement as of-feed-put}
 use Rattle.feed_abi.proofs.feed_room.Statement.{statement as of-feed-room}
 use Rattle.feed_abi.proofs.feed_plan.Statement.{statement as of-feed-plan}
 use Rattle.feed_abi.proofs.feed_run.Statement.{statement as of-feed-run}
+use Rattle.feed_abi.proofs.feed_begin.Statement.{statement as of-feed-begin}
+use Rattle.feed_abi.proofs.feed_give.Statement.{statement as of-feed-give}
+use Rattle.feed_abi.proofs.feed_end.Statement.{statement as of-feed-end}
 
 -- the function meets its contract, whatever the model of the machine's memory
 abbrev pub Meets : (Type 1 → Type 2) → Type 2
@@ -227,6 +233,10 @@ pub record Calls : Type 2 where
   pub image-room : Meets of-image-room
   pub cursor-put : Meets of-cursor-put
   pub cursor-step : Meets of-cursor-step
+  -- `blocks`: images in blocks
+  pub begin : Meets of-begin
+  pub arriving-give : Meets of-arriving-give
+  pub arriving-end : Meets of-arriving-end
   -- `row_plan`: plans of rows
   pub make-plan : Meets of-make-plan
   pub row-cursor-step : Meets of-row-cursor-step
@@ -254,3 +264,6 @@ pub record Calls : Type 2 where
   pub feed-room : Meets of-feed-room
   pub feed-plan : Meets of-feed-plan
   pub feed-run : Meets of-feed-run
+  pub feed-begin : Meets of-feed-begin
+  pub feed-give : Meets of-feed-give
+  pub feed-end : Meets of-feed-end

@@ -34,4 +34,5 @@ pub mod Records
 pub mod RowPlans
 pub mod Appended
 pub mod Room
+pub mod Blocks
 pub mod Port

@@ -6,7 +6,7 @@ use mathlib.Core.Path.{_≡_}
 use mathlib.Core.Bool.{false}
 use mathlib.Core.List.{List, [], _∷_, _++_, map}
 use lib.IntN.{pos}
-use lib.ListN.{length, take}
+use lib.ListN.{length, take, replicate}
 use Rattle.wire.specs.Outcome.{Outcome, refuse, refused, outOf}
 use Rattle.wire.specs.Packed.{readFixed, readPacked}
 use Rattle.wire.specs.Stored.{store, answerOf}
@@ -37,6 +37,10 @@ use Rattle.image.specs.Split.{cursor, headOf, firstCursor, stepFrom}
 use Rattle.image.specs.Walk.{walkImage}
 use Rattle.image.specs.Puts.{startImage, putFrom}
 use Rattle.image.specs.Room.{readRoom}
+use Rattle.blocks.specs.declared.state.Phase.the-variants.{Open}
+use Rattle.blocks.specs.States.{opened, longed, begun, closed}
+use Rattle.blocks.specs.Gives.{giveBlock, beginBlocks}
+use Rattle.blocks.specs.Ends.{endBlocks}
 use Rattle.row_plan.specs.Plan.{rowCursor, makePlan, planStep}
 use Rattle.row_plan.specs.Runs.{readRun}
 use Rattle.rows_event.specs.declared.parts.Extra.the-variants.{Absent}
@@ -88,9 +92,12 @@ ones = map (λ p. refuse 1 p)
 abbrev pub fieldsCursor : ℕ → Fields
 fieldsCursor o = record { at = o; numeric = 0; columns = 0 }
 
--- a record without columns, and one of a TINYINT and a DATE
+-- a record without columns, one of a BLOB, and one of a TINYINT and a DATE
 abbrev pub emptyRecord : List ℕ
 emptyRecord = 6 ∷ 0 ∷ 1 ∷ 0 ∷ 0 ∷ 0 ∷ []
+
+abbrev pub oneBlob : List ℕ
+oneBlob = 12 ∷ 0 ∷ 1 ∷ 0 ∷ 1 ∷ 0 ∷ 252 ∷ 8 ∷ 2 ∷ 0 ∷ 63 ∷ 0 ∷ []
 
 abbrev pub twoColumns : List ℕ
 twoColumns = 18 ∷ 0 ∷ 1 ∷ 0 ∷ 2 ∷ 0 ∷ 1 ∷ 8 ∷ 0 ∷ 0 ∷ 0 ∷ 0 ∷ 14 ∷ 8 ∷ 0 ∷ 0 ∷ 0 ∷ 0 ∷ []
@@ -218,6 +225,36 @@ pub record Occurs : Type 0 where
       × (putFrom twoColumns onlySecond (0 ∷ []) (cursor 2 0) [] Null [] ≡ refuse 14 2)
       × (putFrom twoColumns onlySecond (0 ∷ []) (cursor 0 0) [] Null [] ≡ refuse 13 1)
       × (putFrom twoColumns onlyFirst (0 ∷ []) (cursor 0 0) [] (Int (pos 0)) [] ≡ refuse 8 0)
+  -- ---- `blocks`
+  pub begin-blocks : (beginBlocks [] [] [] ≡ refuse 11 0)
+      × (beginBlocks twoColumns [] [] ≡ refuse 12 0)
+      × (beginBlocks twoColumns onlySecond (zeros 1023) ≡ refuse 20 0)
+  -- 21 with the closed state
+  pub give-block : (giveBlock [] [] begun [] [] ≡ refuse 11 0)
+      × (giveBlock twoColumns [] begun [] [] ≡ refuse 12 0)
+      × (giveBlock twoColumns onlySecond begun (zeros 1023) [] ≡ refuse 20 0)
+      × (giveBlock twoColumns onlySecond closed (zeros 1024) [] ≡ refuse 21 0)
+      × (giveBlock twoColumns onlySecond begun (zeros 1024) (0 ∷ month13) ≡ refused (outOf 1 2))
+  -- 21 with states of each sort that docs/DECISIONS.md lists as unfit (Q10.6): column, bytes held and bytes used out of bounds; in the null
+  -- bits another column, and other bytes used than held; held bytes of an absent column, of a whole value, and of a NULL; a long value that
+  -- is none, or of which no byte is left, or too many; and bytes left where no value is long
+  pub unfit-states : (map (λ st. giveBlock twoColumns onlySecond st (zeros 1024) [])
+      (opened 3 1 1 ∷ opened 0 1025 1025 ∷ opened 0 1 0 ∷ opened 0 1 5 ∷ opened 1 0 0 ∷ opened 0 0 1 ∷ opened 0 2 2 ∷ opened 1 4 4
+      ∷ longed 1 1 1 1 ∷ [])
+      ≡ replicate 9 (refuse 21 0))
+      × (giveBlock twoColumns onlySecond (opened 1 2 2) (1 ∷ zeros 1023) [] ≡ refuse 21 0)
+      × (map (λ st. giveBlock oneBlob onlyFirst st (0 ∷ (0 ∷ (4 ∷ zeros 1021))) []) (longed 0 3 0 3 ∷ longed 0 3 1025 3 ∷ [])
+      ≡ replicate 2 (refuse 21 0))
+      × (giveBlock twoColumns onlySecond (record { phase = Open; column = 0; held = 0; left = 1; used = 0 }) (zeros 1024) []
+      ≡ refuse 21 0)
+  -- 9 in the null bits, in a long value, and at a value that is not there
+  pub end-blocks : (endBlocks [] [] begun [] ≡ refuse 11 0)
+      × (endBlocks twoColumns [] begun [] ≡ refuse 12 0)
+      × (endBlocks twoColumns onlySecond begun (zeros 1023) ≡ refuse 20 0)
+      × (endBlocks twoColumns onlySecond closed (zeros 1024) ≡ refuse 21 0)
+      × (endBlocks twoColumns onlySecond begun (zeros 1024) ≡ refuse 9 0)
+      × (endBlocks oneBlob onlyFirst (longed 0 3 1 3) (0 ∷ (0 ∷ (4 ∷ zeros 1021))) ≡ refuse 9 0)
+      × (endBlocks twoColumns onlySecond (opened 0 1 1) (zeros 1024) ≡ refuse 9 1)
   -- ---- `row_plan`
   pub make-plan : (makePlan [] [] [] ≡ refuse 11 0)
       × (makePlan twoColumns [] [] ≡ refuse 12 0)

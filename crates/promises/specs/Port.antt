@@ -9,6 +9,7 @@ use Rattle.promises.specs.Records.{Records}
 use Rattle.promises.specs.Room.{Rooms}
 use Rattle.promises.specs.RowPlans.{RowPlans}
 use Rattle.promises.specs.Appended.{Appended}
+use Rattle.promises.specs.Blocks.{Blocks}
 
 pub record Port : Type 2 where
   -- the user's three demands
@@ -28,5 +29,7 @@ pub record Port : Type 2 where
   pub rooms : Rooms
   -- request 9: bytes after an image
   pub appended : Appended
+  -- request 10: images as they arrive
+  pub blocks : Blocks
   -- request 11: faster wide rows
   pub row-plans : RowPlans

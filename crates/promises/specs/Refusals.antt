@@ -47,6 +47,9 @@ use Rattle.image.specs.Walk.{walkImage}
 use Rattle.image.specs.Rows.{isNull}
 use Rattle.image.specs.Puts.{startImage, putFrom}
 use Rattle.image.specs.Room.{readRoom}
+use Rattle.blocks.specs.declared.state.Arriving.{Arriving}
+use Rattle.blocks.specs.Gives.{giveBlock, beginBlocks}
+use Rattle.blocks.specs.Ends.{endBlocks}
 use Rattle.row_plan.specs.declared.row.RowCursor.{RowCursor}
 use Rattle.row_plan.specs.Plan.{makePlan, itemAt, planStep}
 use Rattle.row_plan.specs.Runs.{turned, readRun}
@@ -80,10 +83,10 @@ pub data OneOf : List Line → Refusal → Type 1 where
 
 -- the numbers of document 01's table, and those that document 02 adds; and of them those that name no part
 abbrev pub refusalNumbers : List ℕ
-refusalNumbers = 1 ∷ 2 ∷ 3 ∷ 4 ∷ 5 ∷ 6 ∷ 7 ∷ 8 ∷ 9 ∷ 10 ∷ 11 ∷ 12 ∷ 13 ∷ 14 ∷ 15 ∷ 16 ∷ []
+refusalNumbers = 1 ∷ 2 ∷ 3 ∷ 4 ∷ 5 ∷ 6 ∷ 7 ∷ 8 ∷ 9 ∷ 10 ∷ 11 ∷ 12 ∷ 13 ∷ 14 ∷ 15 ∷ 16 ∷ 20 ∷ 21 ∷ []
 
 abbrev pub withoutPart : List ℕ
-withoutPart = 1 ∷ 2 ∷ 3 ∷ 4 ∷ 5 ∷ 6 ∷ 7 ∷ 8 ∷ 9 ∷ 11 ∷ 12 ∷ 13 ∷ 14 ∷ 15 ∷ 16 ∷ []
+withoutPart = 1 ∷ 2 ∷ 3 ∷ 4 ∷ 5 ∷ 6 ∷ 7 ∷ 8 ∷ 9 ∷ 11 ∷ 12 ∷ 13 ∷ 14 ∷ 15 ∷ 16 ∷ 20 ∷ 21 ∷ []
 
 -- all numbers are in the table, and 10 has a part
 unfoldable pub inTable : List Line → Bool
@@ -279,6 +282,16 @@ pub record EveryCall : Type 1 where
       → (isNull (datumOf lent v) ≡ i .null → ⊥) → putFrom profile presence nulls c lent v buf ≡ refuse 13 (i .present .column)
   -- `image_room`
   pub image-room : (profile presence : List ℕ) → Only (readRoom profile presence) (11 at 0 ∷ 12 at 0 ∷ [])
+  -- ---- `blocks`
+  -- `begin`
+  pub begin-blocks : (profile presence carry : List ℕ) → Only (beginBlocks profile presence carry) (11 at 0 ∷ 12 at 0 ∷ 20 at 0 ∷ [])
+  -- `Arriving::give`: 10 at one of the record's columns, and never 9
+  pub give-block : (profile presence : List ℕ) (st : Arriving) (carry block : List ℕ)
+      → Only (giveBlock profile presence st carry block) (11 at 0 ∷ 12 at 0 ∷ 20 at 0 ∷ 21 at 0 ∷ part-below (countOf profile) ∷ [])
+  -- `Arriving::end`: 9 at 0 in the null bits, and else at one of the record's columns
+  pub end-blocks : (profile presence : List ℕ) (st : Arriving) (carry : List ℕ)
+      → Only (endBlocks profile presence st carry)
+      (11 at 0 ∷ 12 at 0 ∷ 20 at 0 ∷ 21 at 0 ∷ 9 at 0 ∷ 9 below countOf profile ∷ [])
   -- ---- `row_plan`
   -- `make_plan`
   pub make-plan : (profile presence buf : List ℕ) → Only (makePlan profile presence buf) (11 at 0 ∷ 12 at 0 ∷ 8 at 0 ∷ [])

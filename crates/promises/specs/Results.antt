@@ -1,7 +1,7 @@
 -- "Any two results it allows are proved equal." A contract says what a call answers by an equality. Where the answer is a number, a truth
 -- value, a struct or bytes, that leaves no choice. Where it is an enum, the equality is with what the enum's definition says on paper; and
--- no two answers of an enum say the same, so that leaves none either. Here for every enum that a public call answers. `results` in
--- proofs/Demand1/Results.antt proves it. Assumes nothing.
+-- no two answers of an enum say the same, so that leaves none either. Here for every enum that a public call answers, but for the calls of
+-- `blocks`, whose contracts have the answer itself. `results` in proofs/Demand1/Results.antt proves it. Assumes nothing.
 use mathlib.Core.Path.{_≡_}
 use Rattle.wire.specs.Packed.{packedTold}
 use Rattle.wire.specs.Stored.{writtenTold, sizeTold}

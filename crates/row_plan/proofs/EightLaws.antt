@@ -1,9 +1,9 @@
 -- Numbers cut out of eight bytes. Assumes nothing.
 use Prim.Native.Nat.{ℕ, _+_, _-_, _*_, _/_, _%_, _^_, _≤_, _<_}
 use mathlib.Core.Path.{_≡_, refl, sym, ap, subst, _∙_}
-use mathlib.Core.List.{List, [], _∷_}
+use mathlib.Core.List.{List}
 use native.Mathlib.Omega.{arith}
-use lib.ListN.{length, getD, take, drop, length-drop}
+use lib.ListN.{length, take, drop, length-drop}
 use lib.Seq.{length-take-le}
 use Rattle.wire.specs.Number.{Bytes, leValue, leBytes, beValue}
 use Rattle.wire.proofs.Inverse.{bytes-take, bytes-drop, le-sound, le-bound, be-bound, le-runs, be-runs}

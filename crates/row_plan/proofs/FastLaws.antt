@@ -1,7 +1,7 @@
 -- Values read fast are the values that are read as everywhere. Assumes nothing.
-use Prim.Native.Nat.{ℕ, zero, suc, _+_, _-_, _*_, _/_, _%_, _^_, _≤_, _<_}
+use Prim.Native.Nat.{ℕ, _+_, _-_, _*_, _/_, _%_, _^_, _≤_, _<_}
 use mathlib.Core.Path.{_≡_, refl, sym, ap, _∙_}
-use mathlib.Core.Bool.{Bool, true, false, cond}
+use mathlib.Core.Bool.{true, cond}
 use mathlib.Core.Logic.{dite}
 use mathlib.Core.List.{List, [], _∷_}
 use native.Mathlib.Decide.{decLe}
@@ -11,7 +11,7 @@ use borrow.Author.Tests.{le-leb, lt-leb, le-ltb, lt-ltb, eq-eqb, ne-eqb}
 use lib.Dec.{ltb}
 use lib.ListN.{length, take, drop}
 use Rattle.wire.specs.Number.{Bytes, leValue, beValue}
-use Rattle.wire.specs.Outcome.{Outcome, ok}
+use Rattle.wire.specs.Outcome.{ok}
 use Rattle.wire.specs.Stored.{stored}
 use Rattle.temporal.specs.declared.storage.Storage.{Storage}
 use Rattle.temporal.specs.declared.storage.Storage.the-variants.{Newdate, Timestamp2, Datetime2, Time2}
@@ -39,7 +39,7 @@ use Rattle.row_plan.specs.Runs.{valueNumbers}
 use Rattle.row_plan.proofs.NumberLaws.{unsigned-got, signed-got, timed-told, oneListed}
 use Rattle.wire.specs.Signed.{signedOf, twosOf}
 use Rattle.row_plan.specs.Inner.Numbers.{numbered}
-use Rattle.row_plan.specs.Inner.Fast.{Taken, Took}
+use Rattle.row_plan.specs.Inner.Fast.{Took}
 use Rattle.row_plan.proofs.EightLaws.{be-below, le-below, front, whole4, behind4, whole5, behind5, kept3}
 
 -- ---- left, or taken
@@ -75,8 +75,8 @@ module _ (s : List ℕ) (at : ℕ) (d d′ : List ℕ) (to : ℕ) where
       → Took YearByte s at d d′ to 1
   unfolding isTaken need decode fault placed valueNumbers
   took-year x y h e ey =
-      took-some YearByte s at d d′ to 1 (oneListed 7 y) (omega arith) (omega arith)
-      (λ by p. sym (ap (numbered by) (got YearByte p s at 1 (Year y) (at + 1) refl refl (omega arith) refl (ap Year (ey ∙ ap yearOf e)) refl)))
+      took-some YearByte s at d d′ to 1 (oneListed 7 y) (omega arith) (omega arith) (λ by p. sym (ap (numbered by)
+      (got YearByte p s at 1 (Year y) (at + 1) refl refl (omega arith) refl (ap Year (ey ∙ ap yearOf e)) refl)))
 
 -- ---- temporals: whole part and fraction are at hand, and no part is out of range
 timed-got : (k : Storage) (p : ℕ) (s : List ℕ) (at a f : ℕ) → at + temporalSize k ≤ length s

@@ -1,7 +1,7 @@
 -- What a step by a plan answers, by what the code finds. Assumes nothing.
-use Prim.Native.Nat.{ℕ, zero, suc, _+_, _-_, _*_, _/_, _≤_, _<_, min}
-use mathlib.Core.Path.{_≡_, refl, sym, ap, _∙_}
-use mathlib.Core.Bool.{Bool, true, false, cond}
+use Prim.Native.Nat.{ℕ, zero, suc, _+_, _-_, _*_, _≤_, _<_, min}
+use mathlib.Core.Path.{_≡_, refl, sym, _∙_}
+use mathlib.Core.Bool.{true, false}
 use mathlib.Core.List.{List, [], _∷_}
 use native.Mathlib.Omega.{arith}
 use borrow.Author.Tests.{le-ltb, lt-ltb}
@@ -19,7 +19,7 @@ use Rattle.value.specs.declared.reading.Read.{Read}
 use Rattle.value.specs.declared.reading.Read.the-variants.{Got, Refused}
 use Rattle.value.specs.Ops.{shapeFor}
 use Rattle.value.specs.Reading.{readValue, readTold}
-use Rattle.image.specs.Split.{Slot, cursor, slots, ColumnStepped, value as value₁, stepOver}
+use Rattle.image.specs.Split.{cursor, slots, value as value₁, stepOver}
 use Rattle.row_plan.specs.declared.row.RowCursor.{RowCursor}
 use Rattle.row_plan.specs.Plan.{itemCount, itemAt, itemsFrom, planSlots, rowCursor, RowStepped, null, value, end, rowNext, planStep}
 

@@ -1,11 +1,11 @@
 -- What was put into a plan is what is read out of it, item by item. Assumes nothing.
-use Prim.Native.Nat.{ℕ, zero, suc, _+_, _-_, _*_, _/_, _%_, _≤_, _<_}
-use mathlib.Core.Path.{_≡_, refl, sym, ap, _∙_}
+use Prim.Native.Nat.{ℕ, zero, suc, _+_, _-_, _*_, _<_}
+use mathlib.Core.Path.{_≡_, refl, _∙_}
 use mathlib.Core.Bool.{true}
 use mathlib.Core.List.{List, [], _∷_, _++_}
 use native.Mathlib.Nat.{sub-zero}
 use native.Mathlib.Omega.{arith}
-use lib.ListN.{length, getD, take, drop}
+use lib.ListN.{length, take, drop}
 use Rattle.wire.specs.Number.{leValue, leBytes}
 use Rattle.value.specs.declared.shape.Shape.{Shape}
 use Rattle.value.specs.Ops.{shapeFor, opOf}
@@ -13,10 +13,10 @@ use Rattle.value.proofs.Ops.{column-op}
 use Rattle.record.specs.Entries.{columnOf}
 use Rattle.record.specs.Records.{countOf, entryIn, recordValid}
 use Rattle.record.proofs.Valid.{valid-column, valid-few}
-use Rattle.image.specs.Present.{Present, present, presentFrom, shapeAt}
+use Rattle.image.specs.Present.{Present, present, shapeAt}
 use Rattle.image.proofs.StepLaws.Splits.{Each}
 use Rattle.image.proofs.PresenceLaws.Presents.{each-from}
-use Rattle.row_plan.specs.Plan.{itemBytes, planBytes, planOf, itemCount, itemAt, itemsFrom}
+use Rattle.row_plan.specs.Plan.{itemBytes, planBytes, itemCount, itemAt, itemsFrom}
 
 -- what two bytes can say of a column, and an op of a shape
 pub record Kept (c : Present) : Type 0 where

@@ -1,12 +1,12 @@
 -- What the maker of a plan answers and leaves, by what the code finds. Assumes nothing.
 use Prim.Native.Nat.{ℕ, _+_, _*_, _≤_, _<_}
-use mathlib.Core.Path.{_≡_, refl, sym, ap, _∙_}
+use mathlib.Core.Path.{_≡_, sym, ap, _∙_}
 use mathlib.Core.List.{List}
 use native.Mathlib.Omega.{arith}
 use borrow.Author.Tests.{lt-leb}
 use lib.ListN.{length}
 use Rattle.wire.specs.declared.refusal.Refusal.{Refusal}
-use Rattle.wire.specs.Outcome.{Outcome, ok, refused, refuse, after}
+use Rattle.wire.specs.Outcome.{ok, refused, refuse}
 use Rattle.wire.specs.Stored.{stored, store}
 use Rattle.wire.proofs.Stores.{store-fits}
 use Rattle.record.specs.Records.{countOf, mostColumns}
@@ -17,7 +17,7 @@ use Rattle.image.specs.Split.{headOf}
 use Rattle.image.proofs.CursorLaws.Heads.{head-tested}
 use Rattle.image.proofs.PresenceLaws.Presents.{present-length}
 use Rattle.image.proofs.PresenceLaws.Firsts.{count-at-most}
-use Rattle.row_plan.specs.Plan.{planOf, planBytes, makePlan}
+use Rattle.row_plan.specs.Plan.{planOf, makePlan}
 use Rattle.row_plan.proofs.Items.{plan-length}
 
 -- the record or the presence bits are refused, and so is the plan

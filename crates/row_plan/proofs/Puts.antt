@@ -1,5 +1,5 @@
 -- A plan made in a buffer, item by item. Assumes nothing.
-use Prim.Native.Nat.{ℕ, zero, suc, _+_, _-_, _*_, _≤_, _<_}
+use Prim.Native.Nat.{ℕ, suc, _+_, _-_, _*_, _≤_, _<_}
 use mathlib.Core.Path.{_≡_, refl, sym, ap, subst, _∙_}
 use mathlib.Core.Bool.{true, false}
 use mathlib.Core.List.{List, [], _∷_, _++_}
@@ -16,7 +16,7 @@ use Rattle.wire.proofs.Stores.{length-stored, stored-none, stored-stored, store
 use Rattle.value.specs.Ops.{opOf}
 use Rattle.record.specs.Records.{countOf}
 use Rattle.image.specs.Present.{Present, present, presentFrom, shapeAt}
-use Rattle.image.proofs.PresenceLaws.Firsts.{presentAt, present-end}
+use Rattle.image.proofs.PresenceLaws.Firsts.{presentAt}
 use Rattle.row_plan.specs.Plan.{itemBytes, planBytes, planOf}
 use Rattle.row_plan.proofs.Rows.{present-here, present-not}
 

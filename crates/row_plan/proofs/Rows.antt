@@ -1,9 +1,9 @@
 -- A step by a plan that was made of a record is the step under that record. Assumes nothing.
-use Prim.Native.Nat.{ℕ, zero, suc, _+_, _-_, _*_, _/_, _≤_, _<_}
+use Prim.Native.Nat.{ℕ, zero, suc, _+_, _-_, _≤_, _<_}
 use mathlib.Core.Path.{_≡_, refl, sym, ap, _∙_}
 use mathlib.Core.Bool.{Bool, true, false, cond}
 use mathlib.Core.Logic.{dite}
-use mathlib.Core.List.{List, [], _∷_, _++_}
+use mathlib.Core.List.{List, [], _∷_}
 use native.Mathlib.Decide.{decLe}
 use native.Mathlib.Nat.{sub-zero}
 use native.Mathlib.Numerals.{add-one}
@@ -12,18 +12,18 @@ use borrow.Author.Tests.{le-ltb}
 use lib.ListN.{length, drop}
 use lib.Dec.{ltb}
 use Rattle.wire.specs.Outcome.{Outcome, ok, refused, refuse, after}
-use Rattle.wire.specs.Bits.{bytesFor, bitLsb0}
+use Rattle.wire.specs.Bits.{bitLsb0}
 use Rattle.value.specs.declared.datum.Value.{Value}
 use Rattle.value.specs.Reading.{readValue}
 use Rattle.record.specs.Records.{countOf, recordValid}
 use Rattle.image.specs.declared.cursor.Cursor.{Cursor}
-use Rattle.image.specs.Present.{Present, present, presentFrom, countBits, firstFrom}
-use Rattle.image.specs.Split.{Slot, cursor, slots, slotsAt, ColumnStepped, null as null₁, value as value₁, stepOver, slotsLeft, stepFrom}
+use Rattle.image.specs.Present.{present, presentFrom, countBits, firstFrom}
+use Rattle.image.specs.Split.{Slot, cursor, slotsAt, ColumnStepped, null as null₁, value as value₁, stepOver, slotsLeft, stepFrom}
 use Rattle.image.proofs.PresenceLaws.Firsts.{presentAt, first-is, slotAt, slots-end, slots-first, count-set, count-not, count-none}
 use Rattle.image.proofs.CursorLaws.Heads.{Over, head-is, nullBytes}
 use Rattle.image.proofs.PresenceLaws.Presents.{present-length}
 use Rattle.row_plan.specs.declared.row.RowCursor.{RowCursor}
-use Rattle.row_plan.specs.Plan.{planBytes, planOf, itemCount, itemsFrom, planSlots, rowCursor, RowStepped, rowNext, planStep, rowAt}
+use Rattle.row_plan.specs.Plan.{planOf, itemCount, planSlots, rowCursor, rowNext, planStep, rowAt}
 use Rattle.row_plan.specs.Plan.{rowsNext}
 use Rattle.row_plan.proofs.Items.{items-from, plan-count, kept-present}
 

@@ -1,5 +1,5 @@
 -- What a run does at an item of an image that was tested, and where it turns to the next image. Assumes nothing.
-use Prim.Native.Nat.{ℕ, zero, suc, _+_, _-_, _*_, _/_, _≤_, _<_, _^_, min}
+use Prim.Native.Nat.{ℕ, suc, _+_, _-_, _*_, _/_, _≤_, _<_, _^_, min}
 use mathlib.Core.Path.{_≡_, refl, sym, ap, _∙_}
 use mathlib.Core.Bool.{Bool, true, false, cond, _&&_}
 use mathlib.Core.List.{List, [], _∷_, _++_}
@@ -9,7 +9,7 @@ use native.Mathlib.Nat.{add-zero}
 use native.Mathlib.Omega.{arith}
 use borrow.Author.Tests.{eq-eqb, ne-eqb, le-leb, lt-leb, le-ltb, lt-ltb, ltb-false}
 use lib.ListN.{length, set, getD, take, drop, length-drop, length-take}
-use lib.Dec.{ltb, eqb, leb}
+use lib.Dec.{ltb, eqb}
 use Rattle.wire.specs.declared.refusal.Refusal.{Refusal}
 use Rattle.wire.specs.Outcome.{Outcome, ok, refused, refuse, after}
 use Rattle.wire.specs.Number.{leValue}
@@ -30,7 +30,7 @@ use Rattle.row_plan.specs.Inner.Numbers.{numbered, itemNumbers}
 use Rattle.row_plan.specs.Inner.Fast.{Took, TookItem}
 use Rattle.row_plan.specs.Inner.Paused.{Stands, Running, rowGate}
 use Rattle.row_plan.proofs.NumberLaws.{oneListed}
-use Rattle.row_plan.proofs.Goes.{goes, slots-here, row-none, row-short, row-past, row-end}
+use Rattle.row_plan.proofs.Goes.{goes, slots-here}
 
 -- ---- eight numbers stored one after the other
 next-stored : (d : List ℕ) (at : ℕ) (w : List ℕ) (x : ℕ) → at + length w < length d

@@ -1,8 +1,8 @@
 -- The first cursor of a plan, the room of a run, and op 0. Assumes nothing.
-use Prim.Native.Nat.{ℕ, zero, suc, _+_, _-_, _*_, _≤_, _<_}
+use Prim.Native.Nat.{ℕ, zero, suc, _+_, _*_, _≤_, _<_}
 use mathlib.Core.Path.{_≡_, refl, sym, ap, subst, _∙_}
 use mathlib.Core.Bool.{Bool, true, false, cond}
-use mathlib.Core.List.{List, [], _∷_}
+use mathlib.Core.List.{List}
 use native.Mathlib.Omega.{arith}
 use lib.ListN.{length, drop, getD, length-drop}
 use Rattle.wire.specs.Outcome.{Outcome, ok, refused, refuse}
@@ -21,7 +21,7 @@ use Rattle.image.proofs.PresenceLaws.Firsts.{count-none}
 use Rattle.image.proofs.PresenceLaws.Presents.{present-length}
 use Rattle.row_plan.specs.declared.row.RowCursor.{RowCursor}
 use Rattle.row_plan.specs.Plan.{planOf, itemCount, itemAt, rowCursor, RowStepped, null, value, end, planStep, rowAt}
-use Rattle.row_plan.specs.Runs.{valueNumbers, turned, isOver, RowRan, ran, runOn, runFrom}
+use Rattle.row_plan.specs.Runs.{valueNumbers, turned, isOver, RowRan, runOn, runFrom}
 use Rattle.row_plan.specs.Inner.Paused.{Stands}
 use Rattle.row_plan.proofs.Rows.{items-present}
 use Rattle.row_plan.proofs.RunLaws.{step-here}

@@ -10,10 +10,9 @@ use native.Mathlib.Omega.{arith}
 use borrow.Author.Tests.{le-ltb, lt-ltb}
 use lib.ListN.{length, getD, take, drop, length-drop}
 use lib.Seq.{drop-drop}
-use lib.Dec.{ltb}
 use Rattle.wire.specs.declared.refusal.Refusal.{Refusal}
 use Rattle.wire.specs.Number.{leValue}
-use Rattle.wire.specs.Outcome.{Outcome, ok, refused, refuse, after}
+use Rattle.wire.specs.Outcome.{Outcome, ok, refused, refuse}
 use Rattle.wire.specs.Bits.{bytesFor, bitLsb0}
 use Rattle.wire.specs.Stored.{stored}
 use Rattle.value.specs.declared.shape.Shape.{Shape}
@@ -24,10 +23,9 @@ use Rattle.value.specs.Ops.{shapeFor}
 use Rattle.value.specs.Reading.{readDatum, readValue, placed, datumOf}
 use Rattle.value.proofs.Laws.{said-read}
 use Rattle.record.specs.Records.{countOf}
-use Rattle.image.specs.Present.{Present, countBits}
-use Rattle.image.specs.Split.{Slot, slotsAt, slots}
-use Rattle.image.specs.Walk.{RowWalked, rowStopped, withAnswer, goingOn, answered, readSlot, readSlots, walkFrom, walkImage}
-use Rattle.image.specs.Split.{cursor, firstCursor, slotsLeft}
+use Rattle.image.specs.Split.{Slot, slotsAt}
+use Rattle.image.specs.Walk.{RowWalked, rowStopped, withAnswer, answered, readSlot, readSlots, walkFrom, walkImage}
+use Rattle.image.specs.Split.{firstCursor, slotsLeft}
 use Rattle.image.proofs.PresenceLaws.Firsts.{count-none}
 use Rattle.image.proofs.CursorLaws.Heads.{Over, head-is, nullBytes}
 use Rattle.row_plan.specs.Plan.{itemCount, itemAt, planOf, planSlots, rowCursor, planStep}

@@ -3,7 +3,7 @@
 use Prim.Native.Nat.{ℕ, _-_, _^_}
 use mathlib.Core.Path.{_≡_, refl}
 use mathlib.Core.List.{List, [], _∷_, _++_}
-use lib.IntN.{pos, negsuc}
+use lib.IntN.{negsuc}
 use lib.ListN.{take, replicate}
 use Rattle.wire.specs.Outcome.{ok, refuse}
 use Rattle.wire.specs.Number.{leValue, leBytes}
@@ -11,7 +11,7 @@ use Rattle.wire.specs.Parts.{part}
 use Rattle.wire.specs.Signed.{signedOf, twosOf}
 use Rattle.wire.specs.Stored.{stored, store}
 use Rattle.wire.specs.Bits.{digit, bitLsb0}
-use Rattle.value.specs.declared.datum.Value.the-variants.{Null, Int, Uint, Bytes}
+use Rattle.value.specs.declared.datum.Value.the-variants.{Int, Uint, Bytes}
 use Rattle.value.specs.Types.{familyOf, isNumeric}
 use Rattle.value.specs.Classes.{isCharacter, isEnumOrSet}
 use Rattle.value.specs.Columns.{declaredIn, shapeIn, shapeOf, isTaken, refusalOf}

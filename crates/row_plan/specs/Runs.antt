@@ -1,10 +1,9 @@
 -- A run by a plan: as many values as a lent buffer of numbers holds, each stored behind the last, image after image. Assumes nothing.
 use Prim.Native.Nat.{ℕ, zero, suc, _+_, _-_, _*_, _/_}
 use mathlib.Core.Bool.{Bool, cond, _&&_}
-use mathlib.Core.List.{List, [], _∷_}
-use lib.ListN.{length, drop}
+use mathlib.Core.List.{List, _∷_}
+use lib.ListN.{length}
 use lib.Dec.{leb, ltb, eqb}
-use Rattle.wire.specs.declared.refusal.Refusal.{Refusal}
 use Rattle.wire.specs.Outcome.{Outcome, ok, refused, refuse, after}
 use Rattle.wire.specs.Bits.{bytesFor}
 use Rattle.wire.specs.Parts.{part}

@@ -18,7 +18,6 @@ ghost use Prim.Native.Nat.{_+_, _-_, _*_, _/_, _≤_, _<_, _^_};
 ghost use lib.ListN.{length};
 ghost use Rattle.wire.specs.Bits.{bitLsb0};
 ghost use Rattle.wire.specs.Stored.{stored, answerOf, leftOf};
-ghost use Rattle.row_plan.specs.Plan.{itemCount};
 ghost use Rattle.row_plan.specs.Runs.{turned, isOver, runFrom, readRun, ranTold};
 ghost use Rattle.row_plan.specs.Inner.Numbers.{listed, numbersTold, itemNumbers};
 ghost use Rattle.row_plan.specs.Inner.Fast.{TookItem};

@@ -147,7 +147,12 @@ year-whole : (n : ℕ) → n < 256 → (inYears (yearOf n) ≡ true) × (byteOfY
 year-whole zero h = (refl, refl)
 year-whole (suc n) h =
     let e = ne-eqb (suc n) 0 (λ e. omega arith) in (
-      rw (e, ne-eqb (1900 + suc n) 0 (λ e. omega arith), le-leb 1901 (1900 + suc n) (omega arith), le-leb (1900 + suc n) 2155 (omega arith)),
+      rw (
+        e,
+        ne-eqb (1900 + suc n) 0 (λ e. omega arith),
+        le-leb 1901 (1900 + suc n) (omega arith),
+        le-leb (1900 + suc n) 2155 (omega arith),
+      ),
       rw e (omega arith),
     )
 

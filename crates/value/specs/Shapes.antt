@@ -1,5 +1,5 @@
--- The stored bytes of a value, by shape; how many they are, told by the bytes at hand; what they say; and how many they are at most. Assumes
--- nothing.
+-- The stored bytes of a value, by shape; how many they are, told by the bytes at hand; what they say; and how many they are at most.
+-- Assumes nothing.
 use Prim.Native.Nat.{ℕ, _+_, _-_, _^_}
 use mathlib.Core.List.{List, [], _++_}
 use lib.ListN.{length, take, drop}

@@ -50,6 +50,12 @@ pub const BAD_EXTRA: u8 = 15;
 // A rows event of another code, another table or another number of columns.
 pub const OTHER_EVENT: u8 = 16;
 
+// The carry that is lent for an image in blocks is too small.
+pub const SMALL_CARRY: u8 = 20;
+
+// A state of an image in blocks that is closed or otherwise unfit.
+pub const UNFIT_STATE: u8 = 21;
+
 // The parts of a temporal, in the order in which they are tested, but for the last, which comes first: a datetime below zero.
 pub const YEAR: u8 = 1;
 

@@ -32,6 +32,10 @@ use Rattle.image.specs.declared.cursor.Cursor.{Cursor}
 use Rattle.image.specs.Split.{ColumnStepped, null, value, end, cursor, firstCursor, stepFrom}
 use Rattle.image.specs.Puts.{startImage, putFrom}
 use Rattle.image.specs.Room.{readRoom}
+use Rattle.blocks.specs.declared.state.Arriving.{Arriving}
+use Rattle.blocks.specs.States.{Arrived, more, null as null₁, value as value₁, long, part as part₁, end as end₃, BlockGiven}
+use Rattle.blocks.specs.Gives.{giveBlock, beginBlocks}
+use Rattle.blocks.specs.Ends.{endBlocks}
 use Rattle.row_plan.specs.Plan.{rowCursor, makePlan}
 use Rattle.row_plan.specs.Runs.{readRun}
 use Rattle.rows_event.specs.Events.{readRows}
@@ -44,8 +48,10 @@ use Rattle.feed_abi.specs.Calls.{roomNumbers, feedRoom}
 use Rattle.feed_abi.specs.Calls.{planNumbers, runNumbers, feedPlan, feedRun}
 use Rattle.feed_abi.specs.Fields.{partsNumbers, fieldsFrom, fieldsNumbers, fieldsOf, fieldNumbers, inTwo, itemAt, itemNumbers, feedParts}
 use Rattle.feed_abi.specs.Fields.{feedFields, feedField, feedItem}
+use Rattle.feed_abi.specs.Blocks.{stateNumbers, stateAsked, arrivalNumbers, toldBlock, arrivedNumbers, ended, feedBegin, feedGive, feedEnd}
 use Rattle.feed_abi.proofs.Tells.{names-asked}
 use Rattle.feed_abi.proofs.Backs.{told-back, null-back}
+use Rattle.feed_abi.proofs.Arrives.{state-back}
 use Rattle.promises.specs.Refusals.{Line, OneOf, just, later, refusalNumbers, inTable, Only, eventLines, checkLines, namesLines}
 use Rattle.promises.specs.Buffers.{Touched}
 use Rattle.promises.specs.Abi.{Answered, Counts, AbiCalls}
@@ -193,6 +199,22 @@ told-counts (null column next) = step-counts (sortOf Null) column next (partsOf 
 told-counts (value column v next) = step-counts (sortOf v) column next (partsOf v)
 told-counts (end used) = step-counts 0 0 (cursor 0 used) []
 
+arrival-counts : (next : Arriving) (sort column taken : ℕ) (ps : List ℕ) → length (arrivalNumbers next sort column taken ps) ≡ 15
+arrival-counts next sort column taken ps =
+    ap (λ (n : ℕ). suc (suc (suc (suc (suc (suc (suc (suc n)))))))) (padded-length 7 ps)
+
+block-counts : (next : Arriving) (taken : ℕ) (a : Arrived) → length (toldBlock next taken a) ≡ 15
+unfolding toldBlock
+block-counts next taken more = arrival-counts next 12 0 taken (0 ∷ [])
+block-counts next taken (null₁ column) = arrival-counts next (sortOf Null) column taken (partsOf Null)
+block-counts next taken (value₁ column v) = arrival-counts next (sortOf v) column taken (partsOf v)
+block-counts next taken (long column len) = arrival-counts next 13 column taken (len ∷ [])
+block-counts next taken (part₁ column len) = arrival-counts next 14 column taken (len ∷ [])
+block-counts next taken (end₃ used) = arrival-counts next 0 0 taken (used ∷ [])
+
+given-counts : (g : BlockGiven) → length (arrivedNumbers g) ≡ 15
+given-counts g = block-counts (g .next) (g .taken) (g .arrival)
+
 image-counts : (t : Told₁) → length (imageNumbers t) ≡ 6
 image-counts (imageMet p second next) = refl
 image-counts end₁ = refl
@@ -226,7 +248,7 @@ columns-told n = omega arith
 
 pub abi : AbiCalls
 unfolding feedMap feedCheck feedNames feedName feedParts feedFields feedField feedItem itemAt feedFirst feedStep feedStart feedPut feedRoom
-    feedRows feedImage feedPlan feedRun statusOf numbersLeft bytesLeft inTable isAmong
+    feedRows feedImage feedPlan feedRun feedBegin feedGive feedEnd statusOf numbersLeft bytesLeft inTable isAmong
 abi = record {
   feed-map = λ event postHeader. only refl (in-numbers mapNumbers (readEvent event postHeader) (refusals .read-event event postHeader));
   feed-check = λ event postHeader dialect buf d e.
@@ -282,6 +304,13 @@ abi = record {
   feed-run = λ plan images start item offset values.
       let c = rowCursor start item offset in
       only refl (answered _ (left-too runNumbers (readRun plan images c values) (refusals .read-run plan images c values)));
+  feed-begin = λ r p carry. only refl (in-numbers stateNumbers (beginBlocks r p carry) (refusals .begin-blocks r p carry));
+  feed-give = λ r p carry block phase column held left used.
+      let st = stateAsked phase column held left used in
+      only refl (answered _ (left-too arrivedNumbers (giveBlock r p st carry block) (refusals .give-block r p st carry block)));
+  feed-end = λ r p carry phase column held left used.
+      let st = stateAsked phase column held left used in
+      only refl (in-numbers (λ n. arrivedNumbers (ended n)) (endBlocks r p st carry) (refusals .end-blocks r p st carry));
   check-told = λ event postHeader dialect buf d es q e l.
       rw (q, checks .accepted-written d event postHeader buf es e l)
       (ap (λ (n : ℕ). ok (entryAt (length es) ∷ n ∷ [])) (columns-told (length es)));
@@ -325,7 +354,14 @@ abi = record {
   plan-two = λ r p plan. left-counts 2 planNumbers (makePlan r p plan) (λ x. refl);
   run-four = λ plan images start item offset values.
       left-counts 4 runNumbers (readRun plan images (rowCursor start item offset) values) (λ x. refl);
+  begin-five = λ r p carry. said-counts 5 stateNumbers (beginBlocks r p carry) (λ st. refl);
+  give-fifteen = λ r p carry block phase column held left used.
+      left-counts 15 arrivedNumbers (giveBlock r p (stateAsked phase column held left used) carry block) given-counts;
+  end-fifteen = λ r p carry phase column held left used.
+      said-counts 15 (λ n. arrivedNumbers (ended n)) (endBlocks r p (stateAsked phase column held left used) carry)
+      (λ n. given-counts (ended n));
   numbers-touched = told-alone;
+  state-back = state-back;
   value-back = told-back;
   null-back = null-back;
   step-held = step-held;

@@ -2,11 +2,11 @@
 use Prim.Native.Nat.{ℕ, zero, suc, _+_, _-_, _*_, _/_, _≤_}
 use mathlib.Core.Path.{_≡_, refl, sym, ap, subst, _∙_}
 use mathlib.Core.Bool.{Bool, true, false, cond}
-use mathlib.Core.List.{List, [], _∷_}
+use mathlib.Core.List.{List, [], _∷_, _++_}
 use native.Mathlib.Omega.{arith}
 use borrow.Author.Tests.{leb-true, eqb-true}
-use lib.ListN.{length, drop, getD}
-use lib.Seq.{drop-drop, drop-append-seam}
+use lib.ListN.{length, take, drop, getD, length-append, length-take}
+use lib.Seq.{length-take-le, drop-drop, drop-append-seam}
 use lib.Dec.{leb, ltb, eqb}
 use Rattle.wire.specs.Outcome.{Outcome, ok, refused, why}
 use Rattle.wire.specs.Stored.{stored, store}
@@ -32,12 +32,17 @@ use Rattle.image.specs.Puts.{filled, headNulls, startImage, slotBytes, putOver,
 use Rattle.image.proofs.PutLaws.Fills.{fill-length}
 use Rattle.image.proofs.CursorLaws.Heads.{nulls-tested}
 use Rattle.image.proofs.PutLaws.Puts.{nulls-size}
+use Rattle.blocks.specs.declared.state.Arriving.{Arriving}
+use Rattle.blocks.specs.States.{Arrived, more, null as null₁, value as value₁, long, part as part₁, end as end₁, BlockGiven}
+use Rattle.blocks.specs.Gives.{giveBlock}
+use Rattle.blocks.proofs.Taken.{give-given, give-sized}
 use Rattle.row_plan.specs.declared.row.RowCursor.{RowCursor}
 use Rattle.row_plan.specs.Plan.{planOf, makePlan, rowCursor, RowStepped, null, value, end, planStep}
 use Rattle.row_plan.specs.Runs.{movedBy, valueNumbers, turned, isOver, RowRan, ran, runOn, runFrom, runAnswer, readRun}
 use Rattle.row_plan.proofs.ReadLaws.{run-kept}
 use Rattle.feed_abi.specs.Calls.{saidWith, recordNumbers, cursorNumbers, dialectOf, feedCheck, feedStart, feedPut}
 use Rattle.feed_abi.specs.Calls.{planNumbers, runNumbers, feedPlan, feedRun}
+use Rattle.feed_abi.specs.Blocks.{stateAsked, toldBlock, arrivedNumbers, feedGive}
 use Rattle.promises.specs.Buffers.{Touched, Buffers}
 
 -- a store that went well: where it ended
@@ -132,6 +137,33 @@ puts r p nulls c lent v buf next left e =
     let a = after-is-ok (headNulls r p nulls) _ (next, left) e in
     by-test (ltb (a .0 .columns) (c .column)) _ _ _ (a .2) (λ u f. absurd (ok-not-refused (sym f)))
     (λ u f. put-over (slotsAt r p nulls (c .column)) c lent v buf next left f)
+
+-- ---- a block
+-- bytes that were stored without the buffer getting longer had room
+stored-fits : (buf : List ℕ) (o : ℕ) (bytes : List ℕ) → o ≤ length buf → length (stored bytes buf o) ≡ length buf
+    → o + length bytes ≤ length buf
+unfolding stored
+stored-fits buf o bytes h e =
+    let rest = drop (o + length bytes) buf in
+    omega (arith, e, length-append (take o buf) (bytes ++ rest), length-append bytes rest, length-take-le o buf h)
+
+gives : (r p : List ℕ) (st : Arriving) (carry block : List ℕ) (g : BlockGiven) (left : List ℕ) → giveBlock r p st carry block ≡ ok (g, left)
+    → Touched carry (st .held) (st .held + g .taken) left
+gives r p st carry block g left e =
+    let k = give-given r p st carry block e in
+    let l = give-sized r p st carry block e in
+    let bytes = take (k .few) block in
+    let h = stored-fits carry (st .held) bytes (l .1) (ap length (sym (k .left)) ∙ l .0) in
+    let j = st .held + g .taken - (st .held + length bytes) in
+    let n : st .held + length bytes + j ≡ st .held + g .taken = omega (arith, k .within, length-take (k .few) block) in
+    let drops : (s : List ℕ) → drop j (drop (st .held + length bytes) s) ≡ drop (st .held + g .taken) s =
+    λ s. drop-drop j (st .held + length bytes) s ∙ ap (λ (i : ℕ). drop i s) n in
+    subst (Touched carry (st .held) (st .held + g .taken)) (sym (k .left))
+    (record {
+      size = length-stored carry (st .held) bytes h;
+      before = stored-front carry (st .held) bytes (l .1);
+      behind = sym (drops (stored bytes carry (st .held))) ∙ ap (drop j) (behind-stored carry (st .held) bytes h) ∙ drops carry;
+    })
 
 -- ---- plans
 plans : (r p buf : List ℕ) (n items : ℕ) (left : List ℕ) → makePlan r p buf ≡ ok ((n, items), left) → Touched buf 0 n left
@@ -286,6 +318,26 @@ feed-runs plan images start item offset values ns left e =
     let x = in-numbers runNumbers (readRun plan images c values) ns left e in
     subst (λ (y : List ℕ). Touched values 0 (8 * getD y 0 0) left) (x .2) (runs plan images c values (x .0 .0) (x .0 .1) left (x .1))
 
+taken-told : (next : Arriving) (taken : ℕ) (a : Arrived) → getD (toldBlock next taken a) 7 0 ≡ taken
+unfolding toldBlock
+taken-told next taken more = refl
+taken-told next taken (null₁ column) = refl
+taken-told next taken (value₁ column v) = refl
+taken-told next taken (long column len) = refl
+taken-told next taken (part₁ column len) = refl
+taken-told next taken (end₁ used) = refl
+
+feed-gives : (r p carry block : List ℕ) (phase column held left used : ℕ) (ns carried : List ℕ)
+    → feedGive r p carry block phase column held left used ≡ ok (ns, carried)
+    → Touched carry held (held + getD ns 7 0) carried
+unfolding feedGive
+feed-gives r p carry block phase column held left used ns carried e =
+    let st = stateAsked phase column held left used in
+    let x = in-numbers arrivedNumbers (giveBlock r p st carry block) ns carried e in
+    let g = x .0 in
+    let n : getD ns 7 0 ≡ g .taken = ap (λ (y : List ℕ). getD y 7 0) (sym (x .2)) ∙ taken-told (g .next) (g .taken) (g .arrival) in
+    subst (λ (k : ℕ). Touched carry held (held + k) carried) (sym n) (gives r p st carry block g carried (x .1))
+
 pub buffers : Buffers
 buffers = record {
   write-bytes = stores;
@@ -297,9 +349,11 @@ buffers = record {
   put-value = puts;
   make-plan = plans;
   read-run = runs;
+  give-block = gives;
   feed-check = feed-checks;
   feed-start = feed-starts;
   feed-put = feed-puts;
   feed-plan = feed-plans;
   feed-run = feed-runs;
+  feed-give = feed-gives;
 }

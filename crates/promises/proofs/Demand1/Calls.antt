@@ -92,6 +92,9 @@ use Rattle.image.proofs.start.Met.{met as of-start}
 use Rattle.image.proofs.image_room.Met.{met as of-image-room}
 use Rattle.image.proofs.cursor.Cursor.put.Met.{met as of-cursor-put}
 use Rattle.image.proofs.cursor.Cursor.step.Met.{met as of-cursor-step}
+use Rattle.blocks.proofs.begin.Met.{met as of-begin}
+use Rattle.blocks.proofs.state.Arriving.give.Met.{met as of-arriving-give}
+use Rattle.blocks.proofs.state.Arriving.end.Met.{met as of-arriving-end}
 use Rattle.row_plan.proofs.make_plan.Met.{met as of-make-plan}
 use Rattle.row_plan.proofs.row.RowCursor.step.Met.{met as of-row-cursor-step}
 use Rattle.row_plan.proofs.row.RowCursor.read.Met.{met as of-row-cursor-read}
@@ -116,6 +119,9 @@ use Rattle.feed_abi.proofs.feed_put.Met.{met as of-feed-put}
 use Rattle.feed_abi.proofs.feed_room.Met.{met as of-feed-room}
 use Rattle.feed_abi.proofs.feed_plan.Met.{met as of-feed-plan}
 use Rattle.feed_abi.proofs.feed_run.Met.{met as of-feed-run}
+use Rattle.feed_abi.proofs.feed_begin.Met.{met as of-feed-begin}
+use Rattle.feed_abi.proofs.feed_give.Met.{met as of-feed-give}
+use Rattle.feed_abi.proofs.feed_end.Met.{met as of-feed-end}
 use Rattle.promises.specs.Calls.{Calls}
 
 pub calls : Calls
@@ -213,6 +219,9 @@ calls = record {
   image-room = λ M. of-image-room {M = M};
   cursor-put = λ M. of-cursor-put {M = M};
   cursor-step = λ M. of-cursor-step {M = M};
+  begin = λ M. of-begin {M = M};
+  arriving-give = λ M. of-arriving-give {M = M};
+  arriving-end = λ M. of-arriving-end {M = M};
   make-plan = λ M. of-make-plan {M = M};
   row-cursor-step = λ M. of-row-cursor-step {M = M};
   row-cursor-read = λ M. of-row-cursor-read {M = M};
@@ -237,4 +246,7 @@ calls = record {
   feed-room = λ M. of-feed-room {M = M};
   feed-plan = λ M. of-feed-plan {M = M};
   feed-run = λ M. of-feed-run {M = M};
+  feed-begin = λ M. of-feed-begin {M = M};
+  feed-give = λ M. of-feed-give {M = M};
+  feed-end = λ M. of-feed-end {M = M};
 }

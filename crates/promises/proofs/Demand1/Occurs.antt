@@ -28,6 +28,8 @@ use Rattle.image.specs.Split.{headOf, firstCursor, stepFrom}
 use Rattle.image.specs.Walk.{walkImage}
 use Rattle.image.specs.Puts.{startImage, putFrom}
 use Rattle.image.specs.Room.{readRoom}
+use Rattle.blocks.specs.Gives.{giveBlock, beginBlocks}
+use Rattle.blocks.specs.Ends.{endBlocks}
 use Rattle.row_plan.specs.Plan.{makePlan, planStep}
 use Rattle.row_plan.specs.Runs.{readRun}
 use Rattle.rows_event.specs.Events.{readRows}
@@ -45,8 +47,8 @@ no-memory meta h =
 pub occurs : Occurs
 unfolding zeros within readFixed readPacked packedForm longForm store clockFault dayFault readTemporal writeTemporal shapeOf shapeFor
     readValue writeValue sizeOf valueOf readEvent writeEvent eventSize step pairItem groupItem longPart cutField judgeField fieldStep
-    readRecord check columnName headOf firstCursor stepFrom walkImage startImage putFrom readRoom makePlan planStep readRun readRows
-    nextImage feedCheck feedColumn feedNames feedFields feedItem feedPut
+    readRecord check columnName headOf firstCursor stepFrom walkImage startImage putFrom readRoom beginBlocks giveBlock endBlocks makePlan
+    planStep readRun readRows nextImage feedCheck feedColumn feedNames feedFields feedItem feedPut
 occurs = record {
   within-bytes = refl;
   read-fixed = refl;
@@ -85,6 +87,10 @@ occurs = record {
   start-image = (refl, refl, refl);
   put-value = (refl, refl, refl, refl, refl, refl);
   image-room = (refl, refl);
+  begin-blocks = (refl, refl, refl);
+  give-block = (refl, refl, refl, refl, refl);
+  unfit-states = (refl, refl, refl, refl);
+  end-blocks = (refl, refl, refl, refl, refl, refl, refl);
   make-plan = (refl, refl, refl);
   step-plan = (refl, refl, refl, refl, refl, refl);
   read-run = (refl, refl, refl, refl, refl, refl, refl);

@@ -28,6 +28,7 @@ use Rattle.promises.proofs.Demand1.Maps.{field-cut, field-judged, check
 use Rattle.promises.proofs.RowsEvents.{rows-read, image-met}
 use Rattle.promises.proofs.Demand1.Rows.{record-read, head-read, first-read, image-stepped, walk-ended, image-started, image-put}
 use Rattle.promises.proofs.Demand1.Rows.{past-refused, null-refused, room-told}
+use Rattle.promises.proofs.Demand1.Arrivals.{blocks-begun, block-given, blocks-ended}
 use Rattle.promises.proofs.Demand1.Plans.{plan-made, plan-stepped, run-read}
 
 -- a refusal that is listed names a part, or has one of the numbers that do not
@@ -177,6 +178,13 @@ refusals = record {
       λ r p nulls c lent v buf. only refl
       (image-put r p nulls c lent v buf just (second just) (third just) (λ j h. fourth (under h)) (fifth just));
   null-told = null-refused;
+  begin-blocks = λ r p carry. only refl (blocks-begun r p carry just (second just) (third just));
+  give-block = λ r p st carry block.
+      only refl
+      (block-given r p st carry block just (second just) (third just) (fourth just) (λ j h part l m. fifth (under-part h l m)));
+  end-blocks = λ r p st carry.
+      only refl
+      (blocks-ended r p st carry just (second just) (third just) (fourth just) (fifth just) (λ j h. sixth (under h)));
   make-plan = λ r p buf. only refl (plan-made r p buf just (second just) (third just));
   step-plan = λ plan images c.
       only refl (plan-stepped plan images c just (second just) (third just) (fourth just) (fifth just) (λ part l m. sixth (just-part l m)));

@@ -56,9 +56,9 @@ module _ {ls : List Line} (eleven : OneOf ls (why 11 0)) (twelve : OneOf ls (why
   nulls-read nulls = chain (headOf r p) _ head-read (λ h e. test (eqb (length nulls) (h .nulls)) (λ u. done _) (λ u. stop twelve))
 
 -- ---- the columns of slots: those of the record, and there is such a column
-record Fine (r : List ℕ) (c : Present) : Type 0 where
-  column : c .column < countOf r
-  there : isTaken (c .shape) ≡ true
+pub record Fine (r : List ℕ) (c : Present) : Type 0 where
+  pub column : c .column < countOf r
+  pub there : isTaken (c .shape) ≡ true
 
 -- what holds of the column of each slot
 unfoldable pub EachSlot : (Present → Type 0) → List Slot → Type 0
@@ -70,7 +70,7 @@ unfolding slots Each EachSlot
 each-slot P [] k nulls e = tt
 each-slot P (c ∷ cs) k nulls e = (e .0, each-slot P cs (suc k) nulls (e .1))
 
-slots-fine : (r p nulls : List ℕ) (j : ℕ) → recordValid r ≡ true → j ≤ countOf r → EachSlot (Fine r) (slotsAt r p nulls j)
+pub slots-fine : (r p nulls : List ℕ) (j : ℕ) → recordValid r ≡ true → j ≤ countOf r → EachSlot (Fine r) (slotsAt r p nulls j)
 unfolding slotsAt shapeAt
 slots-fine r p nulls j v h =
     each-slot (Fine r) (presentFrom (countOf r - j) r p j) (countBits p j) nulls

@@ -6,7 +6,6 @@ use lib.ListN.{getD, take, drop}
 use Rattle.wire.specs.Outcome.{Outcome, ok, refused, after}
 use Rattle.wire.specs.Number.{leValue}
 use Rattle.wire.specs.Bits.{bitLsb0}
-use Rattle.value.specs.declared.shape.Shape.{Shape}
 use Rattle.value.specs.declared.datum.Value.{Value}
 use Rattle.value.specs.declared.datum.Value.the-variants.{Null, Int, Uint, Float, Double, Year, Bytes}
 use Rattle.value.specs.Ops.{shapeFor}

@@ -1,5 +1,5 @@
--- `abi_calls::words::same` is safe and ends. The measure is the number of bytes that are left; nothing has to hold from turn to turn. Assumes
--- nothing.
+-- `abi_calls::words::same` is safe and ends. The measure is the number of bytes that are left; nothing has to hold from turn to turn.
+-- Assumes nothing.
 use Prim.Native.Nat.{_-_}
 use borrow.Author.Needs.{needs}
 use lib.ListN.{length}

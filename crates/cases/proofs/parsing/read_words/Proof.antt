@@ -46,8 +46,8 @@ returns-2 c = search needs
 add-count : tie.Need-add-count Inv-loop μ-loop
 add-count c = search needs
 
-set-slot-requires : tie.Need-set-slot-requires Inv-loop μ-loop
-set-slot-requires c κs = search needs
+set-word-requires : tie.Need-set-word-requires Inv-loop μ-loop
+set-word-requires c κs = search needs
 
 loop-less : tie.Need-loop-less Inv-loop μ-loop
 loop-less c = search needs
@@ -58,8 +58,8 @@ loop-again c = search needs
 own-slot-requires : tie.Need-own-slot-requires Inv-loop μ-loop
 own-slot-requires c κs = search needs
 
-set-slot-requires-2 : tie.Need-set-slot-requires-2 Inv-loop μ-loop
-set-slot-requires-2 c κs = search needs
+set-slot-requires : tie.Need-set-slot-requires Inv-loop μ-loop
+set-slot-requires c κs = search needs
 
 is-whole-requires : tie.Need-is-whole-requires Inv-loop μ-loop
 is-whole-requires c κs = search needs
@@ -87,11 +87,11 @@ read-words-spec =
     same-length-2
     returns-2
     add-count
-    set-slot-requires
+    set-word-requires
     loop-less
     loop-again
     own-slot-requires
-    set-slot-requires-2
+    set-slot-requires
     is-whole-requires
     same-length-3
     returns-3)

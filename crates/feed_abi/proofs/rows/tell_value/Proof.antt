@@ -36,7 +36,7 @@ returns : tie.Need-returns
 returns c = (
   refl,
   (
-    head-then _ _ _ _ _ refl (omega arith) (c .before .before .before .before .before .before .before .put-numbers .ensures)
+    head-then 4 _ _ _ _ _ refl (omega arith) (c .before .before .before .before .before .before .before .put-numbers .ensures)
         (c .before .before .put-numbers2 .ensures)
         ∙ rw (
           c .before .before .before .before .before .before .before .before .before .before .before .sort-of .ensures,

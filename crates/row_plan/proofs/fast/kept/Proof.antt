@@ -1,7 +1,6 @@
 -- `row_plan::fast::kept` meets its contract. Assumes nothing.
 use native.Mathlib.Omega.{arith}
 use mathlib.Core.Path.{_≡_}
-use Rattle.temporal.specs.Fraction.{unitOf}
 use borrow.Author.Needs.{needs}
 use Rattle.row_plan.proofs.fast.kept.Statement.{statement}
 use Rattle.row_plan.proofs.fast.kept.Tie as tie

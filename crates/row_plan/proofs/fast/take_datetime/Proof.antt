@@ -43,9 +43,17 @@ same-length c = search needs
 returns-4 : tie.Need-returns-4
 returns-4 c = λ m0 e. let a = c .before .before .before .before .before .before .before .before .before .before .before .before .args in
     let q = c .before .before .before .before .before .before .before .before .before .before .before .before .pre in
-    took-datetime (a .s .now) (λ i. omega (arith, c .before .before .before .before .before .before .before .before .before .before .before .shared-slice-known .given i)) (a .at) (q .1) (a .out .now) _ (a .to) m0 (a .w) (e, q .0) _
-    (c .before .before .before .before .before .before .before .before .before .be8 .ensures .0) _ _ (omega (arith, c .before .before .before .before .before .before .before .before .if1 .left)) refl (c .before .before .before .before .before .before .before .micros .ensures)
-    (omega (arith, c .before .before .before .before .before .before .if2 .left)) (sym (c .before .before .before .before .before .is-clock .ensures) ∙ not-false _ (c .before .before .before .before .if3 .left)) (c .before .before .put .ensures)
+    took-datetime (a .s .now) (λ i. omega (
+      arith,
+      c .before .before .before .before .before .before .before .before .before .before
+          .before .shared-slice-known .given i,
+    )) (a .at) (q .1) (a .out .now) _ (a .to) m0 (a .w) (e, q .0) _
+    (c .before .before .before .before .before .before .before .before .before .be8 .ensures .0) _ _ (omega
+    (arith, c .before .before .before .before .before .before .before .before .if1 .left)) refl
+    (c .before .before .before .before .before .before .before .micros .ensures)
+    (omega (arith, c .before .before .before .before .before .before .if2 .left)) (sym
+    (c .before .before .before .before .before .is-clock .ensures) ∙ not-false _ (c .before .before .before .before .if3 .left))
+    (c .before .before .put .ensures)
 
 pub take-datetime-spec : {M : Type 1} → statement M
 take-datetime-spec =

@@ -31,7 +31,11 @@ same-length c = search needs
 returns-2 : tie.Need-returns-2
 returns-2 c = λ m0 e. let a = c .before .before .before .before .before .before .before .before .before .args in
     let q = c .before .before .before .before .before .before .before .before .before .pre in
-    took-seconds (a .s .now) (λ i. omega (arith, c .before .before .before .before .before .before .before .before .shared-slice-known .given i)) (a .at) (q .1) (a .out .now) _ (a .to) m0 (a .w) (e, q .0) _
+    took-seconds (a .s .now) (λ i. omega (
+      arith,
+      c .before .before .before .before .before .before .before .before .shared-slice-known
+          .given i,
+    )) (a .at) (q .1) (a .out .now) _ (a .to) m0 (a .w) (e, q .0) _
     (c .before .before .before .before .before .before .be8 .ensures .0) _ (c .before .before .before .before .before .micros .ensures)
     (omega (arith, c .before .before .before .before .if1 .left)) (c .before .before .put .ensures)
 

@@ -51,10 +51,18 @@ same-length c = search needs
 returns-2 : tie.Need-returns-2
 returns-2 c = λ m0 e. let a = c .before .before .before .before .before .before .before .before .before .before .before .before .args in
     let q = c .before .before .before .before .before .before .before .before .before .before .before .before .pre in
-    took-time (a .s .now) (λ i. omega (arith, c .before .before .before .before .before .before .before .before .before .before .before .shared-slice-known .given i)) (a .at) (q .1) (a .out .now) _ (a .to) m0 (a .w) (e, q .0) _
-    (c .before .before .before .before .before .before .before .before .before .be8 .ensures .0) _ _ _ _ _ (c .before .before .before .before .before .before .before .before .kept .ensures) (c .before .before .before .before .before .before .before .apart .ensures) refl (c .before .before .before .before .before .before .micros .ensures)
+    took-time (a .s .now) (λ i. omega (
+      arith,
+      c .before .before .before .before .before .before .before .before .before .before .before
+          .shared-slice-known .given i,
+    )) (a .at) (q .1) (a .out .now) _ (a .to) m0 (a .w) (e, q .0) _
+    (c .before .before .before .before .before .before .before .before .before .be8 .ensures .0) _ _ _ _ _
+    (c .before .before .before .before .before .before .before .before .kept .ensures)
+    (c .before .before .before .before .before .before .before .apart .ensures) refl
+    (c .before .before .before .before .before .before .micros .ensures)
     (sym (c .before .before .before .before .before .is-clock .ensures) ∙ not-false _ (c .before .before .before .before .if1 .left))
-    (as-number (ltb (c .before .before .before .before .before .before .before .before .kept .result) (2 ^ 47))) (c .before .before .put .ensures)
+    (as-number (ltb (c .before .before .before .before .before .before .before .before .kept .result) (2 ^ 47)))
+    (c .before .before .put .ensures)
 
 pub take-time-spec : {M : Type 1} → statement M
 take-time-spec =

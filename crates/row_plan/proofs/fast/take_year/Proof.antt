@@ -32,7 +32,8 @@ same-length c = search needs
 
 returns : tie.Need-returns
 returns c = let a = c .before .before .before .before .before .before .before .before .before .args in
-    took-year (a .s .now) (a .at) (a .out .now) _ (a .to) _ _ (c .before .before .before .before .before .before .before .before .before .pre .0)
+    took-year (a .s .now) (a .at) (a .out .now) _ (a .to) _ _ (c .before .before .before .before .before .before .before .before .before
+    .pre .0)
     (c .before .before .before .before .before .before .low .ensures .0) (c .before .before .before .before .before .year-of .ensures)
     (c .before .before .put .ensures ∙ ap (λ (n : Numbers). stored (listed n) (a .out .now) (a .to)) (c .before .before .before .before
     .one .ensures))

@@ -1,10 +1,7 @@
-use mathlib.Core.Path.{refl, sym, ap, _∙_}
-use Rattle.wire.proofs.Rules.{tests}
-use Rattle.row_plan.specs.Inner.Numbers.{itemNumbers, listed, numbersTold}
+use mathlib.Core.Path.{refl, sym, _∙_}
 use Rattle.row_plan.specs.Runs.{movedBy, valueNumbers}
 use Rattle.value_parts.specs.Parts.{sortOf, partsOf, padded}
 use Rattle.row_plan.proofs.RunLaws.{item-null, item-read}
-use Rattle.wire.specs.Outcome.{ok}
 use borrow.Author.Needs.{needs}
 use Rattle.row_plan.proofs.run.number_item.Statement.{statement}
 use Rattle.row_plan.proofs.run.number_item.Tie as tie

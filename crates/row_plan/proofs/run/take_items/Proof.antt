@@ -1,9 +1,8 @@
-use Prim.Native.Nat.{_-_, _≤_, _<_}
-use mathlib.Core.Path.{_≡_, sym, subst, _∙_}
+use Prim.Native.Nat.{_-_, _<_}
+use mathlib.Core.Path.{sym, subst, _∙_}
 use mathlib.Core.List.{List}
 use Prim.Native.Nat.{ℕ}
 use native.Mathlib.Omega.{arith}
-use lib.ListN.{length}
 use Rattle.row_plan.specs.Plan.{rowCursor}
 use Rattle.row_plan.specs.Inner.Paused.{Running}
 use Rattle.row_plan.proofs.Goes.{rest-is}

@@ -1,4 +1,4 @@
-use mathlib.Core.Path.{sym, _∙_, ap}
+use mathlib.Core.Path.{sym}
 use native.Mathlib.Omega.{arith}
 use Rattle.row_plan.proofs.RunLaws.{turn-past, turn-next}
 use Rattle.row_plan.specs.Runs.{turned}

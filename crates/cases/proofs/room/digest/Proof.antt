@@ -1,10 +1,10 @@
--- `cases::rows::digest` is safe and ends. The measure is the number of bytes that are left; nothing has to hold from turn to turn. Assumes
+-- `cases::room::digest` is safe and ends. The measure is the number of bytes that are left; nothing has to hold from turn to turn. Assumes
 -- nothing.
 use Prim.Native.Nat.{_-_}
 use borrow.Author.Needs.{needs}
 use lib.ListN.{length}
-use Rattle.cases.proofs.rows.digest.Statement.{statement}
-use Rattle.cases.proofs.rows.digest.Tie as tie
+use Rattle.cases.proofs.room.digest.Statement.{statement}
+use Rattle.cases.proofs.room.digest.Tie as tie
 
 abbrev Inv-loop : tie.InvT-loop
 Inv-loop s sum₀ i₀ sum i = Unit {0}
