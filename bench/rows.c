@@ -51,8 +51,8 @@ uint64_t rows_by_steps(const uint8_t *profile, size_t profile_length, const uint
             if (answer[FEED_STEP_KIND] == FEED_BYTES)
                 sum += start;
             sum += answer[FEED_STEP_KIND];
-            for (i = FEED_STEP_PARTS; i < FEED_OUT_NUMBERS; i++)
-                sum += answer[i];
+            for (i = 0; i < FEED_VALUE_NUMBERS - 1; i++)
+                sum += answer[FEED_STEP_PARTS + i];
             out[0] = sum;
         }
         if (offset == 0)
