@@ -1,15 +1,16 @@
 """The images of the lists as they arrive: each in one block, byte by byte, cut at random, and cut in two at every place, or at some if it
-is long."""
+is very wide."""
 import random
 
 from program import answers
 
 from .lists import listed_images
-from .values import hex_word, unhex
+from .values import columns_of, hex_word, unhex
 
 LEAST_CARRY = 1024
-# images up to so many bytes are cut in two at every place, longer ones at so many places; and all are cut so often at random
-EVERY, SOME, AT_RANDOM = 200, 20, 3
+# images of up to so many columns are cut in two at every place, wider ones, of which each reading costs the square of its columns, at so
+# many places; and all are cut so often at random
+EVERY, SOME, AT_RANDOM = 300, 20, 3
 AT_ONCE = 20000
 
 
@@ -17,12 +18,12 @@ def cut_at(image, places):
     return [image[at:behind] for at, behind in zip([0, *places], [*places, len(image)])]
 
 
-def cuttings(rng, image):
+def cuttings(rng, image, at_every_place):
     """ways to cut an image; empty blocks are among them"""
     size = len(image)
     yield [image]
     yield [image[at:at + 1] for at in range(size)]
-    yield from (cut_at(image, [at]) for at in (range(size + 1) if size <= EVERY else rng.sample(range(size + 1), SOME)))
+    yield from (cut_at(image, [at]) for at in (range(size + 1) if at_every_place else rng.sample(range(size + 1), SOME)))
     for _ in range(AT_RANDOM):
         yield cut_at(image, sorted(rng.randrange(size + 1) for _ in range(rng.randrange(2, 12))))
 
@@ -60,8 +61,9 @@ def images(folder, server, told):
     for case, image in zip(cases, answers(cases)):
         _, record, presence, stored = case.split(" ")
         told["images"] += 1
-        told["images cut in two at every place"] += len(unhex(stored)) <= EVERY
-        for blocks in cuttings(rng, unhex(stored)):
+        at_every_place = columns_of(unhex(record)) <= EVERY
+        told["images cut in two at every place"] += at_every_place
+        for blocks in cuttings(rng, unhex(stored), at_every_place):
             carry = rng.choice((LEAST_CARRY, LEAST_CARRY, LEAST_CARRY + rng.randrange(2000)))
             cut.append(" ".join(["blocks", record, presence, str(carry), *map(hex_word, blocks), "end"]))
             wanted.append(image)
