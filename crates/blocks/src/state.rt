@@ -6,7 +6,7 @@ ghost use Rattle.blocks.specs.Inner.Hands.{standing, longing, took_by};
 use value::Value;
 use wire::Refusal;
 
-#[derive(Drop)]
+#[derive(Clone, Copy)]
 pub enum Phase {
     Open,
     Long,
@@ -15,7 +15,7 @@ pub enum Phase {
 
 // `held` bytes stand at the front of the carry: null bits, then the value in progress, which is that of `column`. `left` bytes of a long
 // value are still to come. `used` counts all bytes that were taken.
-#[derive(Drop)]
+#[derive(Clone, Copy)]
 pub struct Arriving {
     pub phase: Phase,
     pub column: usize,

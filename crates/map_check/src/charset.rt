@@ -12,7 +12,7 @@ use crate::rank::Rank;
 use table_map::{DefaultCharset, IntegerStep, Integers, PairStep, Pairs};
 
 // Where the next charset of a class is looked for, and the charset of ranks without a pair.
-#[derive(Drop)]
+#[derive(Clone, Copy)]
 pub(crate) struct CharsetCursor {
     pub at: usize,
     pub default: u16,

@@ -15,7 +15,7 @@ use table_map::{
 };
 
 // What the integers of a list mean.
-#[derive(Drop)]
+#[derive(Clone, Copy)]
 pub(crate) enum Meaning {
     Charset,
     GeometryType,

@@ -3,7 +3,7 @@
 ghost use Rattle.std.specs.Prelude.{◌≡◌, drop};
 ghost use Rattle.map_check.specs.Columns.{meta_byte, declared};
 
-#[derive(Drop)]
+#[derive(Clone, Copy)]
 pub struct Declared {
     // the type byte
     pub kind: u8,

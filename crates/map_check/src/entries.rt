@@ -21,7 +21,7 @@ use wire::Written;
 use wire::refusal::NO_ROOM;
 
 // Where the making of a record stands between two columns.
-#[derive(Drop)]
+#[derive(Clone, Copy)]
 pub(crate) struct Progress {
     // of the next column
     pub place: TablePlace,

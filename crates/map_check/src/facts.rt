@@ -3,7 +3,7 @@ use crate::found::Found;
 use wire::Part;
 
 // The two fields that tell the charsets of a class, of which one may stand.
-#[derive(Drop)]
+#[derive(Clone, Copy)]
 pub(crate) struct Charsets {
     // a default, and pairs (rank, charset)
     pub default: Found,
@@ -12,7 +12,7 @@ pub(crate) struct Charsets {
 }
 
 // What the record needs.
-#[derive(Drop)]
+#[derive(Clone, Copy)]
 pub(crate) struct Facts {
     // the nullable bits
     pub bits: Part,

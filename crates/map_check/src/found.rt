@@ -6,7 +6,7 @@ ghost use Rattle.map_check.specs.Profile.{stands};
 use wire::Part;
 
 // The value of a field, if it stands.
-#[derive(Drop)]
+#[derive(Clone, Copy)]
 pub(crate) enum Found {
     Nothing,
     Value(Part),

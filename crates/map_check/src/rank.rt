@@ -9,15 +9,15 @@ use value::Dialect;
 use value::types::{MYSQL_TYPE_ENUM, MYSQL_TYPE_GEOMETRY, MYSQL_TYPE_SET, MYSQL_TYPE_VECTOR};
 
 // A column's place in the table, from 0 on.
-#[derive(Drop)]
+#[derive(Clone, Copy)]
 pub struct TablePlace(pub usize);
 
 // A column's rank in a class, from 0 on.
-#[derive(Drop)]
+#[derive(Clone, Copy)]
 pub struct Rank(pub usize);
 
 // The next rank of every class: after all columns, how many columns each has.
-#[derive(Drop)]
+#[derive(Clone, Copy)]
 pub struct Ranks {
     // columns with a signedness bit
     pub sign: Rank,

@@ -6,7 +6,7 @@ ghost use Rattle.record.specs.Entries.{column_of, flags_hold, charset_holds, ent
 use value::Column;
 use wire::Written;
 
-#[derive(Drop)]
+#[derive(Clone, Copy)]
 pub struct Entry {
     // the real type
     pub real: u8,

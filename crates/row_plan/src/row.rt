@@ -9,7 +9,7 @@ use wire::Refusal;
 use wire::refusal::{IMAGE_SHORT, NO_COLUMN};
 
 // Where this image starts among the images, which present column comes next, and where its value starts in the image.
-#[derive(Drop)]
+#[derive(Clone, Copy)]
 pub struct RowCursor {
     pub start: usize,
     pub item: usize,

@@ -8,7 +8,7 @@ use record::RecordRead;
 use wire::refusal::OTHER_EVENT;
 use wire::{Part, Refusal};
 
-#[derive(Drop)]
+#[derive(Clone, Copy)]
 pub struct Rows {
     pub flags: u16,
     pub extra: Extra,

@@ -16,14 +16,14 @@ const SHORT_BYTES: usize = 2;
 const HEAD_BYTES: usize = 8;
 
 // The extra data of the second edition, without its length.
-#[derive(Drop)]
+#[derive(Clone, Copy)]
 pub enum Extra {
     Absent,
     Data(Part),
 }
 
 // The second set of presence bits, which updates have.
-#[derive(Drop)]
+#[derive(Clone, Copy)]
 pub enum Second {
     Absent,
     Bits(Part),

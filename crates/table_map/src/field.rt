@@ -14,7 +14,7 @@ use wire::refusal::{BAD_FIELD, UNKNOWN_FIELD};
 use wire::{Packed, Part, Reach, Refusal, part_of, within};
 
 // Where a walk over the optional bytes stands, with what it needs of the map, counted once.
-#[derive(Drop)]
+#[derive(Clone, Copy)]
 pub struct Fields {
     pub at: usize,
     // how many columns have a signedness bit

@@ -1,14 +1,14 @@
 // The parts of a temporal, numbers all.
 
 // Seconds since 1970, and microseconds.
-#[derive(Drop)]
+#[derive(Clone, Copy)]
 pub struct Seconds {
     pub seconds: u32,
     pub micros: u32,
 }
 
 // A day of the calendar.
-#[derive(Drop)]
+#[derive(Clone, Copy)]
 pub struct Date {
     pub year: u16,
     pub month: u8,
@@ -16,7 +16,7 @@ pub struct Date {
 }
 
 // A date and a time of that day.
-#[derive(Drop)]
+#[derive(Clone, Copy)]
 pub struct Datetime {
     pub year: u16,
     pub month: u8,
@@ -28,7 +28,7 @@ pub struct Datetime {
 }
 
 // A span of time, or a time of day. The Rust splits its hours into days and hours; here they stay hours.
-#[derive(Drop)]
+#[derive(Clone, Copy)]
 pub struct Time {
     pub negative: bool,
     pub hours: u16,
@@ -38,7 +38,7 @@ pub struct Time {
 }
 
 // A temporal is of one of these sorts.
-#[derive(Drop)]
+#[derive(Clone, Copy)]
 pub enum Temporal {
     Seconds(Seconds),
     Date(Date),

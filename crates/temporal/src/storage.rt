@@ -6,7 +6,7 @@ ghost use Rattle.temporal.specs.Reading.{temporal_size};
 use crate::fraction::fraction_bytes;
 
 // Each storage has its column type above it. m0 is the number of fraction digits that the column declares; above 6 it is taken as 6.
-#[derive(Drop)]
+#[derive(Clone, Copy)]
 pub enum Storage {
     // 7
     Timestamp,

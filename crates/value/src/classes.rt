@@ -9,7 +9,7 @@ use crate::types::{
 
 // Which columns a server counts where it gives signedness bits and charsets: document 01's lists, or those that servers of this
 // name were seen to use.
-#[derive(Drop)]
+#[derive(Clone, Copy)]
 pub enum Dialect {
     Document,
     Mysql,

@@ -12,7 +12,7 @@ use wire::refusal::{BAD_METADATA, TYPE_NOT_TAKEN};
 use wire::wide;
 
 // What must be known of a column to read its values: its real type, its metadata, and whether an integer is unsigned.
-#[derive(Drop)]
+#[derive(Clone, Copy)]
 pub struct Column {
     pub real: u8,
     pub m0: u8,

@@ -8,7 +8,7 @@ use temporal::{Seconds, Temporal};
 use wire::Part;
 
 // Floats by their bits. Bytes are a part of the slice that they were read from or are lent in.
-#[derive(Drop)]
+#[derive(Clone, Copy)]
 pub enum Value {
     Null,
     Int(i64),

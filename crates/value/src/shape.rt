@@ -7,7 +7,7 @@ ghost use Rattle.value.specs.Inner.Shapes.{Sized};
 use temporal::Storage;
 use wire::top_of;
 
-#[derive(Drop)]
+#[derive(Clone, Copy)]
 pub enum Shape {
     // A number of so many bytes, the least significant first.
     Unsigned(usize),
