@@ -1,6 +1,8 @@
 // Calls every function of feed_abi, and prints a line for each call. The stored output holds the numbers of the
 // interface, which code and definitions could change together. What is wrong with a run is said on standard
 // error, and its status is told to `./run` if that asks for it.
+#![tactic(auto)]
+
 mod arrivals;
 mod events;
 mod maps;

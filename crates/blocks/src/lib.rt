@@ -1,4 +1,6 @@
 // An image that arrives in blocks. Added by document 02.
+#![tactic(auto)]
+
 mod end;
 mod fit;
 mod give;

@@ -1,5 +1,7 @@
 // Reads cases from standard input, a line each, and prints an answer line for each. What is wrong with
 // a run is said on standard error, and its status is told to `./run` if that asks for it.
+#![tactic(auto)]
+
 mod answer;
 mod arrivals;
 mod checks;

@@ -1,5 +1,7 @@
 // The calls of the port for programs in C and Rust: numbers and lent slices alone, a status as the result, and the answer in a lent buffer
 // of numbers. Each stands over one call of the library.
+#![tactic(auto)]
+
 mod answer;
 mod arrivals;
 mod events;

@@ -1,5 +1,7 @@
 // The check of a map, which writes the profile record, and the names of columns. Added by document 01. From the Rust
 // (binlog/events/table_map_event.rs) come a column's metadata and real type, and the list of names.
+#![tactic(auto)]
+
 mod charset;
 mod column;
 mod contents;

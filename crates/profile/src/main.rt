@@ -2,6 +2,8 @@
 // column: place, real type, flags, m0, m1, charset. A refusal prints its number and its place. A word
 // chooses the dialect. What is wrong with a run is said on standard error, and its status is told to
 // `./run` if that asks for it.
+#![tactic(auto)]
+
 mod input;
 mod output;
 mod words;

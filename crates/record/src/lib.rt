@@ -1,4 +1,6 @@
 // The profile record, of both kinds: what a row reader needs of an accepted map. Added by document 01; the Rust has no such thing.
+#![tactic(auto)]
+
 mod entry;
 mod profile;
 

@@ -1,5 +1,7 @@
 // Wide rows read faster: a plan, made once of a record and presence bits, and rows read by it, image after image. Added by request 11
 // of document 02. And rows written by it, which is our own.
+#![tactic(auto)]
+
 mod eight;
 mod fast;
 mod make;

@@ -1,5 +1,7 @@
 // The table map event: its parts, its writer, its optional fields and the lists in them.
 // Ports mysql_common 0.38.2: binlog/events/table_map_event.rs.
+#![tactic(auto)]
+
 mod event;
 mod field;
 pub mod field_type;

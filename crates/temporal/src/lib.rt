@@ -1,4 +1,6 @@
 // The stored temporals, read and written. Ports mysql_common 0.38.2: binlog/misc.rs, and the arms of binlog/value.rs for old temporals.
+#![tactic(auto)]
+
 mod direct;
 mod domain;
 mod fraction;

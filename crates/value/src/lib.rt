@@ -1,5 +1,7 @@
 // The types of columns, and one stored value of a column: read, written, and its size.
 // Ports mysql_common 0.38.2: binlog/value.rs, and of constants.rs the column types and their classes.
+#![tactic(auto)]
+
 mod classes;
 mod column;
 mod datum;

@@ -1,5 +1,7 @@
 // What every other crate stands on: refusals, numbers of several bytes and their signs, bits, parts and packed integers.
 // Ports mysql_common 0.38.2: io.rs (integers, read and written) and misc/mod.rs (their sizes).
+#![tactic(auto)]
+
 mod bits;
 mod fixed;
 mod packed;
