@@ -66,8 +66,15 @@ def labels():
                 text = it.read()
             crate = folder.split(os.sep)[1]
             for m in re.finditer(r"\bfn (\w+)", text):
-                body = re.search(r"^ *\{\s*$|\{ *$", text[m.end() :], re.M)
-                head = text[m.end() : m.end() + (body.start() if body else 400)]
+                head = []
+                for line in text[m.end() :].split("\n"):
+                    clause = re.match(r"\s+(requires|ensures|ghost)\b", line)
+                    if head and not clause and re.match(r"\s*(\{|\}|fn |pub |#|//|use |const |struct |enum |impl )", line):
+                        break
+                    head.append(line)
+                    if not clause and line.endswith("{"):
+                        break
+                head = "\n".join(head)
                 kinds = {}
                 for k in ("requires", "ensures"):
                     names = re.findall(r"^\s+" + k + r"\*? (\w+) \{", head, re.M)
@@ -154,6 +161,9 @@ class Function:
                         best = (new, path)
             if best:
                 return ("path", [arm[0], best[0]] + parts[1 + len(best[1]) :]), None
+            for new, old, path in arm[2]:
+                if plain(old) == plain(first) and new.endswith("-own"):
+                    return ("path", [arm[0], new] + parts[1:]), None
         if plain(first) == plain(p[2][0]) or plain(first) == plain(p[2][1]):
             rest = parts[1:]
             if len(rest) > 1 and rest[0] == "ensures" and rest[1].isdigit() and p[3]:
@@ -175,7 +185,7 @@ def translate(fn, place, body, say):
         kind, arm = fn.step(place, parts)
         if kind is None:
             continue
-        if kind[0] == "place" or (arm and arm[1]) or kind[1][-1] in ("ensures", "requires"):
+        if kind[0] == "place" or (arm and arm) or kind[1][-1] in ("ensures", "requires"):
             alias[name] = parts
             drop.append(m.span())
 
@@ -204,7 +214,11 @@ def translate(fn, place, body, say):
         # what were the parts of one clause are clauses with names
         return "(" + ", ".join(f"{path}.{n}" for n in names) + ")" if names else path
 
-    return PATH.sub(put, body)
+    body = PATH.sub(put, body)
+    # which variants a last arm serves: shut by the checker, for the laws to open
+    body = re.sub(r"(?<![\w.])(c\.[^\s()]+-own\.keys\d+)", r"(opened \1)", body)
+    # what a test of `!b` says it says of b now
+    return re.sub(r"\bnot-(?:true|false)\s+c\.[^\s()]+\s+(c\.if-[^\s()]+)", r"\1", body)
 
 
 def last(body):
@@ -391,6 +405,8 @@ def turn(folder, fn, say):
     if answers:
         text = "\n\n".join(answers)
         u = [x for x in (used(l, text) for l in uses) if x]
+        if "(opened c." in text:
+            u.append("use borrow.Enum.Refused.{opened}")
         u.append(f"use {fn.module}.Goals as goal")
         with open(os.path.join(folder, "Answers.antt"), "w", encoding="utf-8") as f:
             f.write(title + "\n" + "\n".join(u) + "\n\n" + text + "\n")

@@ -39,8 +39,8 @@ use Rattle.blocks.specs.Turns.{TurnSaid, wait, long as long₁, whole, too_long,
 use Rattle.blocks.specs.Gives.{Handed, commit, used_to, waiting, by_turn, give_over, give_open}
 use Rattle.blocks.specs.Streams.{datum, Stream, stopped, with, told}
 use Rattle.blocks.specs.Inner.Futures.{streamed, stream_slots, future_in, future}
-use Rattle.blocks.proofs.Carries.{carried, Within, carried-length, carried-front, carried_same, front_length, carried-behind}
-use Rattle.blocks.proofs.Carries.{carried-before}
+use Rattle.blocks.proofs.Carries.{carried, Within, carried_length, carried_front, carried_same, front_length, carried_behind}
+use Rattle.blocks.proofs.Carries.{carried_before}
 use Rattle.blocks.proofs.Spends.{most_to, most_next, most_mono}
 use Rattle.blocks.proofs.Turned.{is_long_lem, long_is, not_long, long_front, prefix_most, read_whole, said_whole}
 
@@ -155,7 +155,7 @@ module _ (r p : List ℕ) (held used : ℕ) (carry block t : List ℕ) (upto : �
   moved j c =
       let o : used + (upto - held) + nb - upto ≡ used + nb - held = omega (arith, w.low) in
       future_from r p nb j upto (used + (upto - held)) (carried carry block held upto) (drop (upto - held) block ++ t)
-      ∙ rw (carried-length carry block held upto w, carried_same carry block held upto w t, o)
+      ∙ rw (carried_length carry block held upto w, carried_same carry block held upto w t, o)
 
   -- the slots go by the front of the carry
   pub front-slots : (j : ℕ) → j ≤ count_of r → nb ≤ upto → slots_at r p (take nb (carried carry block held upto)) j ≡ slots_at r p all j
@@ -169,7 +169,7 @@ module _ (r p : List ℕ) (held used : ℕ) (carry block t : List ℕ) (upto : �
         w.high,
       ) in
       let k = length-take-le nb all m in
-      ap (λ (s : List ℕ). slots_at r p s j) (sym (carried-before carry block held upto w t nb l))
+      ap (λ (s : List ℕ). slots_at r p s j) (sym (carried_before carry block held upto w t nb l))
       ∙ sym (slots_more r p (take nb all) (drop nb all) j h (omega arith))
       ∙ ap (λ (s : List ℕ). slots_at r p s j) (take-append-drop nb all)
 
@@ -179,12 +179,12 @@ module _ (r p : List ℕ) (held used : ℕ) (carry block t : List ℕ) (upto : �
       ≡ stream_slots (length carry - nb) (slots_at r p all j) (drop upto all) (used + (upto - held))
   moved_on j h l =
       let c = carried carry block held upto in
-      let n : length c ≡ length carry = carried-length carry block held upto w in
+      let n : length c ≡ length carry = carried_length carry block held upto w in
       let k : length (take nb c) ≡ nb = length-take-le nb c (omega (arith, w.fits)) in
       let o : used + (upto - held) + nb - nb ≡ used + (upto - held) = omega arith in
       let z : drop nb (take nb c) ++ (drop (upto - held) block ++ t) ≡ drop upto all =
       sym (drop-append-le nb (take nb c) (drop (upto - held) block ++ t) (omega arith)) ∙ drop_at (take nb c)
-      (drop (upto - held) block ++ t) nb k ∙ sym (carried-behind carry block held upto w t) in
+      (drop (upto - held) block ++ t) nb k ∙ sym (carried_behind carry block held upto w t) in
       future_from r p nb j nb (used + (upto - held)) c (drop (upto - held) block ++ t)
       ∙ from_goes r p (length c - nb) j (used + (upto - held) + nb - nb) (take nb c) (drop (upto - held) block ++ t) h (omega arith)
       ∙ rw (n, o, z, front-slots j h l)
@@ -225,7 +225,7 @@ module _ (K : Type 0) (r p : List ℕ) (column held used : ℕ) (carry block t :
       → take (held + length block) (carried carry block held (held + length block)) ≡ take held carry ++ block
   wait-front w =
       let e : held + length block - held ≡ length block = omega arith in
-      carried-front carry block held (held + length block) w ∙ ap (λ (k : ℕ). take held carry ++ take k block) e ∙ ap
+      carried_front carry block held (held + length block) w ∙ ap (λ (k : ℕ). take held carry ++ take k block) e ∙ ap
       (λ (s : List ℕ). take held carry ++ s) (take-length block)
 
   quiet : (w : Within carry block held (held + length block)) (j : ℕ)
@@ -238,7 +238,7 @@ module _ (K : Type 0) (r p : List ℕ) (column held used : ℕ) (carry block t :
       let e : future r p nulls (opened j upto (used + (upto - held))) (carried carry block held upto) [] ≡ from r p nulls space j
       (used + nulls - held) y =
       future_from r p nulls j upto (used + (upto - held)) (carried carry block held upto) []
-      ∙ rw (carried-length carry block held upto w, append-nil (take upto (carried carry block held upto)), wait-front w, o) in
+      ∙ rw (carried_length carry block held upto w, append-nil (take upto (carried carry block held upto)), wait-front w, o) in
       ap (λ (v : Stream). v.pieces) e
 
   -- all of the block is held, j being the column or the first present one from it on
@@ -265,7 +265,7 @@ module _ (K : Type 0) (r p : List ℕ) (column held used : ℕ) (carry block t :
   wait-left j h a o f v =
       let upto = held + length block in
       let w : Within carry block held upto = record { low = omega arith; high = omega arith; fits = h } in
-      let n = carried-length carry block held upto w in (
+      let n = carried_length carry block held upto w in (
         n,
         open_left j upto (used + (upto - held)) (record {
           over = q.over;
@@ -286,7 +286,7 @@ module _ (K : Type 0) (r p : List ℕ) (column held used : ℕ) (carry block t :
       → (length (carried carry block held upto) ≡ length carry)
       × Left K r p (carried carry block held upto) (opened j nulls (used + (upto - held)))
   next-left j upto w h a z =
-      let n = carried-length carry block held upto w in (
+      let n = carried_length carry block held upto w in (
         n,
         open_left j nulls (used + (upto - held)) (record {
           over = q.over;
@@ -368,7 +368,7 @@ module _ (K : Type 0) (r p : List ℕ) (column held used : ℕ) (carry block t :
         let o : used + nulls - held ≡ used + (nulls - held) = omega arith in
         let w : Within carry block held nulls = record { low = h; high = omega (arith, hand-length); fits = omega (arith, q.room) } in
         let c = carried carry block held nulls in
-        let n = carried-length carry block held nulls w in
+        let n = carried_length carry block held nulls w in
         let k : length (take nulls c) ≡ nulls = length-take-le nulls c (omega (arith, q.room)) in
         let z : slots_at r p (take nulls c) column ≡ [] = front-slots r p held used carry block t nulls w column q.among (omega arith)
         ∙ all_slots column q.among ∙ e in
@@ -541,7 +541,7 @@ module _ (K : Type 0) (r p : List ℕ) (column held used : ℕ) (carry block t :
               fits = omega (arith, prefix_most sh good.sized, q.room);
             } in
             let c = carried carry block held upto in
-            let z : drop (upto - held) block ++ t ≡ drop (prefix sh) (x ++ t) = sym (carried-behind carry block held upto w t) ∙ all-behind
+            let z : drop (upto - held) block ++ t ≡ drop (prefix sh) (x ++ t) = sym (carried_behind carry block held upto w t) ∙ all-behind
             (prefix sh) in
             let k : slots_at r p (take nulls c) (f + 1) ≡ behind = front-slots r p held used carry block t upto w (f + 1) (omega arith)
             (omega arith) ∙ all_slots (f + 1) (omega arith) in
@@ -554,7 +554,7 @@ module _ (K : Type 0) (r p : List ℕ) (column held used : ℕ) (carry block t :
                     v,
                     need_front sh x t
                         i.there,
-                    carried-length carry block held upto w,
+                    carried_length carry block held upto w,
                     k,
                     z,
                     o,
@@ -578,7 +578,7 @@ module _ (K : Type 0) (r p : List ℕ) (column held used : ℕ) (carry block t :
             → drop nulls (take (nulls + prefix sh) (carried carry block held (nulls + prefix sh))) ≡ take (prefix sh) x
         long-front-is v =
             let upto = nulls + prefix sh in
-            ap (drop nulls) (sym (carried-before carry block held upto (long-within v) [] upto (omega arith)))
+            ap (drop nulls) (sym (carried_before carry block held upto (long-within v) [] upto (omega arith)))
             ∙ ap (λ (s : List ℕ). drop nulls (take upto s)) (ap (λ (s : List ℕ). take held carry ++ s) (append-nil block))
             ∙ sym (part_of nulls (prefix sh) y l)
 
@@ -589,7 +589,7 @@ module _ (K : Type 0) (r p : List ℕ) (column held used : ℕ) (carry block t :
             let w = long-within v in
             let i = is_long_lem space sh x v in
             let c = carried carry block held upto in
-            let m = carried-length carry block held upto w in
+            let m = carried_length carry block held upto w in
             let h = take (prefix sh) x in
             let k : length h ≡ prefix sh = length-take-le (prefix sh) x i.there in
             let z : need sh x ≡ need sh h = ap (need sh) (sym (take-append-drop (prefix sh) x)) ∙ need_front sh h (drop (prefix sh) x)
@@ -638,9 +638,9 @@ module _ (K : Type 0) (r p : List ℕ) (column held used : ℕ) (carry block t :
           bytes-are : take (need sh x) (drop nulls (carried carry block held upto)) ≡ take (need sh x) x
           bytes-are =
               let c = carried carry block held upto in
-              let m : nulls ≤ length c = omega (arith, carried-length carry block held upto within, q.room) in
+              let m : nulls ≤ length c = omega (arith, carried_length carry block held upto within, q.room) in
               part_of nulls (need sh x) c m
-              ∙ ap (drop nulls) (sym (carried-before carry block held upto within [] upto (omega arith)))
+              ∙ ap (drop nulls) (sym (carried_before carry block held upto within [] upto (omega arith)))
               ∙ ap (λ (s : List ℕ). drop nulls (take upto s)) (ap (λ (s : List ℕ). take held carry ++ s) (append-nil block))
               ∙ sym (part_of nulls (need sh x) y l)
 

@@ -44,7 +44,7 @@ use Rattle.blocks.specs.States.{opened, longed, Arrived, value, long, arrival_of
 use Rattle.blocks.specs.Turns.{TurnSaid, wait, long as long₁, whole, too_long, turn_of}
 use Rattle.blocks.specs.Gives.{Handed, commit, used_to, waiting, by_turn, give_long}
 use Rattle.blocks.specs.Inner.Hands.{Heads, turn_by, turn_told, value_over, took_by, standing, longing, Holds, Wholes}
-use Rattle.blocks.proofs.Carries.{carried, carried-length, carried-before}
+use Rattle.blocks.proofs.Carries.{carried, carried_length, carried_before}
 use Rattle.blocks.proofs.Turned.{is_long_lem, not_long, prefix_most, read_whole}
 use Rattle.blocks.proofs.Hands.{heads_take, turn_head}
 
@@ -137,7 +137,7 @@ module _ (sh : Shape) (carry block : List ℕ) (nb : ℕ) (at : Arriving) (j n :
   c-length : length c ≡ length carry
   c-length =
       dite (dec_le at.held (nb + n))
-      (λ (h : at.held ≤ nb + n). carried-length carry block at.held (nb + n) (record { low = h; high = w.high; fits = w.upto }))
+      (λ (h : at.held ≤ nb + n). carried_length carry block at.held (nb + n) (record { low = h; high = w.high; fits = w.upto }))
       (λ h.
       let e : nb + n - at.held ≡ 0 = omega arith in
       let z : c ≡ carry = rw e (stored_none carry at.held) in
@@ -147,7 +147,7 @@ module _ (sh : Shape) (carry block : List ℕ) (nb : ℕ) (at : Arriving) (j n :
   front =
       dite (dec_le at.held (nb + n))
       (λ (h : at.held ≤ nb + n).
-      sym (carried-before carry block at.held (nb + n) (record { low = h; high = w.high; fits = w.upto }) [] (nb + n) (omega arith))
+      sym (carried_before carry block at.held (nb + n) (record { low = h; high = w.high; fits = w.upto }) [] (nb + n) (omega arith))
       ∙ ap (λ (s : List ℕ). take (nb + n) (take at.held carry ++ s)) (append-nil block))
       (λ h.
       let e : nb + n - at.held ≡ 0 = omega arith in

@@ -13,7 +13,7 @@ use Rattle.wire.proofs.Inverse.{bytes_take, bytes_drop}
 use Rattle.temporal.specs.declared.storage.Storage.{Storage}
 use Rattle.temporal.specs.Reading.{temporal_size, temporal_fault, read_temporal}
 use Rattle.temporal.specs.Firsts.{FirstOut, tellable}
-use Rattle.temporal.proofs.Forms.{Refuses, short, out, read-refuses, refuses-read}
+use Rattle.temporal.proofs.Forms.{Refuses, short, out, read_refuses, refuses-read}
 use Rattle.temporal.proofs.Firsts.{first_out, out_first, some_part, parts_told}
 use Rattle.promises.specs.FirstParts.{FirstParts}
 
@@ -24,7 +24,7 @@ record Out (k : Storage) (s : List ℕ) (at part : ℕ) : Type 0 where
   told : temporal_fault k (take (temporal_size k) (drop at s)) ≡ part
 
 out_of_lem : (k : Storage) (place : ℕ) (s : List ℕ) (at part : ℕ) → read_temporal k place s at ≡ refused (out_of place part) → Out k s at part
-out_of_lem k place s at part e = go (read-refuses k place s at (out_of place part) e) refl refl
+out_of_lem k place s at part e = go (read_refuses k place s at (out_of place part) e) refl refl
   where
     go : {w : Refusal} → Refuses k place s at w → w.number ≡ 10 → w.part ≡ part → Out k s at part
     go (short h) n p = absurd (omega arith)

@@ -21,7 +21,7 @@ use Rattle.map_check.specs.declared.rank.Ranks.{Ranks}
 use Rattle.map_check.specs.Ranks.{no_ranks, ranks_after, ranks_from}
 use Rattle.map_check.specs.Contents.{whatever, exactly, integer_holds, key_item, contents_full}
 use Rattle.map_check.specs.Passes.{Member, here, later, firsts, signed, character, choice, of_type, count, CharsetList}
-use Rattle.map_check.specs.Passes.{DefaultCharsets, Contents, signedness, default_charset, column_charsets, names, set_strings}
+use Rattle.map_check.specs.Passes.{DefaultCharsets, Contents, signedness, default_charset_lem, column_charsets, names, set_strings}
 use Rattle.map_check.specs.Passes.{enum_strings, geometry_types, simple_key, prefix_key, default_choice, choice_charsets, visibility}
 use Rattle.map_check.specs.Passes.{dimensions}
 use Rattle.map_check.proofs.KeyLaws.KeyItems.{key_moves}
@@ -99,7 +99,7 @@ pub contents_held : {d : Dialect} {cs : List Declared} {sizes : Ranks} → Sized
     → Held (count (signed d) cs) (length cs) sizes kind value
 unfolding contents_hold contents_full integer_holds
 contents_held z (signedness {value = value} e) = record { known = refl; holds = eq-eqb (length value) _ e; full = refl }
-contents_held z (default_charset {value = value} x) =
+contents_held z (default_charset_lem {value = value} x) =
     record { known = refl; holds = rw x.holds.start; full = rw z.character (holds_default _ value x) }
 contents_held z (column_charsets {value = value} x) = record { known = refl; holds = refl; full = said_list value z.character x }
 contents_held z (names {value = value} items b n) =
@@ -186,7 +186,7 @@ held_contents {d} {cs} {sizes} z kind value h =
     f₁ x = signedness (signs_there _ _ value x.holds)
 
     f₂ : Clause d cs sizes value 2
-    f₂ x = default_charset (subst (λ (n : ℕ). DefaultCharsets n value) z.character (default_holds_lem _ value x.full))
+    f₂ x = default_charset_lem (subst (λ (n : ℕ). DefaultCharsets n value) z.character (default_holds_lem _ value x.full))
 
     f₃ : Clause d cs sizes value 3
     f₃ x = column_charsets (subst (λ (n : ℕ). CharsetList n value) z.character (list_said _ value x.full))

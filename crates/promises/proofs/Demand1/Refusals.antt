@@ -29,7 +29,7 @@ use Rattle.promises.proofs.RowsEvents.{rows_read, image_met_lem}
 use Rattle.promises.proofs.Demand1.Rows.{record_read, head_read, first_read, image_stepped, walk_ended, image_started, image_put}
 use Rattle.promises.proofs.Demand1.Rows.{past_refused, null_refused, room-told}
 use Rattle.promises.proofs.Demand1.Arrivals.{blocks_begun, block_given_lem, blocks_ended}
-use Rattle.promises.proofs.Demand1.Plans.{plan_made, plan-stepped, run_read, item-put}
+use Rattle.promises.proofs.Demand1.Plans.{plan_made, plan-stepped, run_read, item_put}
 
 -- a refusal that is listed names a part, or has one of the numbers that do not
 parted : (ls : List Line) (w : Refusal) → in_table ls ≡ true → OneOf ls w → Parted w
@@ -196,7 +196,7 @@ refusals = record {
       (plan-stepped plan images (turned plan images c) (second just) (third just) (fourth just) (fifth just) (sixth just)
       (λ part l m. seventh (just_part l m))));
   put_item = λ plan nulls c lent v buf.
-      only refl (item-put plan nulls c lent v buf just (second just) (third just) (fourth just) (fifth just));
+      only refl (item_put plan nulls c lent v buf just (second just) (third just) (fourth just) (fifth just));
   read_rows_lem = λ code r id s.
       only refl
       (rows_read code r id s just (second just) (third just) (λ p x. fourth (such x))

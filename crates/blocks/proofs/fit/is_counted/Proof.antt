@@ -1,6 +1,6 @@
 -- `blocks::fit::is_counted` meets its contract. Assumes nothing.
 use native.Mathlib.Omega.{arith}
-use Rattle.blocks.proofs.Fitting.{no-column, no-carry, no-count, by-room}
+use Rattle.blocks.proofs.Fitting.{no_column, no-carry, no-count, by-room}
 use borrow.Author.Rules.{rules}
 use Rattle.blocks.proofs.fit.is_counted.Statement.{statement}
 use Rattle.blocks.proofs.fit.is_counted.Tie as tie
@@ -9,7 +9,7 @@ use Rattle.blocks.proofs.fit.is_counted.Lts as lts
 
 returns : tie.Need-returns
 returns c =
-    let a = c.before.before.before.before.args in no-column a.profile.now a.presence.now a.columns a.len a.at
+    let a = c.before.before.before.before.args in no_column a.profile.now a.presence.now a.columns a.len a.at
     (omega arith)
 
 returns-2 : tie.Need-returns-2

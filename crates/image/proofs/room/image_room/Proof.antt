@@ -5,7 +5,7 @@ use mathlib.Core.Path.{sym, ap, ◌∙◌}
 use native.Mathlib.Omega.{arith}
 use borrow.Author.Rules.{rules}
 use Rattle.image.specs.Split.{head_told}
-use Rattle.image.proofs.RoomLaws.Adds.{column_room, Adding, adding-first, adding_next, adding_end, room-read, room_refused}
+use Rattle.image.proofs.RoomLaws.Adds.{column_room, Adding, adding_first, adding_next, adding_end, room_read, room_refused}
 use Rattle.image.proofs.room.image_room.Statement.{statement}
 use Rattle.image.proofs.room.image_room.Tie as tie
 use Rattle.image.proofs.room.image_room.Reads as reads
@@ -32,7 +32,7 @@ returns : tie.Need-returns invariant-loop decreases-loop
 returns c = room_refused _ _ (sym c.before.before.before.read_head.ensures ∙ ap head_told c.before.r.given.1)
 
 loop-holds : tie.Need-loop-init invariant-loop decreases-loop
-loop-holds c = adding-first _ _ (sym c.before.before.before.read_head.ensures ∙ ap head_told c.before.head.given.1)
+loop-holds c = adding_first _ _ (sym c.before.before.before.read_head.ensures ∙ ap head_told c.before.head.given.1)
 
 column-room-requires : tie.Need-column-room-requires invariant-loop decreases-loop
 column-room-requires c κs = search rules
@@ -53,7 +53,7 @@ loop-again c = adding_next _ _ _ _ _ _ c.before.before.loop.invariant c.before.l
 returns-2 : tie.Need-returns-2 invariant-loop decreases-loop
 returns-2 c =
     let e = sym c.before.before.before.before.before.read_head.ensures ∙ ap head_told c.before.before.before.head.given.1 in
-    room-read _ _ e _ (adding_end _ _ _ _ _ c.before.loop.invariant (omega arith))
+    room_read _ _ e _ (adding_end _ _ _ _ _ c.before.loop.invariant (omega arith))
 
 pub image-room-spec : {M : Type 1} → statement M
 image-room-spec =

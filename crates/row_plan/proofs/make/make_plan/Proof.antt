@@ -5,7 +5,7 @@ use native.Mathlib.Omega.{arith}
 use Rattle.wire.specs.Outcome.{Outcome, refused}
 use Rattle.wire.specs.Stored.{answer_of, left_of}
 use Rattle.image.specs.Split.{head_told}
-use Rattle.row_plan.proofs.Makes.{make_refused, columns-are, items-are, few_items, make-full, make-done}
+use Rattle.row_plan.proofs.Makes.{make_refused, columns_are, items-are, few_items, make-full, make-done}
 use borrow.Author.Rules.{rules}
 use Rattle.row_plan.proofs.make.make_plan.Statement.{statement}
 use Rattle.row_plan.proofs.make.make_plan.Tie as tie
@@ -61,7 +61,7 @@ put-plan-requires c κs =
     let a = c.before.before.before.before.before.before.before.before.before.args in
     let h = sym c.before.before.before.before.before.read_head.ensures
     ∙ ap head_told c.before.before.before.head.given.1 in (
-      columns-are a.profile.now a.presence.now a.plan.now _ h,
+      columns_are a.profile.now a.presence.now a.plan.now _ h,
       omega (
         arith,
         items-are a.profile.now a.presence.now

@@ -6,9 +6,9 @@ use Rattle.row_plan.specs.Inner.Numbers.{numbers_told}
 use Rattle.row_plan.proofs.Goes.{rest_is}
 use Rattle.row_plan.proofs.RunLaws.{
   Along,
-  along-goes,
-  along-stands,
-  along-join,
+  along_goes,
+  along_stands,
+  along_join,
   run_begin,
   run-turn,
   run-stop,
@@ -58,14 +58,14 @@ returns : tie.Need-returns invariant-loop decreases-loop
 returns c = let a = c.before.before.before.before.before.before.before.before.args in
     let l = c.before.before.before.loop in
     let v = l.invariant.run in (
-      along-goes a.plan.now a.images.now a.items a.room a.had a.out.now a.here l.out l.at l.values l.invariant,
+      along_goes a.plan.now a.images.now a.items a.room a.had a.out.now a.here l.out l.at l.values l.invariant,
       (above_had _ _ _ _ v.more v.first c.if1.true, v.most),
     )
 
 take-items-requires : tie.Need-take-items-requires invariant-loop decreases-loop
 take-items-requires c κs = let a = c.before.before.before.before.before.before.before.before.before.args in
     let l = c.before.before.before.before.loop in (
-      along-stands a.plan.now a.images.now a.items a.room a.had a.out.now a.here l.out l.at l.values l.invariant c.before.before.before.before.before.before.before.before.before.requires.0 (omega (
+      along_stands a.plan.now a.images.now a.items a.room a.had a.out.now a.here l.out l.at l.values l.invariant c.before.before.before.before.before.before.before.before.before.requires.0 (omega (
         arith,
         l.invariant.run.counted,
         c.before.if1.false,
@@ -92,7 +92,7 @@ loop-less c = let q = c.before.before.before.before.take-items.ensures in
 loop-again : tie.Need-loop-preserved invariant-loop decreases-loop
 loop-again c = let a = c.before.before.before.before.before.before.before.before.before.before.before.before.before.before.args in
     let l = c.before.before.before.before.before.before.before.before.before.loop in
-    along-join a.plan.now a.images.now a.items a.room a.had a.out.now a.here l.out l.at l.values l.invariant _ _ _ _ c.before.before.before.before.take-items.ensures
+    along_join a.plan.now a.images.now a.items a.room a.had a.out.now a.here l.out l.at l.values l.invariant _ _ _ _ c.before.before.before.before.take-items.ensures
 
 loop-less-2 : tie.Need-loop-smaller-2 invariant-loop decreases-loop
 loop-less-2 c = omega (
@@ -104,13 +104,13 @@ loop-less-2 c = omega (
 loop-again-2 : tie.Need-loop-preserved-2 invariant-loop decreases-loop
 loop-again-2 c = let a = c.before.before.before.before.before.before.before.before.before.before.before.before.before.before.before.before.args in
     let l = c.before.before.before.before.before.before.before.before.before.before.before.loop in
-    along-join a.plan.now a.images.now a.items a.room a.had a.out.now a.here l.out l.at l.values l.invariant _ _ _ _ c.before.before.before.before.before.before.take-items.ensures
+    along_join a.plan.now a.images.now a.items a.room a.had a.out.now a.here l.out l.at l.values l.invariant _ _ _ _ c.before.before.before.before.before.before.take-items.ensures
 
 number-item-requires : tie.Need-number-item-requires invariant-loop decreases-loop
 number-item-requires c κs = let a = c.before.before.before.before.before.before.before.before.before.before.before.before.before.before.before.before.args in
     let t = c.before.before.before.before.before.before.before.before.before.before.before.before.before.before.before.before.requires.0 in
     let l = c.before.before.before.before.before.before.before.before.before.before.before.loop in
-    let j = along-join a.plan.now a.images.now a.items a.room a.had a.out.now a.here l.out l.at l.values
+    let j = along_join a.plan.now a.images.now a.items a.room a.had a.out.now a.here l.out l.at l.values
     l.invariant _ _ _ _ c.before.before.before.before.before.before.take-items.ensures in
     let s : a.here.start ≤ length a.images.now = omega (arith, t.nulls, t.item) in (
       (
@@ -162,7 +162,7 @@ returns-2 : tie.Need-returns-2 invariant-loop decreases-loop
 returns-2 c = let a = c.before.before.before.before.before.before.before.before.before.before.before.before.before.before.before.before.before.before.before.before.args in
     let t = c.before.before.before.before.before.before.before.before.before.before.before.before.before.before.before.before.before.before.before.before.requires.0 in
     let l = c.before.before.before.before.before.before.before.before.before.before.before.before.before.before.before.loop in
-    let j = along-join a.plan.now a.images.now a.items a.room a.had a.out.now a.here l.out l.at l.values
+    let j = along_join a.plan.now a.images.now a.items a.room a.had a.out.now a.here l.out l.at l.values
     l.inv _ _ _ _ c.before.before.before.before.before.before.before.before.before.before.take-items.ensures in
     let is = rest_is a.images.now a.here.start a.here.start (omega (arith, t.nulls, t.item)) in
     let e = sym c.before.before.before.number-item.ensures ∙ ap numbers_told c.before.why.given.1 in (
@@ -199,7 +199,7 @@ loop-again-3 : tie.Need-loop-preserved-3 invariant-loop decreases-loop
 loop-again-3 c = let a = c.before.before.before.before.before.before.before.before.before.before.before.before.before.before.before.before.before.before.before.before.before.before.before.before.before.before.args in
     let t = c.before.before.before.before.before.before.before.before.before.before.before.before.before.before.before.before.before.before.before.before.before.before.before.before.before.before.requires.0 in
     let l = c.before.before.before.before.before.before.before.before.before.before.before.before.before.before.before.before.before.before.before.before.before.loop in
-    let j = along-join a.plan.now a.images.now a.items a.room a.had a.out.now a.here l.out l.at l.values
+    let j = along_join a.plan.now a.images.now a.items a.room a.had a.out.now a.here l.out l.at l.values
     l.inv _ _ _ _ c.before.before.before.before.before.before.before.before.before.before.before.before.before.before.before.before.take-items.ensures in
     let is = rest_is a.images.now a.here.start a.here.start (omega (arith, t.nulls, t.item)) in
     let e = sym c.before.before.before.before.before.before.before.before.before.number-item.ensures ∙ ap numbers_told c.before.before.before.before.before.before.before.numbers.given.1 in
@@ -219,7 +219,7 @@ same-length-3 c = c.before.loop.invariant.run.same
 returns-3 : tie.Need-returns-3 invariant-loop decreases-loop
 returns-3 c = let a = c.before.before.before.before.before.before.args in
     let l = c.before.loop in (
-      along-goes a.plan.now a.images.now a.items a.room a.had a.out.now a.here l.out l.at l.values l.invariant,
+      along_goes a.plan.now a.images.now a.items a.room a.had a.out.now a.here l.out l.at l.values l.invariant,
       (omega (arith, c.loop-test.false, c.before.before.before.before.before.before.requires.1.0), l.invariant.run.most),
     )
 
