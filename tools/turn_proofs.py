@@ -18,7 +18,7 @@ PATH = re.compile(r"(?<![\w.'\-])([A-Za-z_][\w'\-₀₁₂₃]*)((?:\.[\w'\-₀�
 
 
 def plain(name):
-    return name.replace("_", "-").removeprefix("overflow-")
+    return name.replace("_", "-").lower().removeprefix("overflow-")
 
 
 def chunks(text):
@@ -164,7 +164,7 @@ class Function:
             for new, old, path in arm[2]:
                 if plain(old) == plain(first) and new.endswith("-own"):
                     return ("path", [arm[0], new] + parts[1:]), None
-        if plain(first) == plain(p[2][0]) or plain(first) == plain(p[2][1]):
+        if plain(first) in (plain(p[2][0]), plain(p[2][1])) or plain(first) == plain(p[2][0]) + "-1":
             rest = parts[1:]
             if len(rest) > 1 and rest[0] == "ensures" and rest[1].isdigit() and p[3]:
                 rest = ["ensures", self.clause(p[3], "ensures", rest[1])] + rest[2:]
@@ -218,7 +218,8 @@ def translate(fn, place, body, say):
     # which variants a last arm serves: shut by the checker, for the laws to open
     body = re.sub(r"(?<![\w.])(c\.[^\s()]+-own\.keys\d+)", r"(opened \1)", body)
     # what a test of `!b` says it says of b now
-    return re.sub(r"\bnot-(?:true|false)\s+c\.[^\s()]+\s+(c\.if-[^\s()]+)", r"\1", body)
+    body = body.replace(".type-inv", ".type_inv")
+    return re.sub(r"\bnot-(?:true|false)\s+(?:_|c\.[^\s()]+)\s+(c\.if-[^\s()]+)", r"\1", body)
 
 
 def last(body):
@@ -400,7 +401,7 @@ def turn(folder, fn, say):
         u = [x for x in (used(l, text) for l in uses) if x]
         u.append(f"use {fn.module}.Given as goal")
         with open(os.path.join(folder, "Invariants.antt"), "w", encoding="utf-8") as f:
-            f.write(title + "\n" + "\n".join(u) + "\n\n" + text + "\n")
+            f.write((title + "\n" if title else "") + "\n".join(u) + "\n\n" + text + "\n")
         wrote.append("i")
     if answers:
         text = "\n\n".join(answers)
@@ -409,7 +410,7 @@ def turn(folder, fn, say):
             u.append("use borrow.Enum.Refused.{opened}")
         u.append(f"use {fn.module}.Goals as goal")
         with open(os.path.join(folder, "Answers.antt"), "w", encoding="utf-8") as f:
-            f.write(title + "\n" + "\n".join(u) + "\n\n" + text + "\n")
+            f.write((title + "\n" if title else "") + "\n".join(u) + "\n\n" + text + "\n")
         wrote.append("a")
     os.remove(path)
     if not wrote:

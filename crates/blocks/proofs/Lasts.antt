@@ -93,7 +93,7 @@ told_left r p carry block used x (open_left column held used₀ q) m h e a =
 told_left r p carry block used x (long_left column held left used₀ q) m h e a =
     absurd (ok_not_refused (sym (sym (end_is (Unit {0}) r p carry (long_left column held left used₀ q) m) ∙ h)))
 
-pub end_told : (r p : List ℕ) {st : Arriving} {carry : List ℕ} (block : List ℕ) (g : BlockGiven) (left : List ℕ) (used : ℕ) → Over r p
+pub end_told_lem : (r p : List ℕ) {st : Arriving} {carry : List ℕ} (block : List ℕ) (g : BlockGiven) (left : List ℕ) (used : ℕ) → Over r p
     → Came r p st carry → end_blocks r p st carry ≡ ok used → give_block r p st carry block ≡ ok (g, left) → goes_on g.arrival ≡ false
     → (g.arrival ≡ end used) × (g.taken ≡ 0)
 end_told_lem r p {carry} block g left used u c h e a =

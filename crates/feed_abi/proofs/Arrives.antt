@@ -69,7 +69,7 @@ ended_told (ok used) = refl
 ended_told (refused w) = refl
 
 -- the state is the one that its numbers ask for
-pub end_told : (r p carry : List ℕ) (st at : Arriving) (g : Given) → st ≡ at → g ≡ ended_of (end_blocks r p st carry)
+pub end_told_lem : (r p carry : List ℕ) (st at : Arriving) (g : Given) → st ≡ at → g ≡ ended_of (end_blocks r p st carry)
     → said arrived_numbers (given_told g) ≡ said (λ n. arrived_numbers (ended n)) (end_blocks r p at carry)
 end_told_lem r p carry st at g e h = rw (h, e) (ended_told (end_blocks r p at carry))
 

@@ -31,7 +31,7 @@ pub got : (sh : Shape) (p : ℕ) (s : List ℕ) (at n : ℕ) (v : Value) (next :
 unfolding read_value
 got sh p s at n v next t e h z d m = rw (reads sh p (drop at s) n t e (rw length-drop h) z, d, m)
 
-pub ends_early : (sh : Shape) (p : ℕ) (s : List ℕ) (at : ℕ) → is_taken sh ≡ true → length s - at < need sh (drop at s)
+pub ends_early_lem : (sh : Shape) (p : ℕ) (s : List ℕ) (at : ℕ) → is_taken sh ≡ true → length s - at < need sh (drop at s)
     → refuse 9 p ≡ read_value sh p s at
 unfolding read_value
 ends_early_lem sh p s at t h = rw (fails_back sh p (drop at s) (why 9 p) t (short (rw length-drop h)))
@@ -48,7 +48,7 @@ pub behind_length : (s : List ℕ) (at k n : ℕ) → k + n ≤ length s - at �
 behind_length s at k n h = length-drop k (take (k + n) (drop at s)) ∙ rw (part_length s at (k + n) h) (omega arith)
 
 -- a shape that there is not
-pub no_column : (n p : ℕ) (s : List ℕ) (at : ℕ) → refuse n p ≡ read_value (NotTaken n) p s at
+pub no_column_lem : (n p : ℕ) (s : List ℕ) (at : ℕ) → refuse n p ≡ read_value (NotTaken n) p s at
 unfolding read_value read_datum taken
 no_column_lem n p s at = refl
 

@@ -100,7 +100,7 @@ event_read s post_header t =
     chain (read_columns s x.2) _ (columns s x.2 (names_told_lem s b x g t₂)) (λ y i. done _))))
 
 -- ---- a pair, and a group
-pub pair_item : {ls : List Line} (s : List ℕ) (o : ℕ) → Told ls s pair_layout o → Listed ls (pair_item s o)
+pub pair_item_lem : {ls : List Line} (s : List ℕ) (o : ℕ) → Told ls s pair_layout o → Listed ls (pair_item s o)
 unfolding pair_item
 pair_item_lem s o t =
     chain (read_packed s o) _ (integer_laid t) (λ a e.
@@ -111,7 +111,7 @@ unfolding strings strings_layout
 all_strings s zero o t = done _
 all_strings s (suc n) o t = chain (long_part s o) _ (string_laid t) (λ x e. all_strings s n x.1 (then_told t (string_whole s o x e)))
 
-pub group_item : {ls : List Line} (s : List ℕ) (o : ℕ) → Told ls s group_layout o → Listed ls (group_item s o)
+pub group_item_lem : {ls : List Line} (s : List ℕ) (o : ℕ) → Told ls s group_layout o → Listed ls (group_item s o)
 unfolding group_item
 group_item_lem s o t =
     chain (read_packed s o) _ (count_laid t) (λ n e.
