@@ -92,16 +92,9 @@ class Function:
         self.name = self.module.removeprefix("Rattle.").replace(".proofs.", ".").replace(".", "::")
         self.places = {p[0]: (i, p) for i, p in enumerate(data["places"])}
 
-    def all_clauses(self, place, parts):
+    def all_clauses(self, path):
         """The names of a step's clauses, where it has several."""
-        n = 0
-        while parts and parts[0] == "before":
-            parts, n = parts[1:], n + 1
-        at = self.walk(place, n)
-        if len(parts) == 1:
-            callee, kind = self.name, "requires"
-        else:
-            callee, kind = self.places[at][1][3], "ensures"
+        callee, kind = (self.name, "requires") if path == ["requires"] else (self.last, "ensures")
         if not callee:
             return None
         words = callee.split("::")
@@ -137,20 +130,30 @@ class Function:
         n = 0
         while parts and parts[0] == "before":
             parts, n = parts[1:], n + 1
-        at = self.walk(place, n)
-        if at is None:
-            return None, None
         if not parts:
-            return ("place", at), None
-        i, p = self.places[at]
-        first = parts[0]
-        if first in ("args", "requires", "pre"):
-            rest = ["requires" if first == "pre" else first] + parts[1:]
+            at = self.walk(place, n)
+            return (("place", at), None) if at else (None, None)
+        if parts[0] in ("args", "requires", "pre"):
+            rest = ["requires" if parts[0] == "pre" else parts[0]] + parts[1:]
             if rest[0] == "requires" and len(rest) > 1 and rest[1].isdigit():
                 rest[1] = self.clause(self.name, "requires", rest[1])
             return ("path", rest), None
-        if first in ("lifetimes", "ranges", "well_formed", "well-formed"):
+        if parts[0] in ("lifetimes", "ranges", "well_formed", "well-formed"):
             return ("path", parts), None
+        # the step is that of the n-th place up; or of one near it, where a place more or less stands between today
+        chain, at = [], place
+        while at is not None and at in self.places:
+            chain.append(at)
+            at = self.places[at][1][1]
+        for k in sorted(range(len(chain)), key=lambda k: abs(k - n)):
+            found = self.at(chain[k], parts)
+            if found[0] is not None:
+                return found
+        return None, None
+
+    def at(self, at, parts):
+        i, p = self.places[at]
+        first = parts[0]
         # an arm's own names
         arm = self.d["arms"][i]
         if arm:
@@ -168,6 +171,8 @@ class Function:
             rest = parts[1:]
             if len(rest) > 1 and rest[0] == "ensures" and rest[1].isdigit() and p[3]:
                 rest = ["ensures", self.clause(p[3], "ensures", rest[1])] + rest[2:]
+            if rest == ["ensures"]:
+                self.last = p[3]
             return ("path", [p[2][1]] + rest), (at, arm)
         return None, None
 
@@ -203,6 +208,7 @@ def translate(fn, place, body, say):
         if base not in alias:
             return m.group(0)
         parts = alias[base] + [x for x in rest.split(".") if x]
+        fn.last = None
         kind, _ = fn.step(place, parts)
         if kind is None:
             say(f"path {base}{rest} at {place}")
@@ -210,7 +216,7 @@ def translate(fn, place, body, say):
         if kind[0] == "place":
             return "c"
         path = "c." + ".".join(kind[1])
-        names = fn.all_clauses(place, parts) if kind[1][-1] in ("ensures", "requires") else None
+        names = fn.all_clauses(kind[1]) if kind[1][-1] in ("ensures", "requires") else None
         # what were the parts of one clause are clauses with names
         return "(" + ", ".join(f"{path}.{n}" for n in names) + ")" if names else path
 
