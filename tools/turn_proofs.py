@@ -137,6 +137,8 @@ class Function:
             rest = ["requires" if parts[0] == "pre" else parts[0]] + parts[1:]
             if rest[0] == "requires" and len(rest) > 1 and rest[1].isdigit():
                 rest[1] = self.clause(self.name, "requires", rest[1])
+            if rest[0] == "args" and len(rest) > 1:
+                rest[1] = rest[1].replace("-", "_")
             return ("path", rest), None
         if parts[0] in ("lifetimes", "ranges", "well_formed", "well-formed"):
             return ("path", parts), None
@@ -149,6 +151,12 @@ class Function:
             found = self.at(chain[k], parts)
             if found[0] is not None:
                 return found
+        # a count behind the name went by the function, and goes by the branch
+        bare = re.sub(r"\d+$", "", parts[0])
+        for k in sorted(range(len(chain)), key=lambda k: abs(k - n)):
+            p = self.places[chain[k]][1]
+            if bare and plain(re.sub(r"\d+$", "", p[2][0])) == plain(bare):
+                return self.at(chain[k], [p[2][0]] + parts[1:])
         return None, None
 
     def at(self, at, parts):
@@ -177,12 +185,12 @@ class Function:
         return None, None
 
 
-def translate(fn, place, body, say):
+def translate(fn, place, body, say, var="c"):
     """The body of an answer in today's paths."""
-    alias = {"c": []}
+    alias = {var: []}
     drop = []
     # names that stand for a place, or for a step of an arm
-    for m in re.finditer(r"\blet ([\w']+) =\s*(c|[\w']+)((?:\.[\w'\-₀₁₂₃]+)*)\s+in\b", body):
+    for m in re.finditer(r"\blet ([\w']+) =\s*([\w']+)((?:\.[\w'\-₀₁₂₃]+)*)\s+in\b", body):
         name, base, rest = m.groups()
         if base not in alias:
             continue
@@ -214,8 +222,11 @@ def translate(fn, place, body, say):
             say(f"path {base}{rest} at {place}")
             return m.group(0)
         if kind[0] == "place":
-            return "c"
-        path = "c." + ".".join(kind[1])
+            chain, up = place, 0
+            while chain != kind[1]:
+                chain, up = fn.places[chain][1][1], up + 1
+            return var + ".before" * up
+        path = var + "." + ".".join(kind[1])
         names = fn.all_clauses(kind[1]) if kind[1][-1] in ("ensures", "requires") else None
         # what were the parts of one clause are clauses with names
         return "(" + ", ".join(f"{path}.{n}" for n in names) + ")" if names else path
@@ -223,9 +234,11 @@ def translate(fn, place, body, say):
     body = PATH.sub(put, body)
     # which variants a last arm serves: shut by the checker, for the laws to open
     body = re.sub(r"(?<![\w.])(c\.[^\s()]+-own\.keys\d+)", r"(opened \1)", body)
+    for m in re.finditer(r"\blet ([\w']+) = \w+\.args in", body):
+        body = re.sub(r"(?<![\w.'\-])" + m.group(1) + r"\.([\w\-]+)", lambda x, a=m.group(1): a + "." + x.group(1).replace("-", "_"), body)
     # what a test of `!b` says it says of b now
     body = body.replace(".type-inv", ".type_inv")
-    return re.sub(r"\bnot-(?:true|false)\s+(?:_|c\.[^\s()]+)\s+(c\.if-[^\s()]+)", r"\1", body)
+    return re.sub(r"\bnot-(?:true|false)\s+(?:_|\w+\.[^\s()]+)\s+(\w+\.if-[^\s()]+)", r"\1", body)
 
 
 def last(body):
@@ -397,9 +410,19 @@ def turn(folder, fn, say):
             sep = " " if not body.startswith("\n") else ""
             answers.append("\n".join(comments + [f"pub {new} : goal.{new}"] + extra + [f"{new} {'_' if arg == '_' else 'c'} ={sep}{body}"]))
             continue
-        if kind:
-            say(f"type of its own: {name} : tie.{kind}")
-        answers.append("\n".join(comments + lines))
+        text = "\n".join(lines)
+        at = re.search(r"tie\.([^\s()]+)", text)
+        if at:
+            old = next((o for o in fn.places if plain(o) == plain(at.group(1))), None)
+            if old is None:
+                say(f"type of its own: {name} : tie.{at.group(1)}")
+            else:
+                bound = re.search(r"\((\w+) : tie\.", text)
+                eq = next((l for l in lines[1:] if l.startswith(name + " ")), "")
+                var = bound.group(1) if bound else (eq.split()[1] if eq else "c")
+                text = text.replace("tie." + at.group(1), "goal." + fn.d["places_by_name"][fn.places[old][0]])
+                text = translate(fn, old, text, say, var)
+        answers.append("\n".join(comments + text.split("\n")))
     title = "\n".join(head)
     wrote = []
     if invariants:

@@ -1,0 +1,30 @@
+-- `table_map::write::put_head` meets its contract. Assumes nothing.
+use native.Mathlib.Omega.{arith}
+use Rattle.table_map.proofs.Puts.{after_number, after_name, then}
+use Rattle.table_map.proofs.write.put_head.Goals as goal
+
+pub put_le-b-requires : goal.put_le-b-requires
+put_le-b-requires c =
+    let a = c.args in
+    (omega arith, omega (arith, after_number 6 a.id c.put_le-a.ensures))
+
+pub put_name-c-requires : goal.put_name-c-requires
+put_name-c-requires c =
+    let a = c.args in
+    (omega arith, omega (arith, after_number 6 a.id c.put_le-a.ensures, after_number 2 a.flags c.put_le-b.ensures))
+
+pub put_name-requires : goal.put_name-requires
+put_name-requires c =
+    let a = c.args in (
+      omega arith,
+      omega (
+        arith,
+        after_number 6 a.id c.put_le-a.ensures,
+        after_number 2 a.flags c.put_le-b.ensures,
+        after_name a.database.now c.put_name-c.ensures,
+      ),
+    )
+
+pub returns : goal.returns
+returns c =
+    then c.put_le-a.ensures (then c.put_le-b.ensures (then c.put_name-c.ensures c.put_name.ensures))

@@ -1,0 +1,34 @@
+-- `value_parts::made::made_time` meets its contract. Assumes nothing.
+use native.Mathlib.Omega.{arith}
+use Rattle.value_parts.specs.Parts.{tops_of}
+use Rattle.value_parts.proofs.Takes.{fit_at}
+use Rattle.value_parts.proofs.made.made_time.Goals as goal
+
+pub part_16-requires : goal.part_16-requires
+unfolding tops_of
+part_16-requires c = fit_at (tops_of 10) c.args.parts.now 1 c.requires (omega arith)
+
+pub part_8-requires : goal.part_8-requires
+unfolding tops_of
+part_8-requires c = fit_at (tops_of 10) c.args.parts.now 2 c.requires (omega arith)
+
+pub part_8-requires-2 : goal.part_8-requires-2
+unfolding tops_of
+part_8-requires-2 c =
+    fit_at (tops_of 10) c.args.parts.now 3 c.requires (omega arith)
+
+pub part_32-requires : goal.part_32-requires
+unfolding tops_of
+part_32-requires c =
+    fit_at (tops_of 10) c.args.parts.now 4 c.requires
+    (omega arith)
+
+pub returns : goal.returns
+returns c =
+    rw (
+      c.part.ensures,
+      c.part_16.ensures,
+      c.part_8.ensures,
+      c.part_8-2.ensures,
+      c.part_32.ensures,
+    )
