@@ -237,7 +237,7 @@ def translate(fn, place, body, say, var="c"):
     for m in re.finditer(r"\blet ([\w']+) = \w+\.args in", body):
         body = re.sub(r"(?<![\w.'\-])" + m.group(1) + r"\.([\w\-]+)", lambda x, a=m.group(1): a + "." + x.group(1).replace("-", "_"), body)
     # what a test of `!b` says it says of b now
-    body = body.replace(".type-inv", ".type_inv")
+    body = body.replace(".type-inv", ".type_inv").replace(".well-formed", ".well_formed")
     return re.sub(r"\bnot-(?:true|false)\s+(?:_|\w+\.[^\s()]+)\s+(\w+\.if-[^\s()]+)", r"\1", body)
 
 

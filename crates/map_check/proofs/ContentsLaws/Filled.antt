@@ -81,6 +81,7 @@ first_member {B} (here q) = here (ap (λ (x : ℕ × B). x.0) q)
 first_member (later m) = later (first_member m)
 
 pub pair_member : {B : Type 0} (ps : List (ℕ × B)) (x : ℕ) → Member x (firsts ps) → (p : ℕ × B) × Member p ps × (p.0 ≡ x)
+pair_member {B = B} [] x x3 = elim x3 [ ]
 pair_member (p ∷ ps) x (here q) = (p, here refl, sym q)
 pair_member (p ∷ ps) x (later m) =
     let y = pair_member ps x m in

@@ -133,6 +133,7 @@ pairs_each (later {b = b} {l = l} m) size low e =
     (omega (arith, x.0, y.0), y.1, y.2)
 
 firsts_low : (ps : List (ℕ × ℕ)) (size low : ℕ) → pairs_hold size low ps ≡ true → Each (λ (y : ℕ). low ≤ y) (firsts ps)
+firsts_low [] size low e y x'' = elim x'' [ ]
 firsts_low (p ∷ ps) size low e y (here q) = omega (arith, (pair_first size low p ps e).0, q)
 firsts_low (p ∷ ps) size low e y (later m) =
     let x = pair_first size low p ps e in
@@ -225,6 +226,7 @@ placed_items {A} rule (suc m) s at = go (λ next. placed_items rule m s next) (e
 
 -- apart by their places in the list, or none standing behind itself
 member_at : (ks : List (ℕ × ℕ)) (x : ℕ) → Member x (seconds ks) → (j : ℕ) × (j < length ks) × (key_at ks j ≡ x)
+member_at [] x x3 = elim x3 [ ]
 member_at (k ∷ ks) x (here q) = (0, omega arith, sym q)
 member_at (k ∷ ks) x (later m) =
     let y = member_at ks x m in

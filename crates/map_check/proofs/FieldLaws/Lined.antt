@@ -123,6 +123,7 @@ bare s fs = map (λ (f : ℕ × Part). (f.0, lent_part s f.1)) fs
 
 pub bare_each : (P : Field → Type 0) (s : List ℕ) (fs : List (ℕ × Part)) → Each (λ (f : ℕ × Part). P (f.0, lent_part s f.1)) fs
     → Each P (bare s fs)
+bare_each P s [] h a x'' = elim x'' [ ]
 bare_each P s (f ∷ fs) h a (here q) = subst P (sym q) (h f (here refl))
 bare_each P s (f ∷ fs) h a (later m) = bare_each P s fs (λ g n. h g (later n)) a m
 
@@ -148,6 +149,7 @@ pub member_found : (s : List ℕ) (fs : List (ℕ × Part)) (kind : ℕ) (value 
     → Member (kind, value) (bare s fs)
     → (p : Part) × (first_of kind fs ≡ Value p) × (lent_part s p ≡ value)
 unfolding first_of Distinct
+member_found s [] kind value d x'' = elim x'' [ ]
 member_found s (f ∷ fs) kind value d (here q) = (
   f.1,
   rw (eq-eqb f.0 kind (sym (ap (λ (x : Field). x.0) q))),
@@ -185,11 +187,13 @@ laid_fields numeric columns {s} {at} (more {next = next} {a = a} {xs = xs} f b) 
 -- where one of the items was read
 item_at_lem : {A : Type 0} {rule : Rule A} {s : List ℕ} {at to : ℕ} {xs : List A} {a : A} → Between rule s at to xs → Member a xs
     → (place next : ℕ) × (rule s place ≡ ok (a, next))
+item_at_lem {A = A} {rule = rule} {s = s} {a = a} (none {at = at}) x5 = elim x5 [ ]
 item_at_lem {A} {rule} {s} {at} (more {next = next} f b) (here q) = (at, next, f ∙ ap (λ (x : A). ok (x, next)) (sym q))
 item_at_lem (more f b) (later m) = item_at_lem b m
 
 kept_full : {sizes : Ranks} {n : ℕ} {s before : List ℕ} {fs : List (ℕ × Part)} → Kept sizes n s before fs
     → Each (λ (f : ℕ × Part). contents_full sizes n f.0 (lent_part s f.1) ≡ true) fs
+kept_full {sizes = sizes} {n = n} {s = s} (none_kept before) f x4 = elim x4 [ ]
 kept_full {sizes} {n} {s} (more-kept before g gs known t rest) f (here q) =
     subst (λ (x : ℕ × Part). contents_full sizes n x.0 (lent_part s x.1) ≡ true) (sym q) (fits sizes n s before g t).contents
 kept_full (more-kept before g gs known t rest) f (later m) = kept_full rest f m
@@ -197,6 +201,7 @@ kept_full (more-kept before g gs known t rest) f (later m) = kept_full rest f m
 -- ---- no type stands twice
 kept_new : {sizes : Ranks} {n : ℕ} {s before : List ℕ} {fs : List (ℕ × Part)} → Kept sizes n s before fs
     → (k : ℕ) → Member k (firsts (bare s fs)) → Member k before → ⊥
+kept_new {sizes = sizes} {n = n} {s = s} (none_kept before) k x7 b = elim x7 [ ]
 kept_new {sizes} {n} {s} (more-kept before g gs known t rest) k (here q) b =
     true≢false (sym (member_stood b) ∙ ap (λ (x : ℕ). stood x before) q ∙ (fits sizes n s before g t).first)
 kept_new (more-kept before g gs known t rest) k (later m) b = kept_new rest k m (later b)
@@ -210,6 +215,7 @@ kept_distinct (more-kept before g gs known t rest) = (λ m. kept_new rest g.0 m 
 -- and none beside its rival
 kept_alone : {sizes : Ranks} {n : ℕ} {s before : List ℕ} {fs : List (ℕ × Part)} → Kept sizes n s before fs
     → (k : ℕ) → Member k (firsts (bare s fs)) → Member (rival_of k) before → ⊥
+kept_alone {sizes = sizes} {n = n} {s = s} (none_kept before) k x7 b = elim x7 [ ]
 kept_alone {sizes} {n} {s} (more-kept before g gs known t rest) k (here q) b =
     true≢false (sym (member_stood b) ∙ ap (λ (x : ℕ). stood (rival_of x) before) q ∙ (fits sizes n s before g t).alone)
 kept_alone (more-kept before g gs known t rest) k (later m) b = kept_alone rest k m (later b)
@@ -217,6 +223,7 @@ kept_alone (more-kept before g gs known t rest) k (later m) b = kept_alone rest 
 one_alone : {sizes : Ranks} {n : ℕ} {s before : List ℕ} {fs : List (ℕ × Part)} {one other : ℕ} → Kept sizes n s before fs
     → (one ≡ other → ⊥)
     → rival_of one ≡ other → rival_of other ≡ one → Member one (firsts (bare s fs)) → Member other (firsts (bare s fs)) → ⊥
+one_alone {sizes = sizes} {s = s} {one = one} {other = other} (none_kept before) n r u x16 _ = elim x16 [ ]
 one_alone (more-kept before g gs known t rest) n r u (here p) (here q) = n (p ∙ sym q)
 one_alone {one = one} {other = other} (more-kept before g gs known t rest) n r u (here p) (later m) = kept_alone rest other m (here (u ∙ p))
 one_alone {one = one} {other = other} (more-kept before g gs known t rest) n r u (later m) (here q) = kept_alone rest one m (here (r ∙ q))
@@ -390,7 +397,7 @@ kept_all sizes c {s} {at} (a_field {fs = fs} len start r w rest) (suc m) l befor
     let q : lent_part s p ≡ value = lent_is s p w in
     let n : stood kind before ≡ false = not_stood kind before (k.new kind (here refl)) in
     let o : stood (rival_of kind) before ≡ false = not_stood (rival_of kind) before (k.alone (rival_of kind) kind (here refl) refl) in
-    let z = kept_all sizes c rest m (omega (arith, v.0, v.1)) (kind ∷ before) (clear_next d a k) d.1
+    let z = kept_all sizes c {at = start + len} rest m (omega (arith, v.0, v.1)) (kind ∷ before) (clear_next d a k) d.1
     (λ i j b g. a i j (later b) (later g)) (λ f b. h f (later b)) in
     ((kind, p) ∷ z.0, rw (e, n, o, q, x.full, z.1), rw (q, z.2))
 

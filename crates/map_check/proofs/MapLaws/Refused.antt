@@ -254,6 +254,7 @@ step_refuses Comes Fault numeric columns s o before u h wrong w e =
 member_first : (s : List ℕ) (fs : List (ℕ × Part)) (kind : ℕ) (p : Part) → Distinct (firsts (bare s fs)) → Member (kind, p) fs
     → first_of kind fs ≡ Value p
 unfolding first_of Distinct
+member_first s [] kind p d x'' = elim x'' [ ]
 member_first s (f ∷ fs) kind p d (here q) =
     let x : kind ≡ f.0 = ap (λ (g : ℕ × Part). g.0) q in
     let y : p ≡ f.1 = ap (λ (g : ℕ × Part). g.1) q in

@@ -1,0 +1,30 @@
+-- `map_check::charset::next_charset` meets its contract. Assumes nothing.
+use mathlib.Core.Path.{◌∙◌}
+use Rattle.map_check.proofs.EntryLaws.Cursors.{fits_in_list, fits_in_pairs, taken_in_list, taken_in_pairs}
+use Rattle.map_check.proofs.charset.next_charset.Goals as goal
+
+pub next_listed-requires : goal.next_listed-requires
+next_listed-requires c =
+    rw c.value_in.ensures
+    (fits_in_list _ c.args.class.default c.args.class.list _
+    c.args.rank.0 c.args.cursor c.in-Value.is
+    c.requires)
+
+pub next_paired-requires : goal.next_paired-requires
+next_paired-requires c =
+    rw c.value_in-in-Nothing.ensures
+    (fits_in_pairs _ c.args.class.default c.args.class.list
+    c.args.rank.0 c.args.cursor c.in-Nothing.is
+    c.requires)
+
+pub returns-in-Value : goal.returns-in-Value
+returns-in-Value c =
+    taken_in_list _ c.args.class _ _ c.args.cursor _
+    c.in-Value.is c.requires
+    (c.next_listed.ensures ∙ rw c.value_in.ensures)
+
+pub returns-in-Nothing : goal.returns-in-Nothing
+returns-in-Nothing c =
+    taken_in_pairs _ c.args.class _ c.args.cursor _
+    c.in-Nothing.is c.requires
+    (c.next_paired.ensures ∙ rw c.value_in-in-Nothing.ensures)
