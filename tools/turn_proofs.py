@@ -75,12 +75,13 @@ def labels():
                     if not clause and line.endswith("{"):
                         break
                 head = "\n".join(head)
-                kinds = {}
+                kinds = {"lent": re.findall(r"(\w+): &mut \[", head)}
                 for k in ("requires", "ensures"):
                     names = re.findall(r"^\s+" + k + r"\*? (\w+) \{", head, re.M)
                     if names:
                         kinds[k] = names
-                out.setdefault((crate, m.group(1)), []).append(kinds)
+                stem = os.path.relpath(os.path.join(folder, f), os.path.join("crates", crate, "src")).removesuffix(".rt").split(os.sep)
+                out.setdefault((crate, m.group(1)), []).append((stem, kinds))
     return out
 
 
@@ -97,16 +98,23 @@ class Function:
         callee, kind = (self.name, "requires") if path == ["requires"] else (self.last, "ensures")
         if not callee:
             return None
-        words = callee.split("::")
-        found = [k.get(kind) for k in self.known.get((words[0], words[-1]), [])]
-        found = [f for f in found if f]
-        return found[0] if found and len(found[0]) > 1 else None
+        found = self.named(callee, kind)
+        return found if found and len(found) > 1 else None
 
     def clause(self, callee, kind, number):
+        found = self.named(callee, kind)
+        return found[int(number)] if found and int(number) < len(found) else number
+
+    def named(self, callee, kind):
+        """The names of a function's clauses of a kind, by the module that it stands in."""
         words = callee.split("::")
-        found = [k.get(kind) for k in self.known.get((words[0], words[-1]), [])]
-        found = [f for f in found if f and int(number) < len(f)]
-        return found[0][int(number)] if found else number
+        known = self.known.get((words[0], words[-1]), [])
+        here = [k for stem, k in known if stem == words[1 : 1 + len(stem)]] or ([k for _, k in known] if len(known) == 1 else [k for stem, k in known if stem == ["lib"]])
+        return here[0].get(kind) if here else None
+
+    def lent(self, callee):
+        """The slices that a function is lent to write."""
+        return self.named(callee, "lent") or []
 
     def goal(self, old, order):
         """New name and place of a goal."""
@@ -170,6 +178,8 @@ class Function:
                 if plain(old) == plain(first) and parts[1 : 1 + len(path)] == path and not new.endswith("-own"):
                     if best is None or len(path) > len(best[1]):
                         best = (new, path)
+            if best and best[0] == "inv":
+                best = ("invariant", best[1])
             if best:
                 return ("path", [arm[0], best[0]] + parts[1 + len(best[1]) :]), None
             for new, old, path in arm[2]:
@@ -179,6 +189,10 @@ class Function:
             rest = parts[1:]
             if len(rest) > 1 and rest[0] == "ensures" and rest[1].isdigit() and p[3]:
                 rest = ["ensures", self.clause(p[3], "ensures", rest[1])] + rest[2:]
+            if rest[:1] == ["auto"] and p[3]:
+                lent = self.lent(p[3])
+                if len(lent) == 1:
+                    rest = ["auto", lent[0]]
             if rest == ["ensures"]:
                 self.last = p[3]
             return ("path", [p[2][1]] + rest), (at, arm)
@@ -397,7 +411,7 @@ def turn(folder, fn, say):
                 say(f"answer {name}")
                 continue
             body = eq[m.end() :].lstrip(" ")
-            if body.strip() == "search rules" and not extra or ".auto." in body:
+            if body.strip() == "search rules" and not extra:
                 continue
             arg = m.group(1).split()[0] if m.group(1).split() else "c"
             body = translate(fn, place, body, say) if arg == "c" else body

@@ -37,32 +37,32 @@ not_after : {A B : Type 0} (o : Outcome A) (f : A → Outcome B) → Not9 o → 
 not_after _ f (fine a) v = v a
 not_after _ f (other w h) v = other w h
 
-not-turn : (nb : ℕ) (sh : Shape) (j : ℕ) (x : List ℕ) (st : Arriving) (carry block : List ℕ) (v : TurnSaid)
+not_turn : (nb : ℕ) (sh : Shape) (j : ℕ) (x : List ℕ) (st : Arriving) (carry block : List ℕ) (v : TurnSaid)
     → Not9 (by_turn nb sh j x st carry block v)
 unfolding by_turn judged
-not-turn nb sh j x st carry block wait = fine _
-not-turn nb sh j x st carry block (long n) = fine _
-not-turn nb sh j x st carry block (whole n) =
+not_turn nb sh j x st carry block wait = fine _
+not_turn nb sh j x st carry block (long n) = fine _
+not_turn nb sh j x st carry block (whole n) =
     not_after (judged sh j (take n x)) _ (not_test (eqb (fault sh (take n x)) 0) (fine _) (other _ (λ (e : 10 ≡ 9). absurd (omega arith))))
     (λ d. (fine _))
 
-not-over : (room nb : ℕ) (is : List Slot) (x : List ℕ) (st : Arriving) (carry block : List ℕ) → Not9 (give_over room nb is x st carry block)
+not_over : (room nb : ℕ) (is : List Slot) (x : List ℕ) (st : Arriving) (carry block : List ℕ) → Not9 (give_over room nb is x st carry block)
 unfolding give_over
-not-over room nb [] x st carry block = fine _
-not-over room nb (i ∷ is) x st carry block =
-    not_test i.null (fine _) (not-turn nb i.present.shape i.present.column x st carry block (turn_of room i.present.shape x))
+not_over room nb [] x st carry block = fine _
+not_over room nb (i ∷ is) x st carry block =
+    not_test i.null (fine _) (not_turn nb i.present.shape i.present.column x st carry block (turn_of room i.present.shape x))
 
 not_in : (f : Phase) (r p : List ℕ) (nb : ℕ) (st : Arriving) (carry block : List ℕ) → Not9 (give_in f r p nb st carry block)
 unfolding give_in give_open give_long
 not_in Open r p nb st carry block =
     not_test (ltb (length (at_hand st carry block)) nb) (fine _)
-    (not-over (length carry - nb) nb (slots_at r p (at_hand st carry block) st.column) (drop nb (at_hand st carry block)) st carry block)
+    (not_over (length carry - nb) nb (slots_at r p (at_hand st carry block) st.column) (drop nb (at_hand st carry block)) st carry block)
 not_in Long r p nb st carry block = not_test (eqb (length block) 0) (fine _) (not_test (leb st.left (length block)) (fine _) (fine _))
 not_in Closed r p nb st carry block = other (why 21 0) (λ e. absurd (omega arith))
 
-pub give-not-9 : (r p : List ℕ) (st : Arriving) (carry block : List ℕ) → Not9 (give_block r p st carry block)
+pub give_not_9 : (r p : List ℕ) (st : Arriving) (carry block : List ℕ) → Not9 (give_block r p st carry block)
 unfolding give_block head_carry given_fit head_of read_record
-give-not-9 r p st carry block =
+give_not_9 r p st carry block =
     not_after (head_carry r p carry) _
     (not_after (head_of r p) _
     (not_after (read_record r) _
@@ -73,25 +73,25 @@ give-not-9 r p st carry block =
     not_test (is_fit r p h.columns h.nulls st carry) (not_in st.phase r p h.nulls st carry block)
     (other _ (λ (e : 21 ≡ 9). absurd (omega arith))))
 
-and-false : (b : Bool) → (b && false) ≡ false
-and-false true = refl
-and-false false = refl
+and_false : (b : Bool) → (b && false) ≡ false
+and_false true = refl
+and_false false = refl
 
 -- behind a refusal and behind the end call the state is closed
 pub closed_refused : (r p : List ℕ) (st : Arriving) (carry block : List ℕ) → Over r p → 1024 ≤ length carry → st.phase ≡ Closed
     → (give_block r p st carry block ≡ refuse 21 0) × (end_blocks r p st carry ≡ refuse 21 0)
 unfolding give_block head_carry given_fit end_blocks ended_fit is_fit fits_in
-closed-refused r p st carry block u h e =
-    rw (head_is r p u, le-ltb (length carry) 1024 h, e, and-false (is_counted r p (count_of r) (length carry) st)) (refl, refl)
+closed_refused r p st carry block u h e =
+    rw (head_is r p u, le-ltb (length carry) 1024 h, e, and_false (is_counted r p (count_of r) (length carry) st)) (refl, refl)
 
 -- and so is any other that is not fit
 pub unfit_refused : (r p : List ℕ) (st : Arriving) (carry block : List ℕ) → Over r p → 1024 ≤ length carry
     → is_fit r p (count_of r) (null_bytes r p) st carry ≡ false
     → (give_block r p st carry block ≡ refuse 21 0) × (end_blocks r p st carry ≡ refuse 21 0)
 unfolding give_block head_carry given_fit end_blocks ended_fit
-unfit-refused r p st carry block u h e = rw (head_is r p u, le-ltb (length carry) 1024 h, e) (refl, refl)
+unfit_refused r p st carry block u h e = rw (head_is r p u, le-ltb (length carry) 1024 h, e) (refl, refl)
 
 -- the first call
-pub begins-begun : (r p carry : List ℕ) → Over r p → 1024 ≤ length carry → begin_blocks r p carry ≡ ok begun
+pub begins_begun : (r p carry : List ℕ) → Over r p → 1024 ≤ length carry → begin_blocks r p carry ≡ ok begun
 unfolding begin_blocks head_carry
-begins-begun r p carry u h = rw (head_is r p u, le-ltb (length carry) 1024 h)
+begins_begun r p carry u h = rw (head_is r p u, le-ltb (length carry) 1024 h)

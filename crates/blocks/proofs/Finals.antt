@@ -48,18 +48,18 @@ unfolding end_over stream_slots stream_long slots Each
 end_none [] k room nulls o g z = refl
 end_none (c ∷ cs) k room nulls o g z = go (end_none cs (suc k) room nulls o g.1 z.1) (bit_lsb0 nulls k) refl
   where
-    by-room : bit_lsb0 nulls k ≡ false → (v : Bool) → too_long room c.shape [] ≡ v → end_over (slots (c ∷ cs) k nulls) o
+    by_room : bit_lsb0 nulls k ≡ false → (v : Bool) → too_long room c.shape [] ≡ v → end_over (slots (c ∷ cs) k nulls) o
         ≡ (stream_slots room (slots (c ∷ cs) k nulls) [] o).how
-    by-room e true v =
+    by_room e true v =
         let i = is_long_lem room c.shape [] v in
         let l : 0 < need c.shape [] - prefix c.shape = omega (arith, i.there, z.0 []) in
         rw (e, v, drop-nil {A = ℕ} (prefix c.shape), lt-leb (need c.shape [] - prefix c.shape) 0 l)
-    by-room e false v = rw (e, v, fails_back c.shape c.column [] (why 9 c.column) g.0.taken (short (z.0 [])))
+    by_room e false v = rw (e, v, fails_back c.shape c.column [] (why 9 c.column) g.0.taken (short (z.0 [])))
 
     go : end_over (slots cs (suc k) nulls) o ≡ (stream_slots room (slots cs (suc k) nulls) [] o).how → (b : Bool) → bit_lsb0 nulls k ≡ b
         → end_over (slots (c ∷ cs) k nulls) o ≡ (stream_slots room (slots (c ∷ cs) k nulls) [] o).how
     go f true e = rw e f
-    go f false e = by-room e (too_long room c.shape []) refl
+    go f false e = by_room e (too_long room c.shape []) refl
 
 -- with a value in progress: that one
 pub end_waits : (is : List Slot) (room j : ℕ) (h : List ℕ) (o used : ℕ) → EachSlot is → Waiting room j is h → end_over is used

@@ -187,19 +187,19 @@ module _ (r p carry : List ℕ) (u : Over r p) (m : 1024 ≤ length carry) where
   nb = null_bytes r p
 
   -- the first column that is left is below the count
-  longing-among : (column left : ℕ) (y h : List ℕ) → column ≤ count_of r → Longing (length carry - nb) column left (slots_at r p y column) h
+  longing_among : (column left : ℕ) (y h : List ℕ) → column ≤ count_of r → Longing (length carry - nb) column left (slots_at r p y column) h
       → column < count_of r
   unfolding slots_at present_from slots
-  longing-among column left y h a w =
+  longing_among column left y h a w =
       dite (dec_le (count_of r) column)
       (λ (b : count_of r ≤ column). let e : count_of r - column ≡ 0 = omega arith in absurd (rw e at w))
       (λ b. omega arith)
 
-  open-back : (column held left used : ℕ)
+  open_back : (column held left used : ℕ)
       → is_fit r p (count_of r) nb (record { phase = Open; column = column; held = held; left = left; used = used }) carry ≡ true
       → (left ≡ 0) × Ready ⊥ r p column held used carry
   unfolding is_fit is_counted fits_in
-  open-back column held left used e =
+  open_back column held left used e =
       let st = opened column held used in
       let y = take held carry in
       let a = both_true (leb column (count_of r) && (leb held (length carry) && (leb held used && leb used (image_room r p)))) _ e in
@@ -225,10 +225,10 @@ module _ (r p carry : List ℕ) (u : Over r p) (m : 1024 ≤ length carry) where
         },
       )
 
-  long-back-ready : (column held left used : ℕ) → is_fit r p (count_of r) nb (longed column held left used) carry ≡ true
+  long_back_ready : (column held left used : ℕ) → is_fit r p (count_of r) nb (longed column held left used) carry ≡ true
       → LongReady ⊥ r p column held left used carry
   unfolding is_fit is_counted fits_in
-  long-back-ready column held left used e =
+  long_back_ready column held left used e =
       let y = take held carry in
       let a = both_true (leb column (count_of r) && (leb held (length carry) && (leb held used && leb used (image_room r p)))) _ e in
       let b = both_true (leb column (count_of r)) _ a.0 in
@@ -240,7 +240,7 @@ module _ (r p carry : List ℕ) (u : Over r p) (m : 1024 ≤ length carry) where
         over = u;
         room = omega (arith, null_most r p u);
         least = m;
-        among = longing-among column left y (drop nb y) (leb-true column (count_of r) b.0) l.1;
+        among = longing_among column left y (drop nb y) (leb-true column (count_of r) b.0) l.1;
         low = leb-true nb held d.0;
         fits = leb-true held (length carry) c.0;
         counted = leb-true held used g.0;
@@ -249,13 +249,13 @@ module _ (r p carry : List ℕ) (u : Over r p) (m : 1024 ≤ length carry) where
         spent = λ k. absurd k;
       }
 
-  pub fit-left : (st : Arriving) → is_fit r p (count_of r) nb st carry ≡ true → Left ⊥ r p carry st
+  pub fit_left : (st : Arriving) → is_fit r p (count_of r) nb st carry ≡ true → Left ⊥ r p carry st
   unfolding is_fit fits_in
-  fit-left st e = go st.phase refl
+  fit_left st e = go st.phase refl
     where
       go : (f : Phase) → st.phase ≡ f → Left ⊥ r p carry st
       go Open g =
-          let q = open-back st.column st.held st.left st.used
+          let q = open_back st.column st.held st.left st.used
           (subst (λ (f : Phase). is_fit r p (count_of r) nb
           (record { phase = f; column = st.column; held = st.held; left = st.left; used = st.used }) carry ≡ true) g e) in
           subst (λ (f : Phase). Left ⊥ r p carry
@@ -263,7 +263,7 @@ module _ (r p carry : List ℕ) (u : Over r p) (m : 1024 ≤ length carry) where
           (subst (λ (k : ℕ). Left ⊥ r p carry (record { phase = Open; column = st.column; held = st.held; left = k; used = st.used }))
           (sym q.0) (open_left st.column st.held st.used q.1))
       go Long g =
-          let q = long-back-ready st.column st.held st.left st.used
+          let q = long_back_ready st.column st.held st.left st.used
           (subst (λ (f : Phase). is_fit r p (count_of r) nb
           (record { phase = f; column = st.column; held = st.held; left = st.left; used = st.used }) carry ≡ true) g e) in
           subst (λ (f : Phase). Left ⊥ r p carry
@@ -271,9 +271,9 @@ module _ (r p carry : List ℕ) (u : Over r p) (m : 1024 ≤ length carry) where
           (long_left st.column st.held st.left st.used q)
       go Closed g = absurd (true≢false (sym (both_true (is_counted r p (count_of r) (length carry) st) false (rw g at e)).1))
 
-  pub fit-room : (st : Arriving) → is_fit r p (count_of r) nb st carry ≡ true → st.used ≤ image_room r p
+  pub fit_room : (st : Arriving) → is_fit r p (count_of r) nb st carry ≡ true → st.used ≤ image_room r p
   unfolding is_fit is_counted
-  fit-room st e =
+  fit_room st e =
       let a = both_true
       (leb st.column (count_of r) && (leb st.held (length carry) && (leb st.held st.used && leb st.used (image_room r p)))) _ e
       in

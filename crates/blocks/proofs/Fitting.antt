@@ -52,7 +52,7 @@ use Rattle.blocks.specs.Ends.{end_in, ended_fit}
 use Rattle.blocks.specs.Inner.Hands.{Heads, turn_by, turn_told, held_shape, Sits, Tested, Numbered, due_from, end_open}
 use Rattle.blocks.proofs.Hands.{turn_head}
 use Rattle.blocks.proofs.Values.{Answers}
-use Rattle.blocks.proofs.Heldings.{is_wait, is_long_of, waits-turn, longs-turn, end_open_is}
+use Rattle.blocks.proofs.Heldings.{is_wait, is_long_of, waits_turn, longs_turn, end_open_is}
 
 -- ---- the numbers
 module _ (r p : List ℕ) (n len : ℕ) (at : Arriving) where
@@ -60,18 +60,18 @@ module _ (r p : List ℕ) (n len : ℕ) (at : Arriving) where
   unfolding is_counted
   no_column h = rw (lt-leb at.column n h)
 
-  pub no-carry : at.column ≤ n → len < at.held → false ≡ is_counted r p n len at
+  pub no_carry : at.column ≤ n → len < at.held → false ≡ is_counted r p n len at
   unfolding is_counted
-  no-carry a h = rw (le-leb at.column n a, lt-leb at.held len h)
+  no_carry a h = rw (le-leb at.column n a, lt-leb at.held len h)
 
-  pub no-count : at.column ≤ n → at.held ≤ len → at.used < at.held → false ≡ is_counted r p n len at
+  pub no_count : at.column ≤ n → at.held ≤ len → at.used < at.held → false ≡ is_counted r p n len at
   unfolding is_counted
-  no-count a b h = rw (le-leb at.column n a, le-leb at.held len b, lt-leb at.held at.used h)
+  no_count a b h = rw (le-leb at.column n a, le-leb at.held len b, lt-leb at.held at.used h)
 
-  pub by-room : {b : Bool} → at.column ≤ n → at.held ≤ len → at.held ≤ at.used → b ≡ leb at.used (image_room r p) → b
+  pub by_room : {b : Bool} → at.column ≤ n → at.held ≤ len → at.held ≤ at.used → b ≡ leb at.used (image_room r p) → b
       ≡ is_counted r p n len at
   unfolding is_counted
-  by-room a b c e = e ∙ rw (le-leb at.column n a, le-leb at.held len b, le-leb at.held at.used c)
+  by_room a b c e = e ∙ rw (le-leb at.column n a, le-leb at.held len b, le-leb at.held at.used c)
 
   pub numbered : {b : Bool} → b ≡ is_counted r p n len at → b ≡ true → Numbered len n at
   unfolding is_counted
@@ -85,11 +85,11 @@ module _ (r p : List ℕ) (v : record_valid r ≡ true) (l : length p ≡ bytes_
   unfolding read_room
   room_read = rw (head_is r p (record { valid = v; bits = l }))
 
-  pub in-room : (x : Room) (n used : ℕ) → room_told x ≡ read_room r p → x ≡ Bytes n → leb used n ≡ leb used (image_room r p)
-  in-room x n used e f = ap (leb used) (same_ok (sym (ap room_told f) ∙ e ∙ room_read))
+  pub in_room : (x : Room) (n used : ℕ) → room_told x ≡ read_room r p → x ≡ Bytes n → leb used n ≡ leb used (image_room r p)
+  in_room x n used e f = ap (leb used) (same_ok (sym (ap room_told f) ∙ e ∙ room_read))
 
-  pub not-refused : (x : Room) (w : Refusal) → room_told x ≡ read_room r p → x ≡ Refused₁ w → ⊥
-  not-refused x w e f =
+  pub not_refused : (x : Room) (w : Refusal) → room_told x ≡ read_room r p → x ≡ Refused₁ w → ⊥
+  not_refused x w e f =
       let z : ok (image_room r p) ≡ refused w = sym (sym (ap room_told f) ∙ e ∙ room_read) in let y : ◌≡◌ {A = ℕ} 0 1 = cc in omega arith
 
 -- ---- the value in progress
@@ -97,14 +97,14 @@ module _ (r p carry : List ℕ) (n : ℕ) (at : Arriving) where
   abbrev y : List ℕ
   y = take at.held carry
 
-  pub shape-none : at.column ≡ n → NotTaken 0 ≡ held_shape r p (take at.held carry) n at.column
+  pub shape_none : at.column ≡ n → NotTaken 0 ≡ held_shape r p (take at.held carry) n at.column
   unfolding held_shape
-  shape-none e = rw (eq-eqb at.column n e)
+  shape_none e = rw (eq-eqb at.column n e)
 
-  pub shape-absent : {b : Bool} → (at.column ≡ n → ⊥) → b ≡ bit_lsb0 p at.column → b ≡ false
+  pub shape_absent : {b : Bool} → (at.column ≡ n → ⊥) → b ≡ bit_lsb0 p at.column → b ≡ false
       → NotTaken 0 ≡ held_shape r p (take at.held carry) n at.column
   unfolding held_shape
-  shape-absent h e f = rw (ne_eqb at.column n h, sym e ∙ f)
+  shape_absent h e f = rw (ne_eqb at.column n h, sym e ∙ f)
 
   module _ {b c : Bool} {rank : ℕ} (h : at.column ≡ n → ⊥) (e : b ≡ bit_lsb0 p at.column) (f : b ≡ true)
       (g : rank ≡ count_bits p at.column)
@@ -112,19 +112,19 @@ module _ (r p carry : List ℕ) (n : ℕ) (at : Arriving) where
     bit_is : bit_lsb0 y (count_bits p at.column) ≡ c
     bit_is = sym (i ∙ ap (λ (k : ℕ). bit_lsb0 (take k carry) rank) (sub-zero at.held) ∙ ap (bit_lsb0 y) g)
 
-    pub shape-null : c ≡ true → NotTaken 0 ≡ held_shape r p (take at.held carry) n at.column
+    pub shape_null : c ≡ true → NotTaken 0 ≡ held_shape r p (take at.held carry) n at.column
     unfolding held_shape
-    shape-null k = rw (ne_eqb at.column n h, sym e ∙ f, bit_is ∙ k)
+    shape_null k = rw (ne_eqb at.column n h, sym e ∙ f, bit_is ∙ k)
 
-    pub shape-there : {x : Entry} {kind : Column} {sh : Shape} → c ≡ false → x ≡ entry_in r at.column → kind ≡ column_of x → sh
+    pub shape_there : {x : Entry} {kind : Column} {sh : Shape} → c ≡ false → x ≡ entry_in r at.column → kind ≡ column_of x → sh
         ≡ shape_of kind
         → sh ≡ held_shape r p (take at.held carry) n at.column
     unfolding held_shape shape_at
-    shape-there {x} {kind} {sh} k u v w = w ∙ ap shape_of (v ∙ ap column_of u) ∙ rw (ne_eqb at.column n h, sym e ∙ f, bit_is ∙ k)
+    shape_there {x} {kind} {sh} k u v w = w ∙ ap shape_of (v ∙ ap column_of u) ∙ rw (ne_eqb at.column n h, sym e ∙ f, bit_is ∙ k)
 
-  pub held-sized : {sh : Shape} → sh ≡ held_shape r p (take at.held carry) n at.column → Sized sh
+  pub held_sized : {sh : Shape} → sh ≡ held_shape r p (take at.held carry) n at.column → Sized sh
   unfolding held_shape shape_at
-  held-sized {sh} e = subst Sized (sym e) (go (eqb at.column n) (bit_lsb0 p at.column) (bit_lsb0 y (count_bits p at.column)))
+  held_sized {sh} e = subst Sized (sym e) (go (eqb at.column n) (bit_lsb0 p at.column) (bit_lsb0 y (count_bits p at.column)))
     where
       go : (a b c : Bool)
           → Sized (cond a (NotTaken 0) (cond b (cond c (NotTaken 0) (shape_of (column_of (entry_in r at.column)))) (NotTaken 0)))
@@ -133,16 +133,16 @@ module _ (r p carry : List ℕ) (n : ℕ) (at : Arriving) where
       go false true false = sized (column_of (entry_in r at.column))
       go false false c = tt
 
-  pub held-turn-is : (nb : ℕ) (t : Turn) {sh : Shape} {head : List ℕ} → at.held ≤ length carry → nb ≤ at.held
+  pub held_turn_is : (nb : ℕ) (t : Turn) {sh : Shape} {head : List ℕ} → at.held ≤ length carry → nb ≤ at.held
       → sh ≡ held_shape r p (take at.held carry) n at.column → Heads (take at.held carry ++ []) nb head 8
       → turn_told t ≡ turn_by (length carry - nb) (prefix sh) (at.held - nb) (need sh head)
       → turn_told t ≡ turn_of (length carry - nb) (held_shape r p (take at.held carry) n at.column) (drop nb (take at.held carry))
-  held-turn-is nb t {sh} {head} f l e h u =
+  held_turn_is nb t {sh} {head} f l e h u =
       let m : length y ≡ at.held = length-take-le at.held carry f in
       let k : length (drop nb y) ≡ at.held - nb = length-drop nb y ∙ ap (λ (z : ℕ). z - nb) m in
       let h' : Heads y nb head 8 = subst (λ (s : List ℕ). Heads s nb head 8) (append-nil y) h in
       u ∙ ap (λ (z : ℕ). turn_by (length carry - nb) (prefix sh) z (need sh head)) (sym k)
-      ∙ turn_head (length carry - nb) sh y nb head (held-sized e) h' (omega arith)
+      ∙ turn_head (length carry - nb) sh y nb head (held_sized e) h' (omega arith)
       ∙ ap (λ (s : Shape). turn_of (length carry - nb) s (drop nb y)) e
 
 -- ---- the Open phase
@@ -157,14 +157,14 @@ other_long (Long₁ n) left o = absurd (miss (0 ∷ 2 ∷ []) 1 tt o)
 other_long (Whole n) left o = refl
 
 module _ (r p carry : List ℕ) (nb : ℕ) (at : Arriving) where
-  pub open-some-left : (at.left ≡ 0 → ⊥) → false ≡ fits_in Open r p nb at carry
+  pub open_some_left : (at.left ≡ 0 → ⊥) → false ≡ fits_in Open r p nb at carry
   unfolding fits_in
-  open-some-left h = rw (ne_eqb at.left 0 h)
+  open_some_left h = rw (ne_eqb at.left 0 h)
 
-  pub open-first : {b : Bool} → at.left ≡ 0 → at.held < nb → b ≡ (eqb at.column 0 && eqb at.used at.held) → b
+  pub open_first : {b : Bool} → at.left ≡ 0 → at.held < nb → b ≡ (eqb at.column 0 && eqb at.used at.held) → b
       ≡ fits_in Open r p nb at carry
   unfolding fits_in
-  open-first e h f = f ∙ rw (eq-eqb at.left 0 e, lt-ltb at.held nb h)
+  open_first e h f = f ∙ rw (eq-eqb at.left 0 e, lt-ltb at.held nb h)
 
   pub open_none : at.left ≡ 0 → at.held ≡ nb → true ≡ fits_in Open r p nb at carry
   unfolding fits_in
@@ -173,76 +173,76 @@ module _ (r p carry : List ℕ) (nb : ℕ) (at : Arriving) where
   module _ (n : ℕ) (c : n ≡ count_of r) (a : at.column ≤ n) (t : Turn)
       (u : turn_told t ≡ turn_of (length carry - nb) (held_shape r p (take at.held carry) n at.column) (drop nb (take at.held carry)))
     where
-      turn-of-it : turn_told t
+      turn_of_it : turn_told t
           ≡ turn_of (length carry - nb) (held_shape r p (take at.held carry) (count_of r) at.column) (drop nb (take at.held carry))
-      turn-of-it =
+      turn_of_it =
           subst (λ (k : ℕ). turn_told t ≡ turn_of (length carry - nb) (held_shape r p (take at.held carry) k at.column)
           (drop nb (take at.held carry))) c u
 
       among : at.column ≤ count_of r
       among = omega arith
 
-      pub open-held : {b : Bool} → at.left ≡ 0 → nb ≤ at.held → (at.held ≡ nb → ⊥) → b ≡ is_wait (turn_told t) → b
+      pub open_held : {b : Bool} → at.left ≡ 0 → nb ≤ at.held → (at.held ≡ nb → ⊥) → b ≡ is_wait (turn_told t) → b
           ≡ fits_in Open r p nb at carry
       unfolding fits_in
-      open-held e l h f =
-          f ∙ ap is_wait turn-of-it ∙ waits-turn r p (take at.held carry) at.column among (length carry - nb)
+      open_held e l h f =
+          f ∙ ap is_wait turn_of_it ∙ waits_turn r p (take at.held carry) at.column among (length carry - nb)
           (drop nb (take at.held carry))
           ∙ rw (eq-eqb at.left 0 e, le-ltb at.held nb l, ne_eqb at.held nb h)
 
-      abbrev y-sh : Shape
-      y-sh = held_shape r p (take at.held carry) (count_of r) at.column
+      abbrev y_sh : Shape
+      y_sh = held_shape r p (take at.held carry) (count_of r) at.column
 
-      pub long-held : {b : Bool} {sh : Shape} {k : ℕ} → at.held ≤ length carry → nb ≤ at.held → sh
+      pub long_held : {b : Bool} {sh : Shape} {k : ℕ} → at.held ≤ length carry → nb ≤ at.held → sh
           ≡ held_shape r p (take at.held carry) n at.column
           → k ≡ prefix sh → at.held - nb ≡ k → b ≡ is_long_of at.left (turn_told t) → b ≡ fits_in Long r p nb at carry
       unfolding fits_in
-      long-held {b} {sh} {k} g l s m h f =
+      long_held {b} {sh} {k} g l s m h f =
           let y = take at.held carry in
           let w : length (drop nb y) ≡ at.held - nb = length-drop nb y ∙ ap (λ (z : ℕ). z - nb) (length-take-le at.held carry g) in
-          let s' : sh ≡ y-sh = s ∙ ap (λ (z : ℕ). held_shape r p y z at.column) c in
-          let q : eqb (length (drop nb y)) (prefix y-sh) ≡ true = eq-eqb (length (drop nb y)) (prefix y-sh) (w ∙ h ∙ m ∙ ap prefix s') in
-          let z : (eqb (length (drop nb y)) (prefix y-sh) && is_long_of at.left (turn_of (length carry - nb) y-sh (drop nb y)))
+          let s' : sh ≡ y_sh = s ∙ ap (λ (z : ℕ). held_shape r p y z at.column) c in
+          let q : eqb (length (drop nb y)) (prefix y_sh) ≡ true = eq-eqb (length (drop nb y)) (prefix y_sh) (w ∙ h ∙ m ∙ ap prefix s') in
+          let z : (eqb (length (drop nb y)) (prefix y_sh) && is_long_of at.left (turn_of (length carry - nb) y_sh (drop nb y)))
           ≡ is_long (length carry - nb) at.column at.left (slots_at r p y at.column) (drop nb y) =
-          longs-turn r p y at.column among (length carry - nb) at.left (drop nb y) in
-          f ∙ ap (is_long_of at.left) turn-of-it ∙ (rw q at z) ∙ rw (le-leb nb at.held l)
+          longs_turn r p y at.column among (length carry - nb) at.left (drop nb y) in
+          f ∙ ap (is_long_of at.left) turn_of_it ∙ (rw q at z) ∙ rw (le-leb nb at.held l)
 
-  pub long-low : at.held < nb → false ≡ fits_in Long r p nb at carry
+  pub long_low : at.held < nb → false ≡ fits_in Long r p nb at carry
   unfolding fits_in
-  long-low h = rw (lt-leb nb at.held h)
+  long_low h = rw (lt-leb nb at.held h)
 
-  pub long-other : (n : ℕ) → n ≡ count_of r → at.column ≤ n → {sh : Shape} {k : ℕ} → at.held ≤ length carry → nb ≤ at.held
+  pub long_other : (n : ℕ) → n ≡ count_of r → at.column ≤ n → {sh : Shape} {k : ℕ} → at.held ≤ length carry → nb ≤ at.held
       → sh ≡ held_shape r p (take at.held carry) n at.column → k ≡ prefix sh → (at.held - nb ≡ k → ⊥) → false
       ≡ fits_in Long r p nb at carry
   unfolding fits_in
-  long-other n c a {sh} {k} g l s m h =
+  long_other n c a {sh} {k} g l s m h =
       let y = take at.held carry in
       let w : length (drop nb y) ≡ at.held - nb = length-drop nb y ∙ ap (λ (z : ℕ). z - nb) (length-take-le at.held carry g) in
       let sh' = held_shape r p y (count_of r) at.column in
       let s' : sh ≡ sh' = s ∙ ap (λ (z : ℕ). held_shape r p y z at.column) c in
       let q : eqb (length (drop nb y)) (prefix sh') ≡ false =
       ne_eqb (length (drop nb y)) (prefix sh') (λ (e : length (drop nb y) ≡ prefix sh'). h (sym w ∙ e ∙ ap prefix (sym s') ∙ sym m)) in
-      let z = longs-turn r p y at.column (omega arith) (length carry - nb) at.left (drop nb y) in
+      let z = longs_turn r p y at.column (omega arith) (length carry - nb) at.left (drop nb y) in
       (rw q at z) ∙ rw (le-leb nb at.held l)
 
 -- ---- the state
 module _ (r p carry : List ℕ) (n nb : ℕ) (at : Arriving) where
-  pub fit-not : {b : Bool} → b ≡ is_counted r p n (length carry) at → b ≡ false → false ≡ is_fit r p n nb at carry
+  pub fit_not : {b : Bool} → b ≡ is_counted r p n (length carry) at → b ≡ false → false ≡ is_fit r p n nb at carry
   unfolding is_fit
-  fit-not e f = rw (sym e ∙ f)
+  fit_not e f = rw (sym e ∙ f)
 
-  pub fit-in : (f : Phase) {b c : Bool} → b ≡ is_counted r p n (length carry) at → b ≡ true → at.phase ≡ f → c ≡ fits_in f r p nb at carry
+  pub fit_in : (f : Phase) {b c : Bool} → b ≡ is_counted r p n (length carry) at → b ≡ true → at.phase ≡ f → c ≡ fits_in f r p nb at carry
       → c ≡ is_fit r p n nb at carry
   unfolding is_fit
-  fit-in f e g h i = i ∙ ap (λ (z : Phase). fits_in z r p nb at carry) (sym h) ∙ rw (sym e ∙ g)
+  fit_in f e g h i = i ∙ ap (λ (z : Phase). fits_in z r p nb at carry) (sym h) ∙ rw (sym e ∙ g)
 
-  pub fit-numbered : {b : Bool} → b ≡ is_fit r p n nb at carry → b ≡ true → Numbered (length carry) n at
+  pub fit_numbered : {b : Bool} → b ≡ is_fit r p n nb at carry → b ≡ true → Numbered (length carry) n at
   unfolding is_fit
-  fit-numbered e f = numbered r p n (length carry) at refl (both_true (is_counted r p n (length carry) at) _ (sym e ∙ f)).0
+  fit_numbered e f = numbered r p n (length carry) at refl (both_true (is_counted r p n (length carry) at) _ (sym e ∙ f)).0
 
-  fit-used : {b : Bool} → b ≡ is_fit r p n nb at carry → b ≡ true → at.used ≤ image_room r p
+  fit_used : {b : Bool} → b ≡ is_fit r p n nb at carry → b ≡ true → at.used ≤ image_room r p
   unfolding is_fit is_counted
-  fit-used e f =
+  fit_used e f =
       let a = both_true (is_counted r p n (length carry) at) _ (sym e ∙ f) in
       let b = both_true (leb at.column n) _ a.0 in
       let c = both_true (leb at.held (length carry)) _ b.1 in
@@ -251,9 +251,9 @@ module _ (r p carry : List ℕ) (n nb : ℕ) (at : Arriving) where
   pub sits : {b : Bool} (block : List ℕ) → Tested r p (length carry) n nb → b ≡ is_fit r p n nb at carry → b ≡ true
       → length carry < 9223372036854775808 → length block < 9223372036854775808 → Sits r p (length carry) (length block) n nb at
   sits block t e f lc lb =
-      let w = fit-numbered e f in
+      let w = fit_numbered e f in
       let s = room_small r p t.valid in
-      let u = fit-used e f in
+      let u = fit_used e f in
       record {
         valid = t.valid;
         count = t.count;
@@ -274,29 +274,29 @@ parts at nb n c x z =
     (parted at c (part at.column n) n (longed at.column at.held (at.left - n) (at.used + n))))
 
 module _ (r p carry block : List ℕ) (n nb : ℕ) (at : Arriving) where
-  pub given-unfit : {b : Bool} {g : Given} {w : Refusal} → b ≡ is_fit r p n nb at carry → b ≡ false → w ≡ why 21 0 → g ≡ shut_with (Refused w)
+  pub given_unfit : {b : Bool} {g : Given} {w : Refusal} → b ≡ is_fit r p n nb at carry → b ≡ false → w ≡ why 21 0 → g ≡ shut_with (Refused w)
       → Answers (given_fit r p n nb at carry block) carry g carry
   unfolding given_fit
-  given-unfit {b} {g} {w} e f k h = rw (sym e ∙ f) (h ∙ ap (λ (z : Refusal). shut_with (Refused z)) k, refl)
+  given_unfit {b} {g} {w} e f k h = rw (sym e ∙ f) (h ∙ ap (λ (z : Refusal). shut_with (Refused z)) k, refl)
 
   module _ {b : Bool} (e : b ≡ is_fit r p n nb at carry) (f : b ≡ true) where
-    given-in : (q : Phase) → at.phase ≡ q → given_fit r p n nb at carry block ≡ give_in q r p nb at carry block
+    given_in : (q : Phase) → at.phase ≡ q → given_fit r p n nb at carry block ≡ give_in q r p nb at carry block
     unfolding given_fit
-    given-in q h = rw (sym e ∙ f) (ap (λ (z : Phase). give_in z r p nb at carry block) h)
+    given_in q h = rw (sym e ∙ f) (ap (λ (z : Phase). give_in z r p nb at carry block) h)
 
     opens : {g : Given} {c : List ℕ} → Answers (give_open r p nb at carry block) carry g c
         → Answers (give_in Open r p nb at carry block) carry g c
     unfolding give_in
     opens w = w
 
-    pub given-open : {g : Given} {c : List ℕ} → at.phase ≡ Open → Answers (give_open r p nb at carry block) carry g c
+    pub given_open : {g : Given} {c : List ℕ} → at.phase ≡ Open → Answers (give_open r p nb at carry block) carry g c
         → Answers (given_fit r p n nb at carry block) carry g c
-    given-open h w = rw (given-in Open h) (opens w)
+    given_open h w = rw (given_in Open h) (opens w)
 
-    pub given-long : {g : Given} → at.phase ≡ Long → g ≡ given_of (answer_of (give_long nb at [] block))
+    pub given_long : {g : Given} → at.phase ≡ Long → g ≡ given_of (answer_of (give_long nb at [] block))
         → Answers (given_fit r p n nb at carry block) carry g carry
     unfolding give_in give_long
-    given-long {g} h w = rw (given-in Long h) (go (eqb (length block) 0) (leb at.left (length block)) w)
+    given_long {g} h w = rw (given_in Long h) (go (eqb (length block) 0) (leb at.left (length block)) w)
       where
         go : (x z : Bool) → g ≡ given_of (answer_of (parts at nb (length block) [] x z))
             → Answers (parts at nb (length block) carry x z) carry g carry
@@ -304,54 +304,54 @@ module _ (r p carry block : List ℕ) (n nb : ℕ) (at : Arriving) where
         go false true k = (k, refl)
         go false false k = (k, refl)
 
-    pub given-closed : {g : Given} {w : Refusal} → at.phase ≡ Closed → w ≡ why 21 0 → g ≡ shut_with (Refused w)
+    pub given_closed : {g : Given} {w : Refusal} → at.phase ≡ Closed → w ≡ why 21 0 → g ≡ shut_with (Refused w)
         → Answers (given_fit r p n nb at carry block) carry g carry
     unfolding give_in
-    given-closed {g} {w} h k i = rw (given-in Closed h) (i ∙ ap (λ (z : Refusal). shut_with (Refused z)) k, refl)
+    given_closed {g} {w} h k i = rw (given_in Closed h) (i ∙ ap (λ (z : Refusal). shut_with (Refused z)) k, refl)
 
-  pub ended-unfit : {b : Bool} {g : Given} {w : Refusal} → b ≡ is_fit r p n nb at carry → b ≡ false → w ≡ why 21 0 → g ≡ shut_with (Refused w)
+  pub ended_unfit : {b : Bool} {g : Given} {w : Refusal} → b ≡ is_fit r p n nb at carry → b ≡ false → w ≡ why 21 0 → g ≡ shut_with (Refused w)
       → g ≡ ended_of (ended_fit r p n nb at carry)
   unfolding ended_fit
-  ended-unfit {b} {g} {w} e f k h = h ∙ ap (λ (z : Refusal). shut_with (Refused z)) k ∙ rw (sym e ∙ f)
+  ended_unfit {b} {g} {w} e f k h = h ∙ ap (λ (z : Refusal). shut_with (Refused z)) k ∙ rw (sym e ∙ f)
 
   module _ {b : Bool} (e : b ≡ is_fit r p n nb at carry) (f : b ≡ true) where
-    pub ended-open : {g : Given} → n ≡ count_of r → at.phase ≡ Open → g ≡ ended_of (end_open p n nb at carry) → g
+    pub ended_open : {g : Given} → n ≡ count_of r → at.phase ≡ Open → g ≡ ended_of (end_open p n nb at carry) → g
         ≡ ended_of (ended_fit r p n nb at carry)
     unfolding ended_fit
-    ended-open {g} k h i =
-        let a = fit-numbered r p carry n nb at e f in
+    ended_open {g} k h i =
+        let a = fit_numbered r p carry n nb at e f in
         let z : end_open p n nb at carry ≡ end_in Open r p nb at carry =
         ap (λ (m : ℕ). end_open p m nb at carry) k ∙ end_open_is r p carry nb at (omega (arith, a.among)) in
         i ∙ ap ended_of z ∙ rw (sym e ∙ f, h)
 
-    pub ended-long : {g : Given} {w : Refusal} → at.phase ≡ Long → w ≡ why 9 at.column → g ≡ shut_with (Refused w) → g
+    pub ended_long : {g : Given} {w : Refusal} → at.phase ≡ Long → w ≡ why 9 at.column → g ≡ shut_with (Refused w) → g
         ≡ ended_of (ended_fit r p n nb at carry)
     unfolding ended_fit end_in
-    ended-long {g} {w} h k i = i ∙ ap (λ (z : Refusal). shut_with (Refused z)) k ∙ rw (sym e ∙ f, h)
+    ended_long {g} {w} h k i = i ∙ ap (λ (z : Refusal). shut_with (Refused z)) k ∙ rw (sym e ∙ f, h)
 
-    pub ended-closed : {g : Given} {w : Refusal} → at.phase ≡ Closed → w ≡ why 21 0 → g ≡ shut_with (Refused w) → g
+    pub ended_closed : {g : Given} {w : Refusal} → at.phase ≡ Closed → w ≡ why 21 0 → g ≡ shut_with (Refused w) → g
         ≡ ended_of (ended_fit r p n nb at carry)
     unfolding ended_fit end_in
-    ended-closed {g} {w} h k i = i ∙ ap (λ (z : Refusal). shut_with (Refused z)) k ∙ rw (sym e ∙ f, h)
+    ended_closed {g} {w} h k i = i ∙ ap (λ (z : Refusal). shut_with (Refused z)) k ∙ rw (sym e ∙ f, h)
 
 -- the end in the Open phase
 module _ (p carry : List ℕ) (n nb : ℕ) (at : Arriving) where
-  pub end-nulls : {g : Given} {w : Refusal} → at.held < nb → w ≡ why 9 0 → g ≡ shut_with (Refused w) → g ≡ ended_of (end_open p n nb at carry)
+  pub end_nulls : {g : Given} {w : Refusal} → at.held < nb → w ≡ why 9 0 → g ≡ shut_with (Refused w) → g ≡ ended_of (end_open p n nb at carry)
   unfolding end_open
-  end-nulls {g} {w} h k i = i ∙ ap (λ (z : Refusal). shut_with (Refused z)) k ∙ rw (lt-ltb at.held nb h)
+  end_nulls {g} {w} h k i = i ∙ ap (λ (z : Refusal). shut_with (Refused z)) k ∙ rw (lt-ltb at.held nb h)
 
   module _ {due : ℕ} (l : nb ≤ at.held) (e : due ≡ due_from (n - at.column) p (take (at.held - 0) carry) at.column) where
-    due-is : due ≡ due_from (n - at.column) p (take at.held carry) at.column
-    due-is = e ∙ ap (λ (k : ℕ). due_from (n - at.column) p (take k carry) at.column) (sub-zero at.held)
+    due_is : due ≡ due_from (n - at.column) p (take at.held carry) at.column
+    due_is = e ∙ ap (λ (k : ℕ). due_from (n - at.column) p (take k carry) at.column) (sub-zero at.held)
 
-    pub end-end : {g : Given} → due ≡ n → g ≡ shut_with (End at.used) → g ≡ ended_of (end_open p n nb at carry)
+    pub end_end : {g : Given} → due ≡ n → g ≡ shut_with (End at.used) → g ≡ ended_of (end_open p n nb at carry)
     unfolding end_open
-    end-end {g} h i = i ∙ rw (le-ltb at.held nb l, ← due-is, eq-eqb due n h)
+    end_end {g} h i = i ∙ rw (le-ltb at.held nb l, ← due_is, eq-eqb due n h)
 
-    pub end-due : {g : Given} {w : Refusal} → (due ≡ n → ⊥) → w ≡ why 9 due → g ≡ shut_with (Refused w) → g
+    pub end_due : {g : Given} {w : Refusal} → (due ≡ n → ⊥) → w ≡ why 9 due → g ≡ shut_with (Refused w) → g
         ≡ ended_of (end_open p n nb at carry)
     unfolding end_open
-    end-due {g} {w} h k i = i ∙ ap (λ (z : Refusal). shut_with (Refused z)) k ∙ rw (le-ltb at.held nb l, ← due-is, ne_eqb due n h)
+    end_due {g} {w} h k i = i ∙ ap (λ (z : Refusal). shut_with (Refused z)) k ∙ rw (le-ltb at.held nb l, ← due_is, ne_eqb due n h)
 
 -- ---- the tests
 presence_of : (r p : List ℕ) {h : Head} → head_of r p ≡ ok h → length p ≡ bytes_for (count_of r)

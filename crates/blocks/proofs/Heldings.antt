@@ -37,18 +37,18 @@ is_long_of left (long n) = ltb 0 left && leb left n
 is_long_of left (whole n) = false
 
 module _ (room : ℕ) (sh : Shape) (x : List ℕ) where
-  wait-turn : is_wait (turn_of room sh x) ≡ (not (too_long room sh x) && ltb (length x) (need sh x))
+  wait_turn : is_wait (turn_of room sh x) ≡ (not (too_long room sh x) && ltb (length x) (need sh x))
   unfolding turn_of
-  wait-turn = go (too_long room sh x) (ltb (length x) (need sh x))
+  wait_turn = go (too_long room sh x) (ltb (length x) (need sh x))
     where
       go : (a b : Bool) → is_wait (cond a (long (need sh x - prefix sh)) (cond b wait (whole (need sh x)))) ≡ (not a && b)
       go true b = refl
       go false true = refl
       go false false = refl
 
-  long-turn : (left : ℕ) → is_long_of left (turn_of room sh x) ≡ (too_long room sh x && (ltb 0 left && leb left (need sh x - prefix sh)))
+  long_turn : (left : ℕ) → is_long_of left (turn_of room sh x) ≡ (too_long room sh x && (ltb 0 left && leb left (need sh x - prefix sh)))
   unfolding turn_of
-  long-turn left = go (too_long room sh x) (ltb (length x) (need sh x))
+  long_turn left = go (too_long room sh x) (ltb (length x) (need sh x))
     where
       go : (a b : Bool) → is_long_of left (cond a (long (need sh x - prefix sh)) (cond b wait (whole (need sh x))))
           ≡ (a && (ltb 0 left && leb left (need sh x - prefix sh)))
@@ -67,13 +67,13 @@ module _ (r p y : List ℕ) (j : ℕ) (h : j ≤ count_of r) where
   n = count_of r
 
   -- what holds of the slots that are left, and of the shape: none, one of another column, NULL, or not
-  by-slot : (P : List Slot → Shape → Type 0) → P [] (NotTaken 0)
+  by_slot : (P : List Slot → Shape → Type 0) → P [] (NotTaken 0)
       → ((i : Slot) (is : List Slot) → eqb i.present.column j ≡ false → P (i ∷ is) (NotTaken 0))
       → ((i : Slot) (is : List Slot) → i.present.column ≡ j → i.null ≡ true → P (i ∷ is) (NotTaken 0))
       → ((i : Slot) (is : List Slot) → i.present.column ≡ j → i.null ≡ false → P (i ∷ is) i.present.shape)
       → P (slots_at r p y j) (held_shape r p y (count_of r) j)
   unfolding held_shape
-  by-slot P none other null there =
+  by_slot P none other null there =
       let f = first_from (n - j) p j in
       let i = first_is (n - j) p j in
       dite (dec_le n f)
@@ -113,28 +113,28 @@ module _ (r p y : List ℕ) (j : ℕ) (h : j ≤ count_of r) where
           rw (ne_eqb j (count_of r) (λ (k : j ≡ count_of r). absurd (omega arith)))
           (other (slot_at r p y f) (slots_at r p y (f + 1)) (ne_eqb f j z))
 
-  pub waits-turn : (room : ℕ) (x : List ℕ) → is_wait (turn_of room (held_shape r p y (count_of r) j) x) ≡ waits room j (slots_at r p y j) x
+  pub waits_turn : (room : ℕ) (x : List ℕ) → is_wait (turn_of room (held_shape r p y (count_of r) j) x) ≡ waits room j (slots_at r p y j) x
   unfolding waits
-  waits-turn room x =
-      by-slot (λ is sh. is_wait (turn_of room sh x) ≡ waits room j is x)
+  waits_turn room x =
+      by_slot (λ is sh. is_wait (turn_of room sh x) ≡ waits room j is x)
       (ap is_wait (none_turn room x))
       (λ i is e. rw (none_turn room x, e))
       (λ i is e f. rw (none_turn room x, eq-eqb i.present.column j e, f))
-      (λ i is e f. rw (eq-eqb i.present.column j e, f) (wait-turn room i.present.shape x))
+      (λ i is e f. rw (eq-eqb i.present.column j e, f) (wait_turn room i.present.shape x))
 
-  pub longs-turn : (room left : ℕ) (x : List ℕ) → let sh = held_shape r p y (count_of r) j in
+  pub longs_turn : (room left : ℕ) (x : List ℕ) → let sh = held_shape r p y (count_of r) j in
       (eqb (length x) (prefix sh) && is_long_of left (turn_of room sh x)) ≡ is_long room j left (slots_at r p y j) x
   unfolding is_long
-  longs-turn room left x =
-      by-slot (λ is sh. (eqb (length x) (prefix sh) && is_long_of left (turn_of room sh x)) ≡ is_long room j left is x)
-      (rw (none_turn room x) (and-false (eqb (length x) (prefix (NotTaken 0)))))
-      (λ i is e. rw (none_turn room x, e) (and-false (eqb (length x) (prefix (NotTaken 0)))))
-      (λ i is e f. rw (none_turn room x, eq-eqb i.present.column j e, f) (and-false (eqb (length x) (prefix (NotTaken 0)))))
-      (λ i is e f. rw (eq-eqb i.present.column j e, f, long-turn room i.present.shape x left))
+  longs_turn room left x =
+      by_slot (λ is sh. (eqb (length x) (prefix sh) && is_long_of left (turn_of room sh x)) ≡ is_long room j left is x)
+      (rw (none_turn room x) (and_false (eqb (length x) (prefix (NotTaken 0)))))
+      (λ i is e. rw (none_turn room x, e) (and_false (eqb (length x) (prefix (NotTaken 0)))))
+      (λ i is e f. rw (none_turn room x, eq-eqb i.present.column j e, f) (and_false (eqb (length x) (prefix (NotTaken 0)))))
+      (λ i is e f. rw (eq-eqb i.present.column j e, f, long_turn room i.present.shape x left))
     where
-      and-false : (b : Bool) → (b && false) ≡ false
-      and-false true = refl
-      and-false false = refl
+      and_false : (b : Bool) → (b && false) ≡ false
+      and_false true = refl
+      and_false false = refl
 
 -- ---- the end: the first column that is due
 pub due_most : (m : ℕ) (p y : List ℕ) (j : ℕ) → due_from m p y j ≤ j + m
@@ -219,9 +219,9 @@ due_begin p y column n j rank h e f =
     })
 
 module _ (p y : List ℕ) (column n j rank : ℕ) (d : DueAt p y column n j rank) where
-  pub due-next : (j' : ℕ) → j < n → bit_lsb0 y rank ≡ true → j' ≡ first_from (n - (j + 1)) p (j + 1) → DueAt p y column n j' (rank + 1)
+  pub due_next : (j' : ℕ) → j < n → bit_lsb0 y rank ≡ true → j' ≡ first_from (n - (j + 1)) p (j + 1) → DueAt p y column n j' (rank + 1)
   unfolding due_from
-  due-next j' h e f =
+  due_next j' h e f =
       let s = d.set h in
       let c : rank + 1 ≡ count_bits p (j + 1) =
       let z : j + 1 ≡ suc j = omega arith in
@@ -235,13 +235,13 @@ module _ (p y : List ℕ) (column n j rank : ℕ) (d : DueAt p y column n j rank
       rw (k, s, b, z) in
       record { low = w.low; is_rank = w.is_rank; set = w.set; rest = d.rest ∙ u ∙ w.rest }
 
-  pub due-stop : j < n → bit_lsb0 y rank ≡ false → j ≡ due_from (n - column) p y column
+  pub due_stop : j < n → bit_lsb0 y rank ≡ false → j ≡ due_from (n - column) p y column
   unfolding due_from
-  due-stop h e =
+  due_stop h e =
       let k : n - j ≡ suc (n - suc j) = omega arith in
       let b : bit_lsb0 y (count_bits p j) ≡ false = ap (bit_lsb0 y) (sym d.is_rank) ∙ e in
       sym (d.rest ∙ rw (k, d.set h, b))
 
-  pub due-end : n ≤ j → j ≡ due_from (n - column) p y column
+  pub due_end : n ≤ j → j ≡ due_from (n - column) p y column
   unfolding due_from
-  due-end h = let k : n - j ≡ 0 = omega arith in sym (d.rest ∙ rw k)
+  due_end h = let k : n - j ≡ 0 = omega arith in sym (d.rest ∙ rw k)

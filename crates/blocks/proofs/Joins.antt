@@ -123,15 +123,15 @@ joined_read (c ∷ cs) k room nulls s o g z h = go (λ s o. joined_read cs (suc 
     same f (ok x) = ap (with_answer (c.column, x.0)) (f (drop x.1 s) (o + x.1))
     same f (refused w) = refl
 
-    by-room : ((s : List ℕ) (o : ℕ) → joined (rest s o) ≡ read_slots (slots cs (suc k) nulls) s o) → bit_lsb0 nulls k ≡ false → (v : Bool)
+    by_room : ((s : List ℕ) (o : ℕ) → joined (rest s o) ≡ read_slots (slots cs (suc k) nulls) s o) → bit_lsb0 nulls k ≡ false → (v : Bool)
         → too_long room c.shape s ≡ v
         → joined (stream_slots room (slots (c ∷ cs) k nulls) s o) ≡ read_slots (slots (c ∷ cs) k nulls) s o
-    by-room f e true v =
+    by_room f e true v =
         rw (e, v) (long_joined c.shape c.column room rest s o g.0 h z.0 (is_long_lem room c.shape s v) ∙ same f
         (read_datum c.shape c.column s))
-    by-room f e false v = rw (e, v) (read f (read_datum c.shape c.column s))
+    by_room f e false v = rw (e, v) (read f (read_datum c.shape c.column s))
 
     go : ((s : List ℕ) (o : ℕ) → joined (rest s o) ≡ read_slots (slots cs (suc k) nulls) s o) → (b : Bool) → bit_lsb0 nulls k ≡ b
         → joined (stream_slots room (slots (c ∷ cs) k nulls) s o) ≡ read_slots (slots (c ∷ cs) k nulls) s o
     go f true e = rw (e, add-zero o) (ap (with_answer (c.column, null)) (f s o))
-    go f false e = by-room f e (too_long room c.shape s) refl
+    go f false e = by_room f e (too_long room c.shape s) refl

@@ -50,8 +50,8 @@ module _ (r p : List ℕ) (column held used₀ : ℕ) (carry block : List ℕ) (
   abbrev y : List ℕ
   y = take held carry ++ block
 
-  held-length : length (take held carry) ≡ held
-  held-length = length-take-le held carry q.fits
+  held_length : length (take held carry) ≡ held
+  held_length = length-take-le held carry q.fits
 
   open_told : (is : List Slot) (used : ℕ) (x : Handed) → slots_at r p (take held carry) column ≡ is → end_over is used₀ ≡ ok used → nb ≤ held
       → give_open r p nb (opened column held used₀) carry block ≡ ok x
@@ -59,8 +59,8 @@ module _ (r p : List ℕ) (column held used₀ : ℕ) (carry block : List ℕ) (
       → (x.0.arrival ≡ end used) × (x.0.taken ≡ 0)
   unfolding give_open give_over end_over commit
   open_told is used x s f k e a =
-      let l : nb ≤ length y = omega (arith, length-append (take held carry) block, held-length) in
-      let m : slots_at r p y column ≡ is = slots_more r p (take held carry) block column q.among (omega (arith, held-length)) ∙ s in
+      let l : nb ≤ length y = omega (arith, length-append (take held carry) block, held_length) in
+      let m : slots_at r p y column ≡ is = slots_more r p (take held carry) block column q.among (omega (arith, held_length)) ∙ s in
       go is f (rw (le-ltb (length y) nb l, m) at e)
     where
       go : (is : List Slot) → end_over is used₀ ≡ ok used

@@ -70,9 +70,9 @@ module _ (r p : List ℕ) (column held left used : ℕ) (carry block t : List �
   rest = stream_slots (length carry - nulls) (slots_at r p (take nulls carry) (column + 1))
 
   -- behind the value
-  next-on : (used' : ℕ) (s : List ℕ) → future r p nulls (opened (column + 1) nulls used') carry s
+  next_on : (used' : ℕ) (s : List ℕ) → future r p nulls (opened (column + 1) nulls used') carry s
       ≡ stream_slots (length carry - nulls) (slots_at r p (take nulls carry) (column + 1)) s used'
-  next-on used' s =
+  next_on used' s =
       let k = length-take-le nulls carry m in
       let o : used' + nulls - nulls ≡ used' = omega arith in
       let z : drop nulls (take nulls carry) ++ s ≡ s = sym (drop-append-le nulls (take nulls carry) s (omega arith)) ∙ drop_at
@@ -81,23 +81,23 @@ module _ (r p : List ℕ) (column held left used : ℕ) (carry block t : List �
       ∙ from_goes r p (length carry - nulls) (column + 1) (used' + nulls - nulls) (take nulls carry) s (omega arith) (omega arith)
       ∙ rw (o, z)
 
-  none-to-come : (stream_long column left rest [] used).pieces ≡ []
+  none_to_come : (stream_long column left rest [] used).pieces ≡ []
   unfolding stream_long
-  none-to-come = rw (lt-leb left 0 some)
+  none_to_come = rw (lt-leb left 0 some)
 
-  pub long-on : On r p nulls block t (future r p nulls st carry (block ++ t)) (give_long nulls st carry block)
+  pub long_on : On r p nulls block t (future r p nulls st carry (block ++ t)) (give_long nulls st carry block)
   unfolding give_long future_in
-  long-on =
+  long_on =
       dite (dec_le (length block) 0)
       (λ (a : length block ≤ 0). let e : length block ≡ 0 = omega arith in rw (eq-eqb (length block) 0 e)
-      (refl, (empty block e, none-to-come)))
+      (refl, (empty block e, none_to_come)))
       (λ a.
       let e : length block ≡ 0 → ⊥ = λ z. absurd (omega arith) in
       dite (dec_le left (length block))
       (λ (b : left ≤ length block).
       rw (ne_eqb (length block) 0 e, le-leb left (length block) b) (
         long_whole column left rest block t used b ∙ ap (with (byte_pieces column (take left block)))
-            (sym (next-on (used + left) (drop left block ++ t))),
+            (sym (next_on (used + left) (drop left block ++ t))),
         omega (arith, length-take-le left block b, some),
       ))
       (λ b.

@@ -158,8 +158,8 @@ module _ (r p : List ℕ) (held used : ℕ) (carry block t : List ℕ) (upto : �
       ∙ rw (carried_length carry block held upto w, carried_same carry block held upto w t, o)
 
   -- the slots go by the front of the carry
-  pub front-slots : (j : ℕ) → j ≤ count_of r → nb ≤ upto → slots_at r p (take nb (carried carry block held upto)) j ≡ slots_at r p all j
-  front-slots j h l =
+  pub front_slots : (j : ℕ) → j ≤ count_of r → nb ≤ upto → slots_at r p (take nb (carried carry block held upto)) j ≡ slots_at r p all j
+  front_slots j h l =
       let m : nb ≤ length all = omega (
         arith,
         length-append (take held carry) (block ++ t),
@@ -187,7 +187,7 @@ module _ (r p : List ℕ) (held used : ℕ) (carry block t : List ℕ) (upto : �
       (drop (upto - held) block ++ t) nb k ∙ sym (carried_behind carry block held upto w t) in
       future_from r p nb j nb (used + (upto - held)) c (drop (upto - held) block ++ t)
       ∙ from_goes r p (length c - nb) j (used + (upto - held) + nb - nb) (take nb c) (drop (upto - held) block ++ t) h (omega arith)
-      ∙ rw (n, o, z, front-slots j h l)
+      ∙ rw (n, o, z, front_slots j h l)
 
 -- ---- the call, in the Open phase
 module _ (K : Type 0) (r p : List ℕ) (column held used : ℕ) (carry block t : List ℕ) (q : Ready K r p column held used carry)
@@ -211,19 +211,19 @@ module _ (K : Type 0) (r p : List ℕ) (column held used : ℕ) (carry block t :
   abbrev leaves : Outcome Handed → Type 0
   leaves g = Leaves K r p (length carry) g
 
-  hand-length : length (take held carry ++ block) ≡ held + length block
-  hand-length = length-append (take held carry) block ∙ ap (λ (k : ℕ). k + length block) (length-take-le held carry q.fits)
+  hand_length : length (take held carry ++ block) ≡ held + length block
+  hand_length = length-append (take held carry) block ∙ ap (λ (k : ℕ). k + length block) (length-take-le held carry q.fits)
 
-  hand-more : take held carry ++ (block ++ t) ≡ (take held carry ++ block) ++ t
-  hand-more = sym (append_assoc (take held carry) block t)
+  hand_more : take held carry ++ (block ++ t) ≡ (take held carry ++ block) ++ t
+  hand_more = sym (append_assoc (take held carry) block t)
 
   none_left : drop (held + length block - held) block ≡ []
   none_left = let e : held + length block - held ≡ length block = omega arith in ap (λ (k : ℕ). drop k block) e ∙ drop-length block
 
   -- what is held then, and what is to come when nothing comes
-  wait-front : (w : Within carry block held (held + length block))
+  wait_front : (w : Within carry block held (held + length block))
       → take (held + length block) (carried carry block held (held + length block)) ≡ take held carry ++ block
-  wait-front w =
+  wait_front w =
       let e : held + length block - held ≡ length block = omega arith in
       carried_front carry block held (held + length block) w ∙ ap (λ (k : ℕ). take held carry ++ take k block) e ∙ ap
       (λ (s : List ℕ). take held carry ++ s) (take-length block)
@@ -238,15 +238,15 @@ module _ (K : Type 0) (r p : List ℕ) (column held used : ℕ) (carry block t :
       let e : future r p nulls (opened j upto (used + (upto - held))) (carried carry block held upto) [] ≡ from r p nulls space j
       (used + nulls - held) y =
       future_from r p nulls j upto (used + (upto - held)) (carried carry block held upto) []
-      ∙ rw (carried_length carry block held upto w, append-nil (take upto (carried carry block held upto)), wait-front w, o) in
+      ∙ rw (carried_length carry block held upto w, append-nil (take upto (carried carry block held upto)), wait_front w, o) in
       ap (λ (v : Stream). v.pieces) e
 
   -- all of the block is held, j being the column or the first present one from it on
-  wait-on : (j : ℕ) → held + length block ≤ length carry → slots_at r p (take held carry ++ (block ++ t)) j
+  wait_on : (j : ℕ) → held + length block ≤ length carry → slots_at r p (take held carry ++ (block ++ t)) j
       ≡ slots_at r p (take held carry ++ (block ++ t)) column
       → (from r p nulls space j (used + nulls - held) y).pieces ≡ [] → kept (waiting st carry block j)
   unfolding commit from
-  wait-on j h e z =
+  wait_on j h e z =
       let upto = held + length block in
       let w : Within carry block held upto = record { low = omega arith; high = omega arith; fits = h } in (
         ap (λ (is : List Slot). cond (ltb (length (take held carry ++ (block ++ t))) nulls) (stopped (refuse 9 0))
@@ -255,14 +255,14 @@ module _ (K : Type 0) (r p : List ℕ) (column held used : ℕ) (carry block t :
         (none_left, quiet w j ∙ z),
       )
 
-  bytes-carried : (upto : ℕ) → K → Bytes (carried carry block held upto)
-  bytes-carried upto k = stored_bytes_lem carry held (take (upto - held) block) (q.spent k).0 (bytes_take (upto - held) block (kb k))
+  bytes_carried : (upto : ℕ) → K → Bytes (carried carry block held upto)
+  bytes_carried upto k = stored_bytes_lem carry held (take (upto - held) block) (q.spent k).0 (bytes_take (upto - held) block (kb k))
 
-  wait-left : (j : ℕ) → held + length block ≤ length carry → j ≤ count_of r → column ≤ j
+  wait_left : (j : ℕ) → held + length block ≤ length carry → j ≤ count_of r → column ≤ j
       → (held + length block < nulls → (j ≡ 0) × (used ≡ held))
       → (nulls < held + length block → Waiting space j (slots_at r p y j) (drop nulls y)) → leaves (waiting st carry block j)
   unfolding commit
-  wait-left j h a o f v =
+  wait_left j h a o f v =
       let upto = held + length block in
       let w : Within carry block held upto = record { low = omega arith; high = omega arith; fits = h } in
       let n = carried_length carry block held upto w in (
@@ -275,17 +275,17 @@ module _ (K : Type 0) (r p : List ℕ) (column held used : ℕ) (carry block t :
           fits = omega arith;
           counted = omega (arith, q.counted);
           first = λ (k : upto < nulls). ((f k).0, omega (arith, (f k).1));
-          waits = λ (k : nulls < upto). rw (wait-front w, n) (v k);
-          spent = λ k. (bytes-carried upto k, omega (arith, (q.spent k).1, most_mono r p column j o));
+          waits = λ (k : nulls < upto). rw (wait_front w, n) (v k);
+          spent = λ k. (bytes_carried upto k, omega (arith, (q.spent k).1, most_mono r p column j o));
         }),
       )
 
   -- nothing held behind the null bits
-  next-left : (j upto : ℕ) → Within carry block held upto → nulls ≤ upto → j ≤ count_of r
+  next_left : (j upto : ℕ) → Within carry block held upto → nulls ≤ upto → j ≤ count_of r
       → (K → used + (upto - held) ≤ nulls + most_to r p j)
       → (length (carried carry block held upto) ≡ length carry)
       × Left K r p (carried carry block held upto) (opened j nulls (used + (upto - held)))
-  next-left j upto w h a z =
+  next_left j upto w h a z =
       let n = carried_length carry block held upto w in (
         n,
         open_left j nulls (used + (upto - held)) (record {
@@ -297,80 +297,80 @@ module _ (K : Type 0) (r p : List ℕ) (column held used : ℕ) (carry block t :
           counted = omega (arith, q.counted, w.low);
           first = λ (k : nulls < nulls). absurd (omega arith);
           waits = λ (k : nulls < nulls). absurd (omega arith);
-          spent = λ k. (bytes-carried upto k, z k);
+          spent = λ k. (bytes_carried upto k, z k);
         }),
       )
 
   -- the null bits are not whole
-  short-left : length (take held carry ++ block) < nulls → leaves (give_open r p nulls st carry block)
+  short_left : length (take held carry ++ block) < nulls → leaves (give_open r p nulls st carry block)
   unfolding give_open
-  short-left h =
+  short_left h =
       rw (lt-ltb (length (take held carry ++ block)) nulls h)
-      (wait-left column (omega (arith, hand-length, q.room)) q.among (omega arith) (λ k. q.first (omega (arith, hand-length)))
-      (λ k. absurd (omega (arith, hand-length))))
+      (wait_left column (omega (arith, hand_length, q.room)) q.among (omega arith) (λ k. q.first (omega (arith, hand_length)))
+      (λ k. absurd (omega (arith, hand_length))))
 
-  short-quiet : length (take held carry ++ block) < nulls → (from r p nulls space column (used + nulls - held) y).pieces ≡ []
+  short_quiet : length (take held carry ++ block) < nulls → (from r p nulls space column (used + nulls - held) y).pieces ≡ []
   unfolding from
-  short-quiet h = rw (lt-ltb (length y) nulls h)
+  short_quiet h = rw (lt-ltb (length y) nulls h)
 
   short_on : length (take held carry ++ block) < nulls → kept (give_open r p nulls st carry block)
   unfolding give_open
   short_on h =
-      rw (lt-ltb (length (take held carry ++ block)) nulls h) (wait-on column (omega (arith, hand-length, q.room)) refl (short-quiet h))
+      rw (lt-ltb (length (take held carry ++ block)) nulls h) (wait_on column (omega (arith, hand_length, q.room)) refl (short_quiet h))
 
   -- they are
   module _ (l : nulls ≤ length (take held carry ++ block)) where
     goes : from r p nulls space column (used + nulls - held) (take held carry ++ (block ++ t))
         ≡ stream_slots space (slots_at r p y column) (drop nulls y ++ t) (used + nulls - held)
     goes =
-        ap (from r p nulls space column (used + nulls - held)) hand-more ∙ from_goes r p space column (used + nulls - held) y t q.among l
+        ap (from r p nulls space column (used + nulls - held)) hand_more ∙ from_goes r p space column (used + nulls - held) y t q.among l
 
     all_slots : (j : ℕ) → j ≤ count_of r → slots_at r p (take held carry ++ (block ++ t)) j ≡ slots_at r p y j
-    all_slots j h = ap (λ (s : List ℕ). slots_at r p s j) hand-more ∙ slots_more r p y t j h l
+    all_slots j h = ap (λ (s : List ℕ). slots_at r p s j) hand_more ∙ slots_more r p y t j h l
 
-    all-behind : (k : ℕ) → drop (nulls + k) (take held carry ++ (block ++ t)) ≡ drop k (drop nulls y ++ t)
-    all-behind k = ap (drop (nulls + k)) hand-more ∙ sym (drop-drop k nulls (y ++ t)) ∙ ap (drop k) (drop-append-le nulls y t l)
+    all_behind : (k : ℕ) → drop (nulls + k) (take held carry ++ (block ++ t)) ≡ drop k (drop nulls y ++ t)
+    all_behind k = ap (drop (nulls + k)) hand_more ∙ sym (drop-drop k nulls (y ++ t)) ∙ ap (drop k) (drop-append-le nulls y t l)
 
     -- a column answered with k bytes behind the null bits, and then the next
-    rest-on : (j k upto : ℕ) → upto ≡ nulls + k → Within carry block held upto → j ≤ count_of r
+    rest_on : (j k upto : ℕ) → upto ≡ nulls + k → Within carry block held upto → j ≤ count_of r
         → future r p nulls (opened j nulls (used + (upto - held))) (carried carry block held upto) (drop (upto - held) block ++ t)
         ≡ stream_slots space (slots_at r p y j) (drop k (drop nulls y ++ t)) (used + nulls - held + k)
-    rest-on j k upto e w h =
+    rest_on j k upto e w h =
         let o : used + (upto - held) ≡ used + nulls - held + k = omega (arith, w.low, q.counted) in
         moved_on r p held used carry block t upto w j h (omega arith)
         ∙ rw (all_slots j h, o)
         (ap (λ (s : List ℕ). stream_slots space (slots_at r p y j) s (used + nulls - held + k))
-        (ap (λ (x : ℕ). drop x (take held carry ++ (block ++ t))) e ∙ all-behind k))
+        (ap (λ (x : ℕ). drop x (take held carry ++ (block ++ t))) e ∙ all_behind k))
 
     -- bytes are held behind the null bits only for a value that waits
-    held-waits : nulls < held → Waiting space column (slots_at r p y column) (drop nulls (take held carry))
-    held-waits h =
+    held_waits : nulls < held → Waiting space column (slots_at r p y column) (drop nulls (take held carry))
+    held_waits h =
         let e = slots_more r p (take held carry) block column q.among (omega (arith, length-take-le held carry q.fits)) in
         subst (λ (is : List Slot). Waiting space column is (drop nulls (take held carry))) (sym e) (q.waits h)
 
-    none-held : slots_at r p y column ≡ [] → held ≤ nulls
-    none-held e =
+    none_held : slots_at r p y column ≡ [] → held ≤ nulls
+    none_held e =
         dite (dec_le held nulls) (λ (h : held ≤ nulls). h)
-        (λ h. absurd (subst (λ (is : List Slot). Waiting space column is (drop nulls (take held carry))) e (held-waits (omega arith))))
+        (λ h. absurd (subst (λ (is : List Slot). Waiting space column is (drop nulls (take held carry))) e (held_waits (omega arith))))
 
     module _ (i : Slot) (is : List Slot) (e : slots_at r p y column ≡ i ∷ is) where
-      slot-waits : nulls < held → Waiting space column (i ∷ is) (drop nulls (take held carry))
-      slot-waits h = subst (λ (is : List Slot). Waiting space column is (drop nulls (take held carry))) e (held-waits h)
+      slot_waits : nulls < held → Waiting space column (i ∷ is) (drop nulls (take held carry))
+      slot_waits h = subst (λ (is : List Slot). Waiting space column is (drop nulls (take held carry))) e (held_waits h)
 
-      null-held : i.null ≡ true → held ≤ nulls
-      null-held n = dite (dec_le held nulls) (λ (h : held ≤ nulls). h) (λ h. absurd (true≢false (sym n ∙ (slot-waits (omega arith)).0)))
+      null_held : i.null ≡ true → held ≤ nulls
+      null_held n = dite (dec_le held nulls) (λ (h : held ≤ nulls). h) (λ h. absurd (true≢false (sym n ∙ (slot_waits (omega arith)).0)))
 
     -- no column is left
     end_on : slots_at r p y column ≡ [] → kept (give_open r p nulls st carry block)
     unfolding give_open give_over commit stream_slots
     end_on e =
-        let h = none-held e in
+        let h = none_held e in
         let o : used + nulls - held ≡ used + (nulls - held) = omega arith in
-        let w : Within carry block held nulls = record { low = h; high = omega (arith, hand-length); fits = omega (arith, q.room) } in
+        let w : Within carry block held nulls = record { low = h; high = omega (arith, hand_length); fits = omega (arith, q.room) } in
         let c = carried carry block held nulls in
         let n = carried_length carry block held nulls w in
         let k : length (take nulls c) ≡ nulls = length-take-le nulls c (omega (arith, q.room)) in
-        let z : slots_at r p (take nulls c) column ≡ [] = front-slots r p held used carry block t nulls w column q.among (omega arith)
+        let z : slots_at r p (take nulls c) column ≡ [] = front_slots r p held used carry block t nulls w column q.among (omega arith)
         ∙ all_slots column q.among ∙ e in
         let i : used + (nulls - held) + nulls - nulls ≡ used + (nulls - held) = omega arith in
         rw (le-ltb (length y) nulls l, e) (
@@ -381,13 +381,13 @@ module _ (K : Type 0) (r p : List ℕ) (column held used : ℕ) (carry block t :
               ∙ rw (z, i),
         )
 
-    end-left : slots_at r p y column ≡ [] → leaves (give_open r p nulls st carry block)
+    end_left : slots_at r p y column ≡ [] → leaves (give_open r p nulls st carry block)
     unfolding give_open give_over commit
-    end-left e =
+    end_left e =
         let w : Within carry block held nulls = record
-        { low = none-held e; high = omega (arith, hand-length); fits = omega (arith, q.room) } in
+        { low = none_held e; high = omega (arith, hand_length); fits = omega (arith, q.room) } in
         rw (le-ltb (length y) nulls l, e)
-        (next-left column nulls w (omega arith) q.among (λ k. omega (arith, (q.spent k).1, none-held e)))
+        (next_left column nulls w (omega arith) q.among (λ k. omega (arith, (q.spent k).1, none_held e)))
 
     -- f is the first column that is left
     module _ (f : ℕ) (g : f ≡ first_from (count_of r - column) p column) (b : f < count_of r) where
@@ -400,8 +400,8 @@ module _ (K : Type 0) (r p : List ℕ) (column held used : ℕ) (carry block t :
       abbrev behind : List Slot
       behind = slots_at r p y (f + 1)
 
-      slots-are : slots_at r p y column ≡ slot_at r p y f ∷ slots_at r p y (f + 1)
-      slots-are =
+      slots_are : slots_at r p y column ≡ slot_at r p y f ∷ slots_at r p y (f + 1)
+      slots_are =
           subst (λ (k : ℕ). slots_at r p y column ≡ slot_at r p y k ∷ slots_at r p y (k + 1)) (sym g)
           (slots_first r p y column q.among (omega arith))
 
@@ -409,8 +409,8 @@ module _ (K : Type 0) (r p : List ℕ) (column held used : ℕ) (carry block t :
       unfolding shape_at
       good = record { sized = sized (column_of (entry_in r f)); taken = valid_column r f q.over.valid b }
 
-      from-column : column ≤ f
-      from-column = subst (λ (k : ℕ). column ≤ k) (sym g) (first_is (count_of r - column) p column).low
+      from_column : column ≤ f
+      from_column = subst (λ (k : ℕ). column ≤ k) (sym g) (first_is (count_of r - column) p column).low
 
       is_set : bit_lsb0 p f ≡ true
       is_set =
@@ -418,137 +418,137 @@ module _ (K : Type 0) (r p : List ℕ) (column held used : ℕ) (carry block t :
           (omega (arith, q.among))
 
       -- NULL
-      null-on : bit_lsb0 y (count_bits p f) ≡ true → kept (give_open r p nulls st carry block)
+      null_on : bit_lsb0 y (count_bits p f) ≡ true → kept (give_open r p nulls st carry block)
       unfolding give_open give_over commit stream_slots
-      null-on n =
-          let h = null-held slot behind slots-are n in
-          let w : Within carry block held nulls = record { low = h; high = omega (arith, hand-length); fits = omega (arith, q.room) } in
-          let a = rest-on (f + 1) 0 nulls (sym (add-zero nulls)) w (omega arith) in
-          rw (le-ltb (length y) nulls l, slots-are, n)
-          (goes ∙ rw (slots-are, n) (ap (with (datum f nullDatum ∷ [])) (sym (rw (add-zero (used + nulls - held)) at a))), tt)
+      null_on n =
+          let h = null_held slot behind slots_are n in
+          let w : Within carry block held nulls = record { low = h; high = omega (arith, hand_length); fits = omega (arith, q.room) } in
+          let a = rest_on (f + 1) 0 nulls (sym (add-zero nulls)) w (omega arith) in
+          rw (le-ltb (length y) nulls l, slots_are, n)
+          (goes ∙ rw (slots_are, n) (ap (with (datum f nullDatum ∷ [])) (sym (rw (add-zero (used + nulls - held)) at a))), tt)
 
-      null-left : bit_lsb0 y (count_bits p f) ≡ true → leaves (give_open r p nulls st carry block)
+      null_left : bit_lsb0 y (count_bits p f) ≡ true → leaves (give_open r p nulls st carry block)
       unfolding give_open give_over commit
-      null-left n =
+      null_left n =
           let w : Within carry block held nulls = record
-          { low = null-held slot behind slots-are n; high = omega (arith, hand-length); fits = omega (arith, q.room) } in
-          rw (le-ltb (length y) nulls l, slots-are, n) (next-left (f + 1) nulls w (omega arith) (omega arith)
-          (λ k. omega (arith, (q.spent k).1, null-held slot behind slots-are n, most_mono r p column (f + 1) (omega (arith, from-column)))))
+          { low = null_held slot behind slots_are n; high = omega (arith, hand_length); fits = omega (arith, q.room) } in
+          rw (le-ltb (length y) nulls l, slots_are, n) (next_left (f + 1) nulls w (omega arith) (omega arith)
+          (λ k. omega (arith, (q.spent k).1, null_held slot behind slots_are n, most_mono r p column (f + 1) (omega (arith, from_column)))))
 
-      slots-from : slots_at r p y f ≡ slot_at r p y f ∷ slots_at r p y (f + 1)
-      slots-from =
-          subst (λ (k : ℕ). slots_at r p y k ≡ slots_at r p y column) (sym g) (slots_again r p y column q.among (omega arith)) ∙ slots-are
+      slots_from : slots_at r p y f ≡ slot_at r p y f ∷ slots_at r p y (f + 1)
+      slots_from =
+          subst (λ (k : ℕ). slots_at r p y k ≡ slots_at r p y column) (sym g) (slots_again r p y column q.among (omega arith)) ∙ slots_are
 
       module _ (n : bit_lsb0 y (count_bits p f) ≡ false) where
         abbrev x : List ℕ
         x = drop nulls y
 
         -- how many bytes are at hand behind the null bits
-        x-length : length x ≡ held + length block - nulls
-        x-length = length-drop nulls y ∙ ap (λ (k : ℕ). k - nulls) hand-length
+        x_length : length x ≡ held + length block - nulls
+        x_length = length-drop nulls y ∙ ap (λ (k : ℕ). k - nulls) hand_length
 
-        by_turn : (v : TurnSaid) → turn_of space sh x ≡ v → kept (by_turn nulls sh f x st carry block v)
+        by_turn_lem : (v : TurnSaid) → turn_of space sh x ≡ v → kept (by_turn nulls sh f x st carry block v)
             → kept (give_open r p nulls st carry block)
         unfolding give_open give_over
-        by_turn v e k = rw (le-ltb (length y) nulls l, slots-are, n, e) k
+        by_turn_lem v e k = rw (le-ltb (length y) nulls l, slots_are, n, e) k
 
-        x-more : (t : List ℕ) → drop nulls (take held carry ++ (block ++ t)) ≡ x ++ t
-        x-more t = ap (drop nulls) (sym (append_assoc (take held carry) block t)) ∙ drop-append-le nulls y t l
+        x_more : (t : List ℕ) → drop nulls (take held carry ++ (block ++ t)) ≡ x ++ t
+        x_more t = ap (drop nulls) (sym (append_assoc (take held carry) block t)) ∙ drop-append-le nulls y t l
 
         -- the part of it that was held before
         abbrev old : List ℕ
         old = drop nulls (take held carry)
 
-        old-length : length old ≡ held - nulls
-        old-length = length-drop nulls (take held carry) ∙ ap (λ (k : ℕ). k - nulls) (length-take-le held carry q.fits)
+        old_length : length old ≡ held - nulls
+        old_length = length-drop nulls (take held carry) ∙ ap (λ (k : ℕ). k - nulls) (length-take-le held carry q.fits)
 
-        x-old : nulls ≤ held → x ≡ old ++ block
-        x-old h = drop-append-le nulls (take held carry) block (omega (arith, length-take-le held carry q.fits))
+        x_old : nulls ≤ held → x ≡ old ++ block
+        x_old h = drop-append-le nulls (take held carry) block (omega (arith, length-take-le held carry q.fits))
 
         -- so what was held was less than tells a long value, and less than a whole one
-        before-long : too_long space sh x ≡ true → held ≤ nulls + prefix sh
-        before-long v =
+        before_long : too_long space sh x ≡ true → held ≤ nulls + prefix sh
+        before_long v =
             dite (dec_le held nulls) (λ (h : held ≤ nulls). omega arith)
             (λ h.
-            let w = slot-waits slot behind slots-are (omega arith) in
-            let a = old-length in
+            let w = slot_waits slot behind slots_are (omega arith) in
+            let a = old_length in
             dite (dec_le (prefix sh) (length old))
             (λ (k : prefix sh ≤ length old). absurd
-            (true≢false (sym v ∙ ap (too_long space sh) (x-old (omega arith)) ∙ long_front space sh old block k ∙ w.1)))
+            (true≢false (sym v ∙ ap (too_long space sh) (x_old (omega arith)) ∙ long_front space sh old block k ∙ w.1)))
             (λ k. omega arith))
 
-        before-whole : held ≤ nulls + need sh x
-        before-whole =
+        before_whole : held ≤ nulls + need sh x
+        before_whole =
             dite (dec_le held nulls) (λ (h : held ≤ nulls). omega arith)
             (λ h.
-            let w = slot-waits slot behind slots-are (omega arith) in
-            let a = old-length in
+            let w = slot_waits slot behind slots_are (omega arith) in
+            let a = old_length in
             dite (dec_le (prefix sh) (length old))
-            (λ (k : prefix sh ≤ length old). omega (arith, ap (need sh) (x-old (omega arith)) ∙ need_front sh old block k, w.2))
+            (λ (k : prefix sh ≤ length old). omega (arith, ap (need sh) (x_old (omega arith)) ∙ need_front sh old block k, w.2))
             (λ k. omega (arith, prefix_within sh x)))
 
-        wait-fits : too_long space sh x ≡ false → length x < need sh x → held + length block ≤ length carry
-        wait-fits v h =
+        wait_fits : too_long space sh x ≡ false → length x < need sh x → held + length block ≤ length carry
+        wait_fits v h =
             let m : length x < length carry - nulls =
             dite (dec_le (prefix sh) (length x))
             (λ (k : prefix sh ≤ length x). omega (arith, not_long space sh x v k))
             (λ k. omega (arith, prefix_most sh good.sized, q.room)) in
-            omega (arith, x-length, q.room)
+            omega (arith, x_length, q.room)
 
-        wait-quiet : too_long space sh x ≡ false → length x < need sh x → (from r p nulls space f (used + nulls - held) y).pieces ≡ []
+        wait_quiet : too_long space sh x ≡ false → length x < need sh x → (from r p nulls space f (used + nulls - held) y).pieces ≡ []
         unfolding from stream_slots
-        wait-quiet v h = rw (le-ltb (length y) nulls l, slots-from, n, v, fails_back sh f x (why 9 f) good.taken (short h))
+        wait_quiet v h = rw (le-ltb (length y) nulls l, slots_from, n, v, fails_back sh f x (why 9 f) good.taken (short h))
 
         -- not enough bytes
-        wait-turn : too_long space sh x ≡ false → length x < need sh x → kept (by_turn nulls sh f x st carry block wait)
+        wait_turn : too_long space sh x ≡ false → length x < need sh x → kept (by_turn nulls sh f x st carry block wait)
         unfolding by_turn
-        wait-turn v h =
-            wait-on f (wait-fits v h)
+        wait_turn v h =
+            wait_on f (wait_fits v h)
             (subst (λ (k : ℕ). slots_at r p (take held carry ++ (block ++ t)) k ≡ slots_at r p (take held carry ++ (block ++ t)) column)
             (sym g)
             (slots_again r p (take held carry ++ (block ++ t)) column q.among (omega arith)))
-            (wait-quiet v h)
+            (wait_quiet v h)
 
-        turn-left : (v : TurnSaid) → turn_of space sh x ≡ v → leaves (by_turn nulls sh f x st carry block v)
+        turn_left : (v : TurnSaid) → turn_of space sh x ≡ v → leaves (by_turn nulls sh f x st carry block v)
             → leaves (give_open r p nulls st carry block)
         unfolding give_open give_over
-        turn-left v e k = rw (le-ltb (length y) nulls l, slots-are, n, e) k
+        turn_left v e k = rw (le-ltb (length y) nulls l, slots_are, n, e) k
 
-        wait-turn-left : too_long space sh x ≡ false → length x < need sh x → leaves (by_turn nulls sh f x st carry block wait)
+        wait_turn_left : too_long space sh x ≡ false → length x < need sh x → leaves (by_turn nulls sh f x st carry block wait)
         unfolding by_turn
-        wait-turn-left v h =
-            wait-left f (wait-fits v h) (omega arith) from-column (λ k. absurd (omega (arith, hand-length)))
-            (λ k. subst (λ (is : List Slot). Waiting space f is x) (sym slots-from) (n, v, h, refl))
+        wait_turn_left v h =
+            wait_left f (wait_fits v h) (omega arith) from_column (λ k. absurd (omega (arith, hand_length)))
+            (λ k. subst (λ (is : List Slot). Waiting space f is x) (sym slots_from) (n, v, h, refl))
 
         -- how many bytes it may take
         has_room : K → most_to r p column + need sh x ≤ most_to r p (f + 1)
         has_room k =
             let b = bytes_drop nulls y (bytes_append (take held carry) block (bytes_take held carry (q.spent k).0) (kb k)) in
-            omega (arith, most_mono r p column f from-column, most_next r p f is_set, need_most sh x b)
+            omega (arith, most_mono r p column f from_column, most_next r p f is_set, need_most sh x b)
 
         -- a value for which there is no room
-        long-turn : too_long space sh x ≡ true → kept (by_turn nulls sh f x st carry block (long₁ (need sh x - prefix sh)))
+        long_turn : too_long space sh x ≡ true → kept (by_turn nulls sh f x st carry block (long₁ (need sh x - prefix sh)))
         unfolding by_turn commit stream_slots future_in
-        long-turn v =
+        long_turn v =
             let upto = nulls + prefix sh in
             let i = is_long_lem space sh x v in
             let w : Within carry block held upto =
             record {
               low =
-                  before-long v;
+                  before_long v;
               high =
-                  omega (arith, x-length, i.there, l, hand-length);
+                  omega (arith, x_length, i.there, l, hand_length);
               fits = omega (arith, prefix_most sh good.sized, q.room);
             } in
             let c = carried carry block held upto in
-            let z : drop (upto - held) block ++ t ≡ drop (prefix sh) (x ++ t) = sym (carried_behind carry block held upto w t) ∙ all-behind
+            let z : drop (upto - held) block ++ t ≡ drop (prefix sh) (x ++ t) = sym (carried_behind carry block held upto w t) ∙ all_behind
             (prefix sh) in
-            let k : slots_at r p (take nulls c) (f + 1) ≡ behind = front-slots r p held used carry block t upto w (f + 1) (omega arith)
+            let k : slots_at r p (take nulls c) (f + 1) ≡ behind = front_slots r p held used carry block t upto w (f + 1) (omega arith)
             (omega arith) ∙ all_slots (f + 1) (omega arith) in
             let o : used + (upto - held) ≡ used + nulls - held + prefix sh = omega (arith, w.low, q.counted) in (
               goes
                   ∙ rw (
-                    slots-are,
+                    slots_are,
                     n,
                     long_front space sh x t i.there,
                     v,
@@ -562,31 +562,31 @@ module _ (K : Type 0) (r p : List ℕ) (column held used : ℕ) (carry block t :
               tt,
             )
 
-        long-within : too_long space sh x ≡ true → Within carry block held (nulls + prefix sh)
-        long-within v =
+        long_within : too_long space sh x ≡ true → Within carry block held (nulls + prefix sh)
+        long_within v =
             record {
               low =
-                  before-long v;
+                  before_long v;
               high =
-                  omega (arith, x-length, (is_long_lem space sh x v).there, l, hand-length);
+                  omega (arith, x_length, (is_long_lem space sh x v).there, l, hand_length);
               fits =
                   omega (arith, prefix_most sh good.sized, q.room);
             }
 
         -- just the length bytes are held
-        long-front-is : (v : too_long space sh x ≡ true)
+        long_front_is : (v : too_long space sh x ≡ true)
             → drop nulls (take (nulls + prefix sh) (carried carry block held (nulls + prefix sh))) ≡ take (prefix sh) x
-        long-front-is v =
+        long_front_is v =
             let upto = nulls + prefix sh in
-            ap (drop nulls) (sym (carried_before carry block held upto (long-within v) [] upto (omega arith)))
+            ap (drop nulls) (sym (carried_before carry block held upto (long_within v) [] upto (omega arith)))
             ∙ ap (λ (s : List ℕ). drop nulls (take upto s)) (ap (λ (s : List ℕ). take held carry ++ s) (append-nil block))
             ∙ sym (part_of nulls (prefix sh) y l)
 
-        long-turn-left : too_long space sh x ≡ true → leaves (by_turn nulls sh f x st carry block (long₁ (need sh x - prefix sh)))
+        long_turn_left : too_long space sh x ≡ true → leaves (by_turn nulls sh f x st carry block (long₁ (need sh x - prefix sh)))
         unfolding by_turn commit
-        long-turn-left v =
+        long_turn_left v =
             let upto = nulls + prefix sh in
-            let w = long-within v in
+            let w = long_within v in
             let i = is_long_lem space sh x v in
             let c = carried carry block held upto in
             let m = carried_length carry block held upto w in
@@ -598,7 +598,7 @@ module _ (K : Type 0) (r p : List ℕ) (column held used : ℕ) (carry block t :
             let e : slots_at r p (take upto c) f ≡ slot ∷ behind =
             sym (slots_more r p (take upto c) (drop (upto - held) block ++ t) f (omega arith)
             (omega (arith, front_length carry block held upto w)))
-            ∙ ap (λ (s : List ℕ). slots_at r p s f) (carried_same carry block held upto w t) ∙ all_slots f (omega arith) ∙ slots-from in
+            ∙ ap (λ (s : List ℕ). slots_at r p s f) (carried_same carry block held upto w t) ∙ all_slots f (omega arith) ∙ slots_from in
             let a : Longing space f (need sh x - prefix sh) (slot ∷ behind) h = (n, t₁, k, omega arith, refl) in (
               m,
               long_left f upto (need sh x - prefix sh) (used + (upto - held)) (record {
@@ -610,8 +610,8 @@ module _ (K : Type 0) (r p : List ℕ) (column held used : ℕ) (carry block t :
                 fits = omega (arith, w.fits);
                 counted = omega (arith, q.counted, w.low);
                 some = omega (arith, i.over, prefix_most sh good.sized, q.room);
-                longs = rw (e, long-front-is v, m) a;
-                spent = λ k. (bytes-carried upto k, omega (arith, (q.spent k).1, has_room k, w.low, prefix_within sh x));
+                longs = rw (e, long_front_is v, m) a;
+                spent = λ k. (bytes_carried upto k, omega (arith, (q.spent k).1, has_room k, w.low, prefix_within sh x));
               }),
             )
 
@@ -622,21 +622,21 @@ module _ (K : Type 0) (r p : List ℕ) (column held used : ℕ) (carry block t :
 
           within : Within carry block held (nulls + need sh x)
           within = record {
-            low = before-whole;
-            high = omega (arith, x-length, h, l, hand-length);
+            low = before_whole;
+            high = omega (arith, x_length, h, l, hand_length);
             fits = omega (arith, not_long space sh x v (omega (arith, prefix_within sh x)), q.room);
           }
 
-          streamed-is : from r p nulls space column (used + nulls - held) (take held carry ++ (block ++ t))
+          streamed_is : from r p nulls space column (used + nulls - held) (take held carry ++ (block ++ t))
               ≡ streamed f (λ k. stream_slots space behind (drop k (x ++ t)) (used + nulls - held + k))
               (after (judged sh f (take (need sh x) x)) (λ d. ok (d, need sh x)))
           unfolding stream_slots
-          streamed-is =
-              goes ∙ rw (slots-are, n, long_front space sh x t (omega (arith, prefix_within sh x)), v, read_whole sh f x t good.taken h)
+          streamed_is =
+              goes ∙ rw (slots_are, n, long_front space sh x t (omega (arith, prefix_within sh x)), v, read_whole sh f x t good.taken h)
 
           -- its bytes as they stand in the carry
-          bytes-are : take (need sh x) (drop nulls (carried carry block held upto)) ≡ take (need sh x) x
-          bytes-are =
+          bytes_are : take (need sh x) (drop nulls (carried carry block held upto)) ≡ take (need sh x) x
+          bytes_are =
               let c = carried carry block held upto in
               let m : nulls ≤ length c = omega (arith, carried_length carry block held upto within, q.room) in
               part_of nulls (need sh x) c m
@@ -644,88 +644,88 @@ module _ (K : Type 0) (r p : List ℕ) (column held used : ℕ) (carry block t :
               ∙ ap (λ (s : List ℕ). drop nulls (take upto s)) (ap (λ (s : List ℕ). take held carry ++ s) (append-nil block))
               ∙ sym (part_of nulls (need sh x) y l)
 
-          whole-turn : kept (by_turn nulls sh f x st carry block (whole (need sh x)))
+          whole_turn : kept (by_turn nulls sh f x st carry block (whole (need sh x)))
           unfolding by_turn commit
-          whole-turn = go (judged sh f (take (need sh x) x)) refl
+          whole_turn = go (judged sh f (take (need sh x) x)) refl
             where
               go : (u : Outcome Datum) → judged sh f (take (need sh x) x) ≡ u
                   → kept (after u (λ d. ok (commit st carry block upto (value f (placed upto d)) (opened (f + 1) nulls (used_to st upto)))))
-              go (refused u) e = streamed-is ∙ rw e
+              go (refused u) e = streamed_is ∙ rw e
               go (ok d) e =
-                  let a = said_whole sh f nulls (carried carry block held upto) x d h bytes-are e in (
-                    streamed-is ∙ rw (e, a)
-                        (ap (with (datum f d ∷ [])) (sym (rest-on (f + 1) (need sh x) upto refl within (omega arith)))),
+                  let a = said_whole sh f nulls (carried carry block held upto) x d h bytes_are e in (
+                    streamed_is ∙ rw (e, a)
+                        (ap (with (datum f d ∷ [])) (sym (rest_on (f + 1) (need sh x) upto refl within (omega arith)))),
                     tt,
                   )
 
-          whole-turn-left : leaves (by_turn nulls sh f x st carry block (whole (need sh x)))
+          whole_turn_left : leaves (by_turn nulls sh f x st carry block (whole (need sh x)))
           unfolding by_turn commit
-          whole-turn-left = go (judged sh f (take (need sh x) x))
+          whole_turn_left = go (judged sh f (take (need sh x) x))
             where
               go : (u : Outcome Datum)
                   → leaves (after u
                   (λ d. ok (commit st carry block upto (value f (placed upto d)) (opened (f + 1) nulls (used_to st upto)))))
               go (refused u) = tt
               go (ok d) =
-                  next-left (f + 1) upto within (omega arith) (omega arith) (λ k. omega (arith, (q.spent k).1, has_room k, before-whole))
+                  next_left (f + 1) upto within (omega arith) (omega arith) (λ k. omega (arith, (q.spent k).1, has_room k, before_whole))
 
-        value-left : leaves (give_open r p nulls st carry block)
+        value_left : leaves (give_open r p nulls st carry block)
         unfolding turn_of
-        value-left = go (too_long space sh x) refl
+        value_left = go (too_long space sh x) refl
           where
             go : (v : Bool) → too_long space sh x ≡ v → leaves (give_open r p nulls st carry block)
-            go true v = turn-left (long₁ (need sh x - prefix sh)) (rw v) (long-turn-left v)
+            go true v = turn_left (long₁ (need sh x - prefix sh)) (rw v) (long_turn_left v)
             go false v =
                 dite (dec_le (need sh x) (length x))
-                (λ (h : need sh x ≤ length x). turn-left (whole (need sh x)) (rw (v, le-ltb (length x) (need sh x) h))
-                (whole-turn-left v h))
-                (λ h. turn-left wait (rw (v, lt-ltb (length x) (need sh x) (omega arith))) (wait-turn-left v (omega arith)))
+                (λ (h : need sh x ≤ length x). turn_left (whole (need sh x)) (rw (v, le-ltb (length x) (need sh x) h))
+                (whole_turn_left v h))
+                (λ h. turn_left wait (rw (v, lt-ltb (length x) (need sh x) (omega arith))) (wait_turn_left v (omega arith)))
 
         value_on : kept (give_open r p nulls st carry block)
         unfolding turn_of
         value_on = go (too_long space sh x) refl
           where
             go : (v : Bool) → too_long space sh x ≡ v → kept (give_open r p nulls st carry block)
-            go true v = by_turn (long₁ (need sh x - prefix sh)) (rw v) (long-turn v)
+            go true v = by_turn_lem (long₁ (need sh x - prefix sh)) (rw v) (long_turn v)
             go false v =
                 dite (dec_le (need sh x) (length x))
-                (λ (h : need sh x ≤ length x). by_turn (whole (need sh x)) (rw (v, le-ltb (length x) (need sh x) h)) (whole-turn v h))
-                (λ h. by_turn wait (rw (v, lt-ltb (length x) (need sh x) (omega arith))) (wait-turn v (omega arith)))
+                (λ (h : need sh x ≤ length x). by_turn_lem (whole (need sh x)) (rw (v, le-ltb (length x) (need sh x) h)) (whole_turn v h))
+                (λ h. by_turn_lem wait (rw (v, lt-ltb (length x) (need sh x) (omega arith))) (wait_turn v (omega arith)))
 
-      slot-on : kept (give_open r p nulls st carry block)
-      slot-on = go (bit_lsb0 y (count_bits p f)) refl
+      slot_on : kept (give_open r p nulls st carry block)
+      slot_on = go (bit_lsb0 y (count_bits p f)) refl
         where
           go : (b : Bool) → bit_lsb0 y (count_bits p f) ≡ b → kept (give_open r p nulls st carry block)
-          go true n = null-on n
+          go true n = null_on n
           go false n = value_on n
 
-      slot-left : leaves (give_open r p nulls st carry block)
-      slot-left = go (bit_lsb0 y (count_bits p f)) refl
+      slot_left : leaves (give_open r p nulls st carry block)
+      slot_left = go (bit_lsb0 y (count_bits p f)) refl
         where
           go : (b : Bool) → bit_lsb0 y (count_bits p f) ≡ b → leaves (give_open r p nulls st carry block)
-          go true n = null-left n
-          go false n = value-left n
+          go true n = null_left n
+          go false n = value_left n
 
-  pub open-leaves : Leaves K r p (length carry) (give_open r p nulls st carry block)
-  open-leaves =
+  pub open_leaves : Leaves K r p (length carry) (give_open r p nulls st carry block)
+  open_leaves =
       let n = count_of r in
       let f = first_from (n - column) p column in
       dite (dec_le nulls (length y))
       (λ (l : nulls ≤ length y).
       dite (dec_le n f)
-      (λ (a : n ≤ f). end-left l (slots_end r p y column q.among a))
-      (λ a. slot-left l f refl (omega arith)))
-      (λ l. short-left (omega arith))
+      (λ (a : n ≤ f). end_left l (slots_end r p y column q.among a))
+      (λ a. slot_left l f refl (omega arith)))
+      (λ l. short_left (omega arith))
 
   -- whatever the block, and whatever comes behind it
-  pub open-on : On r p nulls block t (future r p nulls st carry (block ++ t)) (give_open r p nulls st carry block)
+  pub open_on : On r p nulls block t (future r p nulls st carry (block ++ t)) (give_open r p nulls st carry block)
   unfolding future_in from
-  open-on =
+  open_on =
       let n = count_of r in
       let f = first_from (n - column) p column in
       dite (dec_le nulls (length y))
       (λ (l : nulls ≤ length y).
       dite (dec_le n f)
       (λ (a : n ≤ f). end_on l (slots_end r p y column q.among a))
-      (λ a. slot-on l f refl (omega arith)))
+      (λ a. slot_on l f refl (omega arith)))
       (λ l. short_on (omega arith))

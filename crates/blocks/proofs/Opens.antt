@@ -21,27 +21,27 @@ module _ (r p : List ℕ) (nb : ℕ) (st : Arriving) (carry block : List ℕ) wh
   abbrev y : List ℕ
   y = at_hand st carry block
 
-  pub open-short : length y < nb → give_open r p nb st carry block ≡ waiting st carry block st.column
+  pub open_short : length y < nb → give_open r p nb st carry block ≡ waiting st carry block st.column
   unfolding give_open
-  open-short h = rw (lt-ltb (length y) nb h)
+  open_short h = rw (lt-ltb (length y) nb h)
 
   module _ (l : nb ≤ length y) (h : st.column ≤ count_of r) {f : ℕ} (e : f ≡ first_from (count_of r - st.column) p st.column) where
-    pub open-end : f ≡ count_of r → give_open r p nb st carry block
+    pub open_end : f ≡ count_of r → give_open r p nb st carry block
         ≡ ok (commit st carry block nb (end (used_to st nb)) (opened st.column nb (used_to st nb)))
     unfolding give_open give_over
-    open-end g = rw (le-ltb (length y) nb l, slots_end r p y st.column h (omega arith))
+    open_end g = rw (le-ltb (length y) nb l, slots_end r p y st.column h (omega arith))
 
-    slots-are : f < count_of r → slots_at r p y st.column ≡ slot_at r p y f ∷ slots_at r p y (f + 1)
-    slots-are g =
+    slots_are : f < count_of r → slots_at r p y st.column ≡ slot_at r p y f ∷ slots_at r p y (f + 1)
+    slots_are g =
         subst (λ (k : ℕ). slots_at r p y st.column ≡ slot_at r p y k ∷ slots_at r p y (k + 1)) (sym e)
         (slots_first r p y st.column h (omega arith))
 
-    pub open-null : f < count_of r → bit_lsb0 y (count_bits p f) ≡ true → give_open r p nb st carry block
+    pub open_null : f < count_of r → bit_lsb0 y (count_bits p f) ≡ true → give_open r p nb st carry block
         ≡ ok (commit st carry block nb (null f) (opened (f + 1) nb (used_to st nb)))
     unfolding give_open give_over
-    open-null g b = rw (le-ltb (length y) nb l, slots-are g, b)
+    open_null g b = rw (le-ltb (length y) nb l, slots_are g, b)
 
-    pub open-value : f < count_of r → bit_lsb0 y (count_bits p f) ≡ false → give_open r p nb st carry block
+    pub open_value : f < count_of r → bit_lsb0 y (count_bits p f) ≡ false → give_open r p nb st carry block
         ≡ value_over nb (shape_at r f) f st carry block
     unfolding give_open give_over value_over
-    open-value g b = rw (le-ltb (length y) nb l, slots-are g, b)
+    open_value g b = rw (le-ltb (length y) nb l, slots_are g, b)

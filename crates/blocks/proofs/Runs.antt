@@ -29,9 +29,9 @@ use Rattle.blocks.specs.Streams.{Piece, datum, size, byte, Stream, byte_pieces, 
 use Rattle.blocks.specs.Joins.{joined}
 use Rattle.blocks.specs.Runs.{goes_on, Run, ends, refuses, rests, answers, concat, AllBytes}
 use Rattle.blocks.specs.Inner.Futures.{stream_slots, future_in, future}
-use Rattle.blocks.proofs.Ons.{from, future_from, On, Still, Left, open_left, long_left, Leaves, open-on, open-leaves}
-use Rattle.blocks.proofs.Longs.{long-on}
-use Rattle.blocks.proofs.Fits.{null_most, begun_left, left_fit, spent_room, fit-left, fit-room, long_leaves}
+use Rattle.blocks.proofs.Ons.{from, future_from, On, Still, Left, open_left, long_left, Leaves, open_on, open_leaves}
+use Rattle.blocks.proofs.Longs.{long_on}
+use Rattle.blocks.proofs.Fits.{null_most, begun_left, left_fit, spent_room, fit_left, fit_room, long_leaves}
 use Rattle.blocks.proofs.Finals.{end_open_lem, end_long}
 use Rattle.blocks.proofs.Wholes.{begun_walk}
 
@@ -52,16 +52,16 @@ pub give_on : (K : Type 0) (r p carry b t : List ℕ) {st : Arriving} → (K →
     → On r p (null_bytes r p) b t (future r p (null_bytes r p) st carry (b ++ t)) (give_block r p st carry b)
 unfolding give_in
 give_on K r p carry b t kb (open_left column held used q) m =
-    rw (give_is K r p carry b (open_left column held used q) m) (open-on K r p column held used carry b t q kb)
+    rw (give_is K r p carry b (open_left column held used q) m) (open_on K r p column held used carry b t q kb)
 give_on K r p carry b t kb (long_left column held left used q) m =
     rw (give_is K r p carry b (long_left column held left used q) m)
-    (long-on r p column held left used carry b t q.among (omega (arith, q.room)) q.some)
+    (long_on r p column held left used carry b t q.among (omega (arith, q.room)) q.some)
 
 pub give_leaves : (K : Type 0) (r p carry b : List ℕ) {st : Arriving} → (K → Bytes b) → Left K r p carry st → st.used ≤ image_room r p
     → Leaves K r p (length carry) (give_block r p st carry b)
 unfolding give_in
 give_leaves K r p carry b kb (open_left column held used q) m =
-    rw (give_is K r p carry b (open_left column held used q) m) (open-leaves K r p column held used carry b [] q kb)
+    rw (give_is K r p carry b (open_left column held used q) m) (open_leaves K r p column held used carry b [] q kb)
 give_leaves K r p carry b kb (long_left column held left used q) m =
     rw (give_is K r p carry b (long_left column held left used q) m) (long_leaves K r p column held left used carry b q)
 
@@ -70,7 +70,7 @@ pub fit_on : (r p carry b t : List ℕ) (st : Arriving) → Over r p → 1024 �
     ≡ true
     → On r p (null_bytes r p) b t (future r p (null_bytes r p) st carry (b ++ t)) (give_block r p st carry b)
 fit_on r p carry b t st u m e =
-    give_on ⊥ r p carry b t (λ k. absurd k) (fit-left r p carry u m st e) (fit-room r p carry u m st e)
+    give_on ⊥ r p carry b t (λ k. absurd k) (fit_left r p carry u m st e) (fit_room r p carry u m st e)
 
 -- ---- and the end call
 pub end_is : (K : Type 0) (r p carry : List ℕ) {st : Arriving} → Left K r p carry st → st.used ≤ image_room r p

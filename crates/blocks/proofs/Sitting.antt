@@ -24,32 +24,32 @@ use Rattle.blocks.specs.declared.state.Given.{Given}
 use Rattle.blocks.specs.States.{more, null, end}
 use Rattle.blocks.specs.Gives.{used_to, give_open}
 use Rattle.blocks.specs.Inner.Hands.{value_over, took_by, standing, Sits, Holds}
-use Rattle.blocks.proofs.Opens.{open-short, open-end, open-null, open-value}
-use Rattle.blocks.proofs.Values.{Answers, open-answer}
+use Rattle.blocks.proofs.Opens.{open_short, open_end, open_null, open_value}
+use Rattle.blocks.proofs.Values.{Answers, open_answer}
 
 module _ {r p : List ℕ} {room len columns nb : ℕ} {at : Arriving} (q : Sits r p room len columns nb at) where
-  pub short-fits : {b : Bool} → b ≡ ltb (at.held + len) nb → b ≡ true → at.held + len ≤ room
-  short-fits e f = omega (arith, q.room, ltb-true (at.held + len) nb (sym e ∙ f))
+  pub short_fits : {b : Bool} → b ≡ ltb (at.held + len) nb → b ≡ true → at.held + len ≤ room
+  short_fits e f = omega (arith, q.room, ltb-true (at.held + len) nb (sym e ∙ f))
 
   pub not_short : {b : Bool} → b ≡ ltb (at.held + len) nb → b ≡ false → nb ≤ at.held + len
   not_short e f = ltb-false (at.held + len) nb (sym e ∙ f)
 
-  pub end-used : {k : ℕ} → nb ≤ at.held + len → k ≡ nb - at.held → at.used + k < 18446744073709551616
-  end-used h e = omega (arith, q.small)
+  pub end_used : {k : ℕ} → nb ≤ at.held + len → k ≡ nb - at.held → at.used + k < 18446744073709551616
+  end_used h e = omega (arith, q.small)
 
   pub found_below : {f : ℕ} → f ≡ first_from (columns - at.column) p at.column → (f ≡ columns → ⊥) → f < columns
   found_below {f} e h =
       let i = first_is (columns - at.column) p at.column in
       let l : f ≤ at.column + (columns - at.column) = subst (λ (k : ℕ). k ≤ at.column + (columns - at.column)) (sym e) i.high in
       let a = q.among in
-      absurd-or f columns (omega arith) h
+      absurd_or f columns (omega arith) h
     where
-      absurd-or : (a b : ℕ) → a ≤ b → (a ≡ b → ⊥) → a < b
-      absurd-or a b l h = omega arith
+      absurd_or : (a b : ℕ) → a ≤ b → (a ≡ b → ⊥) → a < b
+      absurd_or a b l h = omega arith
 
-  pub value-holds : {f : ℕ} {e : Entry} {kind : Column} → nb ≤ at.held + len → f ≡ first_from (columns - at.column) p at.column
+  pub value_holds : {f : ℕ} {e : Entry} {kind : Column} → nb ≤ at.held + len → f ≡ first_from (columns - at.column) p at.column
       → (f ≡ columns → ⊥) → e ≡ entry_in r f → kind ≡ column_of e → Holds room len nb at f kind
-  value-holds {f} {e} {kind} l g h i k =
+  value_holds {f} {e} {kind} l g h i k =
       let b = found_below g h in
       let t : is_taken (shape_of kind) ≡ true = rw (k, i) (valid_column r f q.valid (omega (arith, q.count))) in
       record {
@@ -74,33 +74,33 @@ module _ {r p : List ℕ} {columns nb : ℕ} {at : Arriving} (carry block : List
   abbrev all : ℕ
   all = held + length block
 
-  y-length : length y ≡ held + length block
-  y-length = length-append (take held carry) block ∙ ap (λ (k : ℕ). k + length block) (length-take-le held carry q.fits)
+  y_length : length y ≡ held + length block
+  y_length = length-append (take held carry) block ∙ ap (λ (k : ℕ). k + length block) (length-take-le held carry q.fits)
 
   among : at.column ≤ count_of r
   among = omega (arith, q.among, q.count)
 
-  pub short-returns : {b : Bool} {next : Arriving} {g : Given} {c : List ℕ} → b ≡ ltb (held + length block) nb → b ≡ true
+  pub short_returns : {b : Bool} {next : Arriving} {g : Given} {c : List ℕ} → b ≡ ltb (held + length block) nb → b ≡ true
       → next ≡ standing at.column (held + length block)
       → (g ≡ took_by at (held + length block - held) More next) × (c ≡ stored (take (held + length block - held) block) carry held)
       → Answers (give_open r p nb at carry block) carry g c
-  short-returns e f h w =
-      open-answer at carry block (give_open r p nb at carry block) (held + length block) more at.column (held + length block)
-      (open-short r p nb at carry block (omega (arith, y-length, ltb-true (held + length block) nb (sym e ∙ f)))) h w
+  short_returns e f h w =
+      open_answer at carry block (give_open r p nb at carry block) (held + length block) more at.column (held + length block)
+      (open_short r p nb at carry block (omega (arith, y_length, ltb-true (held + length block) nb (sym e ∙ f)))) h w
 
   module _ (l : nb ≤ held + length block) {f : ℕ} (e : f ≡ first_from (columns - at.column) p at.column) where
-    found-is : f ≡ first_from (count_of r - at.column) p at.column
-    found-is = e ∙ ap (λ (n : ℕ). first_from (n - at.column) p at.column) q.count
+    found_is : f ≡ first_from (count_of r - at.column) p at.column
+    found_is = e ∙ ap (λ (n : ℕ). first_from (n - at.column) p at.column) q.count
 
     there : nb ≤ length y
-    there = omega (arith, y-length)
+    there = omega (arith, y_length)
 
     pub end_returns : {k : ℕ} {next : Arriving} {g : Given} {c : List ℕ} → f ≡ columns → k ≡ nb - held → next ≡ standing at.column nb
         → (g ≡ took_by at (nb - held) (End (at.used + k)) next) × (c ≡ stored (take (nb - held) block) carry held)
         → Answers (give_open r p nb at carry block) carry g c
     end_returns {k} {next} h i n w =
-        open-answer at carry block (give_open r p nb at carry block) nb (end (used_to at nb)) at.column nb
-        (open-end r p nb at carry block there among found-is (h ∙ q.count)) n
+        open_answer at carry block (give_open r p nb at carry block) nb (end (used_to at nb)) at.column nb
+        (open_end r p nb at carry block there among found_is (h ∙ q.count)) n
         (w.0 ∙ ap (λ (m : ℕ). took_by at (nb - held) (End (at.used + m)) next) i, w.1)
 
     module _ (h : f ≡ columns → ⊥) {rank : ℕ} {b : Bool} (m : rank ≡ count_bits p f) (i : b ≡ bit_lsb0 (take held carry ++ block) rank) where
@@ -110,16 +110,16 @@ module _ {r p : List ℕ} {columns nb : ℕ} {at : Arriving} (carry block : List
       bit_is : bit_lsb0 y (count_bits p f) ≡ b
       bit_is = sym (i ∙ ap (bit_lsb0 y) m)
 
-      pub null-returns : {next : Arriving} {g : Given} {c : List ℕ} → b ≡ true → next ≡ standing (f + 1) nb
+      pub null_returns : {next : Arriving} {g : Given} {c : List ℕ} → b ≡ true → next ≡ standing (f + 1) nb
           → (g ≡ took_by at (nb - held) (Null f) next) × (c ≡ stored (take (nb - held) block) carry held)
           → Answers (give_open r p nb at carry block) carry g c
-      null-returns t n w =
-          open-answer at carry block (give_open r p nb at carry block) nb (null f) (f + 1) nb
-          (open-null r p nb at carry block there among found-is below (bit_is ∙ t)) n w
+      null_returns t n w =
+          open_answer at carry block (give_open r p nb at carry block) nb (null f) (f + 1) nb
+          (open_null r p nb at carry block there among found_is below (bit_is ∙ t)) n w
 
-      pub value-returns : {en : Entry} {kind : Column} {g : Given} {c : List ℕ} → b ≡ false → en ≡ entry_in r f → kind ≡ column_of en
+      pub value_returns : {en : Entry} {kind : Column} {g : Given} {c : List ℕ} → b ≡ false → en ≡ entry_in r f → kind ≡ column_of en
           → Answers (value_over nb (shape_of kind) f at carry block) carry g c → Answers (give_open r p nb at carry block) carry g c
       unfolding shape_at
-      value-returns {en} {kind} {g} {c} t u v w =
+      value_returns {en} {kind} {g} {c} t u v w =
           let s : shape_of kind ≡ shape_at r f = ap shape_of (v ∙ ap column_of u) in
-          rw (open-value r p nb at carry block there among found-is below (bit_is ∙ t), ← s) w
+          rw (open_value r p nb at carry block there among found_is below (bit_is ∙ t), ← s) w

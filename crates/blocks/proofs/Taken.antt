@@ -38,7 +38,7 @@ use Rattle.blocks.specs.Streams.{Stream, told}
 use Rattle.blocks.specs.Runs.{goes_on, Run, ends, refuses, rests, answers, Came, begins, gives}
 use Rattle.blocks.proofs.Turned.{turn_long, turn_whole}
 use Rattle.blocks.proofs.Ons.{Left, open_left, long_left}
-use Rattle.blocks.proofs.Fits.{begun_left, left_fit, spent_room, fit-left, fit-room}
+use Rattle.blocks.proofs.Fits.{begun_left, left_fit, spent_room, fit_left, fit_room}
 use Rattle.blocks.proofs.Fitting.{carry_tested}
 use Rattle.blocks.proofs.Runs.{give_is, give_leaves, end_is}
 
@@ -88,74 +88,74 @@ module _ (r : List ℕ) (nb : ℕ) (st : Arriving) (carry block : List ℕ) wher
   abbrev room : ℕ
   room = length carry - nb
 
-  adds-test : (b : Bool) {x y : Outcome Handed} → (b ≡ true → has x) → (b ≡ false → has y) → has (cond b x y)
-  adds-test true u v = u refl
-  adds-test false u v = v refl
+  adds_test : (b : Bool) {x y : Outcome Handed} → (b ≡ true → has x) → (b ≡ false → has y) → has (cond b x y)
+  adds_test true u v = u refl
+  adds_test false u v = v refl
 
-  adds-after : {A : Type 0} (o : Outcome A) (f : A → Outcome Handed) → ((a : A) → has (f a)) → has (after o f)
-  adds-after (ok a) f v = v a
-  adds-after (refused w) f v = none w
+  adds_after : {A : Type 0} (o : Outcome A) (f : A → Outcome Handed) → ((a : A) → has (f a)) → has (after o f)
+  adds_after (ok a) f v = v a
+  adds_after (refused w) f v = none w
 
   -- at hand is no more than was held and the block
-  hand-most : length (at_hand st carry block) ≤ st.held + length block
-  hand-most = omega (arith, length-append (take st.held carry) block, length-take st.held carry)
+  hand_most : length (at_hand st carry block) ≤ st.held + length block
+  hand_most = omega (arith, length-append (take st.held carry) block, length-take st.held carry)
 
-  adds-all : (upto : ℕ) (a : Arrived) (next : Arriving) → next.used ≡ used_to st upto → upto - st.held ≤ length block
+  adds_all : (upto : ℕ) (a : Arrived) (next : Arriving) → next.used ≡ used_to st upto → upto - st.held ≤ length block
       → Truly r room carry block (upto - st.held) (stored (take (upto - st.held) block) carry st.held) a
       → has (ok (commit st carry block upto a next))
   unfolding commit
-  adds-all upto a next e h t =
+  adds_all upto a next e h t =
       adds _ (record { used = e; front = h; few = upto - st.held; within = omega arith; left = refl; truly = t })
 
-  adds-part : (a : Arrived) (n : ℕ) (next : Arriving) → next.used ≡ st.used + n → n ≤ length block
+  adds_part : (a : Arrived) (n : ℕ) (next : Arriving) → next.used ≡ st.used + n → n ≤ length block
       → Truly r room carry block n carry a → has (parted st carry a n next)
-  adds-part a n next e h t =
+  adds_part a n next e h t =
       adds _ (record { used = e; front = h; few = 0; within = omega arith; left = sym (stored_none carry st.held); truly = t })
 
-  adds-wait : (j : ℕ) → has (waiting st carry block j)
-  adds-wait j =
+  adds_wait : (j : ℕ) → has (waiting st carry block j)
+  adds_wait j =
       let e : st.held + length block - st.held ≡ length block = omega arith in
-      adds-all (st.held + length block) more _ refl (omega (arith, e)) e
+      adds_all (st.held + length block) more _ refl (omega (arith, e)) e
 
   module _ (h : nb ≤ length (at_hand st carry block)) where
     abbrev x : List ℕ
     x = drop nb (at_hand st carry block)
 
-    adds-turn : (j : ℕ) (v : TurnSaid) → turn_of room (shape_at r j) x ≡ v → has (by_turn nb (shape_at r j) j x st carry block v)
+    adds_turn : (j : ℕ) (v : TurnSaid) → turn_of room (shape_at r j) x ≡ v → has (by_turn nb (shape_at r j) j x st carry block v)
     unfolding by_turn
-    adds-turn j wait e = adds-wait j
-    adds-turn j (long₁ n) e =
+    adds_turn j wait e = adds_wait j
+    adds_turn j (long₁ n) e =
         let w = turn_long room (shape_at r j) x n e in
-        adds-all _ _ _ refl (omega (arith, hand-most, length-drop nb (at_hand st carry block), w.0.there, h))
+        adds_all _ _ _ refl (omega (arith, hand_most, length-drop nb (at_hand st carry block), w.0.there, h))
         (omega (arith, w.0.over, w.1, prefix_within (shape_at r j) x))
-    adds-turn j (whole n) e =
+    adds_turn j (whole n) e =
         let w = turn_whole room (shape_at r j) x n e in
-        adds-after (judged (shape_at r j) j (take n x)) _
-        (λ d. adds-all _ _ _ refl (omega (arith, hand-most, length-drop nb (at_hand st carry block), w, h)) tt)
+        adds_after (judged (shape_at r j) j (take n x)) _
+        (λ d. adds_all _ _ _ refl (omega (arith, hand_most, length-drop nb (at_hand st carry block), w, h)) tt)
 
-    adds-over : (is : List Slot) → Shaped r is → has (give_over room nb is x st carry block)
+    adds_over : (is : List Slot) → Shaped r is → has (give_over room nb is x st carry block)
     unfolding give_over
-    adds-over [] f = adds-all nb _ _ refl (omega (arith, hand-most, h)) tt
-    adds-over (i ∷ is) f =
+    adds_over [] f = adds_all nb _ _ refl (omega (arith, hand_most, h)) tt
+    adds_over (i ∷ is) f =
         let j = i.present.column in
-        adds-test i.null (λ u. adds-all nb _ _ refl (omega (arith, hand-most, h)) tt)
+        adds_test i.null (λ u. adds_all nb _ _ refl (omega (arith, hand_most, h)) tt)
         (λ u.
         subst (λ (sh : Shape). has (by_turn nb sh j x st carry block (turn_of room sh x))) (sym f)
-        (adds-turn j (turn_of room (shape_at r j) x) refl))
+        (adds_turn j (turn_of room (shape_at r j) x) refl))
 
-  adds-in : (f : Phase) (p : List ℕ) → has (give_in f r p nb st carry block)
+  adds_in : (f : Phase) (p : List ℕ) → has (give_in f r p nb st carry block)
   unfolding give_in give_open give_long
-  adds-in Open p =
+  adds_in Open p =
       let y = at_hand st carry block in
-      adds-test (ltb (length y) nb) (λ u. adds-wait st.column)
-      (λ u. adds-over (ltb-false (length y) nb u) (slots_at r p y st.column) (slots_shaped r p y st.column))
-  adds-in Long p =
-      adds-test (eqb (length block) 0)
-      (λ u. adds-part more 0 st (sym (add-zero st.used)) (omega arith) (sym (eqb-true (length block) 0 u)))
+      adds_test (ltb (length y) nb) (λ u. adds_wait st.column)
+      (λ u. adds_over (ltb-false (length y) nb u) (slots_at r p y st.column) (slots_shaped r p y st.column))
+  adds_in Long p =
+      adds_test (eqb (length block) 0)
+      (λ u. adds_part more 0 st (sym (add-zero st.used)) (omega arith) (sym (eqb-true (length block) 0 u)))
       (λ u.
-      adds-test (leb st.left (length block)) (λ v. adds-part _ _ _ refl (leb-true st.left (length block) v) refl)
-      (λ v. adds-part _ _ _ refl (omega arith) refl))
-  adds-in Closed p = none _
+      adds_test (leb st.left (length block)) (λ v. adds_part _ _ _ refl (leb-true st.left (length block) v) refl)
+      (λ v. adds_part _ _ _ refl (omega arith) refl))
+  adds_in Closed p = none _
 
 pub give_given : (r p : List ℕ) (st : Arriving) (carry block : List ℕ) {x : Handed} → give_block r p st carry block ≡ ok x
     → Given r (null_bytes r p) st carry block x
@@ -165,7 +165,7 @@ give_given r p st carry block {x} e =
     let t = carry_tested r p carry a.1 in
     let n : a.0.nulls ≡ null_bytes r p = t.bits ∙ ap (λ (k : ℕ). bytes_for (count_bits p k)) t.count in
     by_test (is_fit r p a.0.columns a.0.nulls st carry) _ _ _ a.2
-    (λ u f. go (give_in st.phase r p (null_bytes r p) st carry block) (adds-in r (null_bytes r p) st carry block st.phase p)
+    (λ u f. go (give_in st.phase r p (null_bytes r p) st carry block) (adds_in r (null_bytes r p) st carry block st.phase p)
     (subst (λ (k : ℕ). give_in st.phase r p k st carry block ≡ ok x) n f))
     (λ u f. absurd (ok_not_refused (sym f)))
   where
@@ -194,8 +194,8 @@ give_sized r p st carry block {x} e =
     let g : is_fit r p (count_of r) (null_bytes r p) st carry ≡ true =
     subst (λ (k : ℕ). is_fit r p k (null_bytes r p) st carry ≡ true) t.count
     (subst (λ (k : ℕ). is_fit r p a.0.columns k st carry ≡ true) n u) in
-    let l = fit-left r p carry o t.least st g in
-    ((rw e at (give_leaves ⊥ r p carry block (λ k. absurd k) l (fit-room r p carry o t.least st g))).0, held_fits l))
+    let l = fit_left r p carry o t.least st g in
+    ((rw e at (give_leaves ⊥ r p carry block (λ k. absurd k) l (fit_room r p carry o t.least st g))).0, held_fits l))
     (λ u f. absurd (ok_not_refused (sym f)))
 
 -- ---- the end tells the bytes used
@@ -323,14 +323,14 @@ nine_left K r p carry (long_left column held left used q) = just _ refl
 -- of a fit state, made up or not
 module _ (r p : List ℕ) (st : Arriving) (carry : List ℕ) {w : Refusal} (u : Over r p) (h : 1024 ≤ length carry)
     (f : is_fit r p (count_of r) (null_bytes r p) st carry ≡ true) where
-  pub fit-ten : (block : List ℕ) → give_block r p st carry block ≡ refused w → w.number ≡ 10
-  fit-ten block e =
-      let l = fit-left r p carry u h st f in
+  pub fit_ten : (block : List ℕ) → give_block r p st carry block ≡ refused w → w.number ≡ 10
+  fit_ten block e =
+      let l = fit_left r p carry u h st f in
       only_is (give_in st.phase r p (null_bytes r p) st carry block) (ten_left ⊥ r p carry block l)
-      (sym (give_is ⊥ r p carry block l (fit-room r p carry u h st f)) ∙ e)
+      (sym (give_is ⊥ r p carry block l (fit_room r p carry u h st f)) ∙ e)
 
-  pub fit-nine : end_blocks r p st carry ≡ refused w → w.number ≡ 9
-  fit-nine e =
-      let l = fit-left r p carry u h st f in
+  pub fit_nine : end_blocks r p st carry ≡ refused w → w.number ≡ 9
+  fit_nine e =
+      let l = fit_left r p carry u h st f in
       only_is (end_in st.phase r p (null_bytes r p) st carry) (nine_left ⊥ r p carry l)
-      (sym (end_is ⊥ r p carry l (fit-room r p carry u h st f)) ∙ e)
+      (sym (end_is ⊥ r p carry l (fit_room r p carry u h st f)) ∙ e)

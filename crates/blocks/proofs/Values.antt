@@ -56,20 +56,20 @@ pub took_same : {g : Given} (at next : Arriving) (a : Arrival) {n k : ℕ} → g
 took_same at next a e f = e ∙ ap (λ (n : ℕ). took_by at n a next) f
 
 module _ (at : Arriving) (carry block : List ℕ) (o : Outcome Handed) (upto : ℕ) where
-  pub open-answer : (a : Arrived) (j h : ℕ) {g : Given} {c : List ℕ} {next : Arriving}
+  pub open_answer : (a : Arrived) (j h : ℕ) {g : Given} {c : List ℕ} {next : Arriving}
       → o ≡ ok (commit at carry block upto a (opened j h (used_to at upto))) → next ≡ standing j h
       → (g ≡ took_by at (upto - at.held) (arrival_of a) next) × (c ≡ stored (take (upto - at.held) block) carry at.held)
       → Answers o carry g c
   unfolding commit
-  open-answer a j h {g} {c} {next} e f w =
+  open_answer a j h {g} {c} {next} e f w =
       rw e (w.0 ∙ ap (took_by at (upto - at.held) (arrival_of a)) f, w.1)
 
-  pub long-answer : (a : Arrived) (j h left : ℕ) {g : Given} {c : List ℕ} {next : Arriving}
+  pub long_answer : (a : Arrived) (j h left : ℕ) {g : Given} {c : List ℕ} {next : Arriving}
       → o ≡ ok (commit at carry block upto a (longed j h left (used_to at upto))) → next ≡ longing j h left
       → (g ≡ took_by at (upto - at.held) (arrival_of a) next) × (c ≡ stored (take (upto - at.held) block) carry at.held)
       → Answers o carry g c
   unfolding commit
-  long-answer a j h left {g} {c} {next} e f w =
+  long_answer a j h left {g} {c} {next} e f w =
       rw e (w.0 ∙ ap (took_by at (upto - at.held) (arrival_of a)) f, w.1)
 
 pub no_answer : {o : Outcome Handed} {carry c : List ℕ} {g : Given} {w : Refusal} → o ≡ refused w → g ≡ shut_with (Refused w) → c ≡ carry
@@ -82,18 +82,18 @@ module _ (at : Arriving) (nb : ℕ) (block : List ℕ) {g : Given} where
   unfolding give_long
   part_none h e = e ∙ rw (eq-eqb (length block) 0 h, add-zero at.used)
 
-  pub part-last : {next : Arriving} → (length block ≡ 0 → ⊥) → at.left ≤ length block → next ≡ standing (at.column + 1) nb
+  pub part_last : {next : Arriving} → (length block ≡ 0 → ⊥) → at.left ≤ length block → next ≡ standing (at.column + 1) nb
       → g ≡ took_by at at.left (Part at.column at.left) next → g ≡ given_of (answer_of (give_long nb at [] block))
   unfolding give_long
-  part-last h l f e =
+  part_last h l f e =
       e ∙ ap (took_by at at.left (Part at.column at.left)) f
       ∙ rw (ne_eqb (length block) 0 h, le-leb at.left (length block) l)
 
-  pub part-some : {next : Arriving} → (length block ≡ 0 → ⊥) → length block < at.left
+  pub part_some : {next : Arriving} → (length block ≡ 0 → ⊥) → length block < at.left
       → next ≡ longing at.column at.held (at.left - length block)
       → g ≡ took_by at (length block) (Part at.column (length block)) next → g ≡ given_of (answer_of (give_long nb at [] block))
   unfolding give_long
-  part-some h l f e =
+  part_some h l f e =
       e ∙ ap (took_by at (length block) (Part at.column (length block))) f
       ∙ rw (ne_eqb (length block) 0 h, lt-leb at.left (length block) l)
 
@@ -121,21 +121,21 @@ module _ (sh : Shape) (carry block : List ℕ) (nb : ℕ) (at : Arriving) (j n :
   abbrev x : List ℕ
   x = drop nb y
 
-  abbrev after-it : Outcome Handed
-  after-it = by_turn nb sh j x at carry block (whole n)
+  abbrev after_it : Outcome Handed
+  after_it = by_turn nb sh j x at carry block (whole n)
 
-  y-length : length y ≡ at.held + length block
-  y-length = length-append (take at.held carry) block ∙ ap (λ (k : ℕ). k + length block) (length-take-le at.held carry w.fits)
+  y_length : length y ≡ at.held + length block
+  y_length = length-append (take at.held carry) block ∙ ap (λ (k : ℕ). k + length block) (length-take-le at.held carry w.fits)
 
-  x-there : n ≤ length x
-  x-there = omega (arith, length-drop nb y, y-length, w.high)
+  x_there : n ≤ length x
+  x_there = omega (arith, length-drop nb y, y_length, w.high)
 
   -- its bytes, in the carry
   abbrev c : List ℕ
   c = carried carry block at.held (nb + n)
 
-  c-length : length c ≡ length carry
-  c-length =
+  c_length : length c ≡ length carry
+  c_length =
       dite (dec_le at.held (nb + n))
       (λ (h : at.held ≤ nb + n). carried_length carry block at.held (nb + n) (record { low = h; high = w.high; fits = w.upto }))
       (λ h.
@@ -156,83 +156,83 @@ module _ (sh : Shape) (carry block : List ℕ) (nb : ℕ) (at : Arriving) (j n :
       ap (take (nb + n)) z
       ∙ sym (take-append-le (nb + n) (take at.held carry) block (omega arith) ∙ take-take (nb + n) at.held carry (omega arith)))
 
-  pub bytes-are : take n (drop nb c) ≡ take n x
-  bytes-are =
-      part_of nb n c (omega (arith, c-length, w.upto)) ∙ ap (drop nb) front ∙ sym (part_of nb n y (omega (arith, y-length, w.there)))
+  pub bytes_are : take n (drop nb c) ≡ take n x
+  bytes_are =
+      part_of nb n c (omega (arith, c_length, w.upto)) ∙ ap (drop nb) front ∙ sym (part_of nb n y (omega (arith, y_length, w.there)))
 
-  c-there : n ≤ length (drop nb c)
-  c-there = omega (arith, length-drop nb c, c-length, w.upto)
+  c_there : n ≤ length (drop nb c)
+  c_there = omega (arith, length-drop nb c, c_length, w.upto)
 
-  c-need : need sh (drop nb c) ≡ n
-  c-need =
+  c_need : need sh (drop nb c) ≡ n
+  c_need =
       let z = drop nb c in
-      let k : length (take n x) ≡ n = length-take-le n x x-there in
-      let h : need sh x ≤ length x = omega (arith, w.size, x-there) in
+      let k : length (take n x) ≡ n = length-take-le n x x_there in
+      let h : need sh x ≤ length x = omega (arith, w.size, x_there) in
       let v : need sh (take n x) ≡ n = subst (λ (m : ℕ). need sh (take m x) ≡ m) w.size (need_take sh x h) in
-      ap (need sh) (sym (take-append-drop n z)) ∙ ap (λ (s : List ℕ). need sh (s ++ drop n z)) bytes-are
+      ap (need sh) (sym (take-append-drop n z)) ∙ ap (λ (s : List ℕ). need sh (s ++ drop n z)) bytes_are
       ∙ need_more sh (take n x) (drop n z) (omega arith) ∙ v
 
   module _ (z : (b : List ℕ) → fault sh b ≡ 0) where
-    judged-is : judged sh j (take n x) ≡ ok (decode sh (take n x))
+    judged_is : judged sh j (take n x) ≡ ok (decode sh (take n x))
     unfolding judged
-    judged-is = rw (z (take n x))
+    judged_is = rw (z (take n x))
 
     read_is : read_value sh j c nb ≡ ok (placed (nb + n) (decode sh (take n x)), nb + n)
     unfolding read_value
-    read_is = rw (reads sh j (drop nb c) n w.taken c-need c-there (z (take n (drop nb c))), bytes-are)
+    read_is = rw (reads sh j (drop nb c) n w.taken c_need c_there (z (take n (drop nb c))), bytes_are)
 
-    pub stored-got : {v : Value} {m : ℕ} → read_value sh j c nb ≡ ok (v, m)
+    pub stored_got : {v : Value} {m : ℕ} → read_value sh j c nb ≡ ok (v, m)
         → by_turn nb sh j x at carry block (whole n)
         ≡ ok (commit at carry block (nb + n) (value j v) (opened (j + 1) nb (used_to at (nb + n))))
     unfolding by_turn
-    stored-got {v} {m} e =
+    stored_got {v} {m} e =
         let d : placed (nb + n) (decode sh (take n x)) ≡ v = ap (λ (q : Value × ℕ). q.0) (same_ok (sym read_is ∙ e)) in
-        rw judged-is (rw d)
+        rw judged_is (rw d)
 
-    pub stored-not : {v : Refusal} → read_value sh j c nb ≡ refused v → ⊥
-    stored-not e = ok_not_refused (sym read_is ∙ e)
+    pub stored_not : {v : Refusal} → read_value sh j c nb ≡ refused v → ⊥
+    stored_not e = ok_not_refused (sym read_is ∙ e)
 
-    pub stored-returns : {v : Value} {m t : ℕ} {c' : List ℕ} {g : Given} {next : Arriving} → c' ≡ c → read_value sh j c' nb ≡ ok (v, m)
-        → t ≡ nb + n - at.held → next ≡ standing (j + 1) nb → g ≡ took_by at t (Value₁ j v) next → Answers after-it carry g c'
-    stored-returns {v} {m} {t} {c'} {g} {next} e r k f h =
+    pub stored_returns : {v : Value} {m t : ℕ} {c' : List ℕ} {g : Given} {next : Arriving} → c' ≡ c → read_value sh j c' nb ≡ ok (v, m)
+        → t ≡ nb + n - at.held → next ≡ standing (j + 1) nb → g ≡ took_by at t (Value₁ j v) next → Answers after_it carry g c'
+    stored_returns {v} {m} {t} {c'} {g} {next} e r k f h =
         let r' : read_value sh j c nb ≡ ok (v, m) = ap (λ (s : List ℕ). read_value sh j s nb) (sym e) ∙ r in
-        open-answer at carry block after-it (nb + n) (value j v) (j + 1) nb (stored-got r') f (took_same at next (Value₁ j v) h k, e)
+        open_answer at carry block after_it (nb + n) (value j v) (j + 1) nb (stored_got r') f (took_same at next (Value₁ j v) h k, e)
 
-    pub stored-refuses : {v : Refusal} {c' : List ℕ} → c' ≡ c → read_value sh j c' nb ≡ refused v → ⊥
-    stored-refuses e r = stored-not (ap (λ (s : List ℕ). read_value sh j s nb) (sym e) ∙ r)
+    pub stored_refuses : {v : Refusal} {c' : List ℕ} → c' ≡ c → read_value sh j c' nb ≡ refused v → ⊥
+    stored_refuses e r = stored_not (ap (λ (s : List ℕ). read_value sh j s nb) (sym e) ∙ r)
 
   -- a temporal, read from the first bytes
   module _ (k : Storage) (s : sh ≡ Timed k) (head : List ℕ) (h : Heads y nb head 8) where
-    n-is : n ≡ temporal_size k
+    n_is : n ≡ temporal_size k
     unfolding need
-    n-is = sym w.size ∙ ap (λ (u : Shape). need u x) s
+    n_is = sym w.size ∙ ap (λ (u : Shape). need u x) s
 
     head_bytes : take n head ≡ take n x
-    head_bytes = heads_take y nb head n h (omega (arith, n-is, size_most k)) (omega (arith, y-length, w.high))
+    head_bytes = heads_take y nb head n h (omega (arith, n_is, size_most k)) (omega (arith, y_length, w.high))
 
-    head-need : need sh head ≡ n
+    head_need : need sh head ≡ n
     unfolding need
-    head-need = ap (λ (u : Shape). need u head) s ∙ sym n-is
+    head_need = ap (λ (u : Shape). need u head) s ∙ sym n_is
 
-    head-there : n ≤ length head
-    head-there = omega (arith, n-is, size_most k, h.size)
+    head_there : n ≤ length head
+    head_there = omega (arith, n_is, size_most k, h.size)
 
     head_read : read_datum sh j head ≡ after {A = Datum} {B = Datum × ℕ} (judged sh j (take n x)) (λ d. ok (d, n))
     head_read =
         ap (read_datum sh j) (sym (append-nil head))
-        ∙ read_whole sh j head [] w.taken (omega (arith, head-need, head-there))
-        ∙ rw (head-need, head_bytes)
+        ∙ read_whole sh j head [] w.taken (omega (arith, head_need, head_there))
+        ∙ rw (head_need, head_bytes)
 
     -- a temporal does not name its place
-    judged-timed : judged sh j (take n x)
+    judged_timed : judged sh j (take n x)
         ≡ cond (eqb (temporal_fault k (take n x)) 0) (ok (temporal (temporal_decode k (take n x))))
         (refused (out_of j (temporal_fault k (take n x))))
     unfolding judged fault decode
-    judged-timed = ap (λ (u : Shape). judged u j (take n x)) s
+    judged_timed = ap (λ (u : Shape). judged u j (take n x)) s
 
-    timed-read : read_value sh j head 0 ≡ after {A = Datum} {B = Value × ℕ} (judged sh j (take n x)) (λ d. ok (placed (0 + n) d, 0 + n))
+    timed_read : read_value sh j head 0 ≡ after {A = Datum} {B = Value × ℕ} (judged sh j (take n x)) (λ d. ok (placed (0 + n) d, 0 + n))
     unfolding read_value
-    timed-read = rw head_read (go (judged sh j (take n x)))
+    timed_read = rw head_read (go (judged sh j (take n x)))
       where
         go : (o : Outcome Datum)
             → after {A = Datum × ℕ} {B = Value × ℕ} (after {A = Datum} {B = Datum × ℕ} o (λ d. ok (d, n)))
@@ -241,35 +241,35 @@ module _ (sh : Shape) (carry block : List ℕ) (nb : ℕ) (at : Arriving) (j n :
         go (ok d) = refl
         go (refused v) = refl
 
-    pub timed-got : {v : Value} {m : ℕ} → read_value sh j head 0 ≡ ok (v, m)
+    pub timed_got : {v : Value} {m : ℕ} → read_value sh j head 0 ≡ ok (v, m)
         → by_turn nb sh j x at carry block (whole n)
         ≡ ok (commit at carry block (nb + n) (value j v) (opened (j + 1) nb (used_to at (nb + n))))
     unfolding by_turn placed
-    timed-got {v} {m} e = go (eqb (temporal_fault k (take n x)) 0) refl
+    timed_got {v} {m} e = go (eqb (temporal_fault k (take n x)) 0) refl
       where
         go : (b : Bool) → eqb (temporal_fault k (take n x)) 0 ≡ b
             → by_turn nb sh j x at carry block (whole n)
             ≡ ok (commit at carry block (nb + n) (value j v) (opened (j + 1) nb (used_to at (nb + n))))
         go true f =
-            let a : judged sh j (take n x) ≡ ok (temporal (temporal_decode k (take n x))) = judged-timed ∙ rw f in
-            let r : read_value sh j head 0 ≡ ok (Value.Temporal (temporal_decode k (take n x)), 0 + n) = timed-read ∙ rw a in
+            let a : judged sh j (take n x) ≡ ok (temporal (temporal_decode k (take n x))) = judged_timed ∙ rw f in
+            let r : read_value sh j head 0 ≡ ok (Value.Temporal (temporal_decode k (take n x)), 0 + n) = timed_read ∙ rw a in
             let d : Value.Temporal (temporal_decode k (take n x)) ≡ v = ap (λ (q : Value × ℕ). q.0) (same_ok (sym r ∙ e)) in
             rw a (rw d)
         go false f =
-            let a : judged sh j (take n x) ≡ refused (out_of j (temporal_fault k (take n x))) = judged-timed ∙ rw f in
-            let r : read_value sh j head 0 ≡ refused (out_of j (temporal_fault k (take n x))) = timed-read ∙ rw a in
+            let a : judged sh j (take n x) ≡ refused (out_of j (temporal_fault k (take n x))) = judged_timed ∙ rw f in
+            let r : read_value sh j head 0 ≡ refused (out_of j (temporal_fault k (take n x))) = timed_read ∙ rw a in
             absurd (ok_not_refused (sym e ∙ r))
 
-    pub timed-not : {v : Refusal} → read_value sh j head 0 ≡ refused v → by_turn nb sh j x at carry block (whole n) ≡ refused v
+    pub timed_not : {v : Refusal} → read_value sh j head 0 ≡ refused v → by_turn nb sh j x at carry block (whole n) ≡ refused v
     unfolding by_turn
-    timed-not {v} e = go (judged sh j (take n x)) refl
+    timed_not {v} e = go (judged sh j (take n x)) refl
       where
         go : (o : Outcome Datum) → judged sh j (take n x) ≡ o → by_turn nb sh j x at carry block (whole n) ≡ refused v
         go (ok d) f =
-            let r : read_value sh j head 0 ≡ ok (placed (0 + n) d, 0 + n) = timed-read ∙ rw f in
+            let r : read_value sh j head 0 ≡ ok (placed (0 + n) d, 0 + n) = timed_read ∙ rw f in
             absurd (ok_not_refused (sym r ∙ e))
         go (refused u) f =
-            let r : read_value sh j head 0 ≡ refused u = timed-read ∙ rw f in
+            let r : read_value sh j head 0 ≡ refused u = timed_read ∙ rw f in
             rw f (ap refused (same_refused (sym r ∙ e)))
 
 -- ---- what a turn says
@@ -289,12 +289,12 @@ same_whole : {m n : ℕ} → whole m ≡ whole n → m ≡ n
 same_whole e = cc
 
 module _ (room : ℕ) (sh : Shape) (s : List ℕ) where
-  by_turn : {P : Type 0} (t : TurnSaid) → turn_of room sh s ≡ t
+  by_turn_lem : {P : Type 0} (t : TurnSaid) → turn_of room sh s ≡ t
       → (too_long room sh s ≡ true → long₁ (need sh s - prefix sh) ≡ t → P)
       → (too_long room sh s ≡ false → length s < need sh s → wait ≡ t → P)
       → (too_long room sh s ≡ false → need sh s ≤ length s → whole (need sh s) ≡ t → P) → P
   unfolding turn_of
-  by_turn {P} t e f g h = go (too_long room sh s) refl
+  by_turn_lem {P} t e f g h = go (too_long room sh s) refl
     where
       go : (b : Bool) → too_long room sh s ≡ b → P
       go true u = f u (rw u at e)
@@ -303,17 +303,17 @@ module _ (room : ℕ) (sh : Shape) (s : List ℕ) where
           (λ (l : need sh s ≤ length s). h u l (rw (u, le-ltb (length s) (need sh s) l) at e))
           (λ l. g u (omega arith) (rw (u, lt-ltb (length s) (need sh s) (omega arith)) at e))
 
-  pub is-wait : turn_of room sh s ≡ wait → (too_long room sh s ≡ false) × (length s < need sh s)
-  is-wait e =
-      by_turn wait e (λ u v. absurd (wait_not_long (sym v))) (λ u l v. (u, l)) (λ u l v. absurd (wait_not_whole (sym v)))
+  pub is_wait : turn_of room sh s ≡ wait → (too_long room sh s ≡ false) × (length s < need sh s)
+  is_wait e =
+      by_turn_lem wait e (λ u v. absurd (wait_not_long (sym v))) (λ u l v. (u, l)) (λ u l v. absurd (wait_not_whole (sym v)))
 
-  pub is-long-turn : (n : ℕ) → turn_of room sh s ≡ long₁ n → (too_long room sh s ≡ true) × (need sh s - prefix sh ≡ n)
-  is-long-turn n e =
-      by_turn (long₁ n) e (λ u v. (u, same_long v)) (λ u l v. absurd (wait_not_long v)) (λ u l v. absurd (long_not_whole (sym v)))
+  pub is_long_turn : (n : ℕ) → turn_of room sh s ≡ long₁ n → (too_long room sh s ≡ true) × (need sh s - prefix sh ≡ n)
+  is_long_turn n e =
+      by_turn_lem (long₁ n) e (λ u v. (u, same_long v)) (λ u l v. absurd (wait_not_long v)) (λ u l v. absurd (long_not_whole (sym v)))
 
   pub is_whole : (n : ℕ) → turn_of room sh s ≡ whole n → (too_long room sh s ≡ false) × (need sh s ≤ length s) × (need sh s ≡ n)
   is_whole n e =
-      by_turn (whole n) e (λ u v. absurd (long_not_whole v)) (λ u l v. absurd (wait_not_whole v)) (λ u l v. (u, l, same_whole v))
+      by_turn_lem (whole n) e (λ u v. absurd (long_not_whole v)) (λ u l v. absurd (wait_not_whole v)) (λ u l v. (u, l, same_whole v))
 
 -- ---- a value that is not NULL
 module _ (kind : Column) (carry block head : List ℕ) (nb : ℕ) (at : Arriving) (j : ℕ) (q : Holds (length carry) (length block) nb at j kind)
@@ -330,68 +330,68 @@ module _ (kind : Column) (carry block head : List ℕ) (nb : ℕ) (at : Arriving
   abbrev space : ℕ
   space = length carry - nb
 
-  hand-length : length hand ≡ at.held + length block
-  hand-length = length-append (take at.held carry) block ∙ ap (λ (k : ℕ). k + length block) (length-take-le at.held carry q.fits)
+  hand_length : length hand ≡ at.held + length block
+  hand_length = length-append (take at.held carry) block ∙ ap (λ (k : ℕ). k + length block) (length-take-le at.held carry q.fits)
 
-  rest-length : length rest ≡ at.held + length block - nb
-  rest-length = length-drop nb hand ∙ ap (λ (k : ℕ). k - nb) hand-length
+  rest_length : length rest ≡ at.held + length block - nb
+  rest_length = length-drop nb hand ∙ ap (λ (k : ℕ). k - nb) hand_length
 
   pub turn_is : (t : TurnSaid) → t
       ≡ turn_by (length carry - nb) (prefix (shape_of kind)) (at.held + length block - nb) (need (shape_of kind) head)
       → turn_of space sh rest ≡ t
   turn_is t e =
-      sym (e ∙ ap (λ (k : ℕ). turn_by space (prefix sh) k (need sh head)) (sym rest-length)
-      ∙ turn_head space sh hand nb head (sized kind) h (omega (arith, hand-length, q.there)))
+      sym (e ∙ ap (λ (k : ℕ). turn_by space (prefix sh) k (need sh head)) (sym rest_length)
+      ∙ turn_head space sh hand nb head (sized kind) h (omega (arith, hand_length, q.there)))
 
   -- by what the code has
-  pub turn-found : (t : Turn) (shape : Shape) → shape ≡ shape_of kind
+  pub turn_found : (t : Turn) (shape : Shape) → shape ≡ shape_of kind
       → turn_told t ≡ turn_by (length carry - nb) (prefix shape) (at.held + length block - nb) (need shape head) → turn_of space sh rest
       ≡ turn_told t
-  turn-found t shape e f =
+  turn_found t shape e f =
       turn_is (turn_told t) (f ∙ ap (λ (s : Shape). turn_by (length carry - nb) (prefix s) (at.held + length block - nb) (need s head)) e)
 
-  pub wait-fits : turn_of space sh rest ≡ wait → at.held + length block ≤ length carry
-  wait-fits e =
-      let w = is-wait space sh rest e in
+  pub wait_fits : turn_of space sh rest ≡ wait → at.held + length block ≤ length carry
+  wait_fits e =
+      let w = is_wait space sh rest e in
       let m : length rest < length carry - nb =
       dite (dec_le (prefix sh) (length rest))
       (λ (k : prefix sh ≤ length rest). omega (arith, w.1, not_long space sh rest w.0 k))
       (λ k. omega (arith, prefix_most sh (sized kind), q.room)) in
-      omega (arith, rest-length, q.room)
+      omega (arith, rest_length, q.room)
 
-  pub wait-answer : turn_of space sh rest ≡ wait
+  pub wait_answer : turn_of space sh rest ≡ wait
       → value_over nb sh j at carry block ≡ waiting at carry block j
   unfolding value_over by_turn
-  wait-answer e = rw e
+  wait_answer e = rw e
 
-  pub long-fits : (n : ℕ) → turn_of space sh rest ≡ long₁ n → (nb + prefix sh ≤ length carry) × (nb + prefix sh ≤ at.held + length block)
-  long-fits n e =
-      let w = is-long-turn space sh rest n e in
+  pub long_fits : (n : ℕ) → turn_of space sh rest ≡ long₁ n → (nb + prefix sh ≤ length carry) × (nb + prefix sh ≤ at.held + length block)
+  long_fits n e =
+      let w = is_long_turn space sh rest n e in
       let i = is_long_lem space sh rest w.0 in
-      (omega (arith, prefix_most sh (sized kind), q.room), omega (arith, i.there, rest-length, q.there))
+      (omega (arith, prefix_most sh (sized kind), q.room), omega (arith, i.there, rest_length, q.there))
 
-  pub long-answers : (n : ℕ) → turn_of space sh rest ≡ long₁ n
+  pub long_answers : (n : ℕ) → turn_of space sh rest ≡ long₁ n
       → value_over nb sh j at carry block
       ≡ ok (commit at carry block (nb + prefix sh) (long j n) (longed j (nb + prefix sh) n (used_to at (nb + prefix sh))))
   unfolding value_over by_turn
-  long-answers n e = rw e
+  long_answers n e = rw e
 
-  pub whole-fits : (n : ℕ) → turn_of space sh rest ≡ whole n → Wholes sh carry block nb at j n
-  whole-fits n e =
+  pub whole_fits : (n : ℕ) → turn_of space sh rest ≡ whole n → Wholes sh carry block nb at j n
+  whole_fits n e =
       let w = is_whole space sh rest n e in
       let m = not_long space sh rest w.0 (omega (arith, prefix_within sh rest, w.1)) in
       record {
         fits = q.fits;
         there = q.there;
         upto = omega (arith, m, w.2, q.room);
-        high = omega (arith, w.1, w.2, rest-length, q.there);
+        high = omega (arith, w.1, w.2, rest_length, q.there);
         small = q.small;
         column = q.column;
         taken = q.taken;
         size = w.2;
       }
 
-  pub whole-answers : (n : ℕ) → turn_of space sh rest ≡ whole n → value_over nb sh j at carry block
+  pub whole_answers : (n : ℕ) → turn_of space sh rest ≡ whole n → value_over nb sh j at carry block
       ≡ by_turn nb sh j rest at carry block (whole n)
   unfolding value_over
-  whole-answers n e = rw e
+  whole_answers n e = rw e

@@ -25,8 +25,8 @@ use Rattle.blocks.specs.Joins.{joined}
 use Rattle.blocks.specs.Runs.{Run, concat, AllBytes}
 use Rattle.blocks.proofs.Fits.{begun_left}
 use Rattle.blocks.proofs.Runs.{blocks, same_pieces, runs}
-use Rattle.blocks.proofs.Answers.{Not9, fine, other, give-not-9, closed-refused, unfit-refused, begins-begun}
-use Rattle.blocks.proofs.Taken.{Truly, give_given, run_taken, came_fit, fit-ten, fit-nine}
+use Rattle.blocks.proofs.Answers.{Not9, fine, other, give_not_9, closed_refused, unfit_refused, begins_begun}
+use Rattle.blocks.proofs.Taken.{Truly, give_given, run_taken, came_fit, fit_ten, fit_nine}
 use Rattle.blocks.proofs.Lasts.{end_only, end_told_lem}
 use Rattle.promises.specs.RowPlans.{Under}
 use Rattle.promises.specs.Blocks.{Lent, nulls_of, Blocks}
@@ -80,19 +80,19 @@ blocks_of = record {
       same_pieces r p carry carry' cs bs s t m n (over u) l.room k l.bytes l'.bytes a b e x y;
   end_only = λ r p st carry block g left used u c b e a. end_only r p block g left used (over u) c b e a;
   end_told = λ r p st carry block g left used u c h e a. end_told_lem r p block g left used (over u) c h e a;
-  begins = λ r p carry u h. begins-begun r p carry (over u) h;
+  begins = λ r p carry u h. begins_begun r p carry (over u) h;
   taken_within = λ r p st carry block g left e. (give_given r p st carry block e).front;
   more_all = λ r p st carry block g left e h. given r p st carry block g left more e h;
-  only_end_9 = λ r p st carry block w e h. not_9 (give_block r p st carry block) (give-not-9 r p st carry block) e h;
+  only_end_9 = λ r p st carry block w e h. not_9 (give_block r p st carry block) (give_not_9 r p st carry block) e h;
   long_over = λ r p st carry block g left j n e h. given r p st carry block g left (long j n) e h;
   part_kept = λ r p st carry block g left j n e h. given r p st carry block g left (part j n) e h;
   tests_first = first;
   small_carry = small;
   refusal_closes = λ w. refl;
   end_closes = λ used. refl;
-  closed_refused = λ r p st carry block u h e. closed-refused r p st carry block (over u) h e;
+  closed_refused = λ r p st carry block u h e. closed_refused r p st carry block (over u) h e;
   left_fit = λ r p st carry u c. came_fit r p (over u) c;
-  unfit_refused = λ r p st carry block u h e. unfit-refused r p st carry block (over u) h e;
-  fit_gives = λ r p st carry block w u h f e. fit-ten r p st carry (over u) h f block e;
-  fit_ends = λ r p st carry w u h f e. fit-nine r p st carry (over u) h f e;
+  unfit_refused = λ r p st carry block u h e. unfit_refused r p st carry block (over u) h e;
+  fit_gives = λ r p st carry block w u h f e. fit_ten r p st carry (over u) h f block e;
+  fit_ends = λ r p st carry w u h f e. fit_nine r p st carry (over u) h f e;
 }

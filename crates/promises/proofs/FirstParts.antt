@@ -13,7 +13,7 @@ use Rattle.wire.proofs.Inverse.{bytes_take, bytes_drop}
 use Rattle.temporal.specs.declared.storage.Storage.{Storage}
 use Rattle.temporal.specs.Reading.{temporal_size, temporal_fault, read_temporal}
 use Rattle.temporal.specs.Firsts.{FirstOut, tellable}
-use Rattle.temporal.proofs.Forms.{Refuses, short, out, read_refuses, refuses-read}
+use Rattle.temporal.proofs.Forms.{Refuses, short, out, read_refuses, refuses_read}
 use Rattle.temporal.proofs.Firsts.{first_out, out_first, some_part, parts_told}
 use Rattle.promises.specs.FirstParts.{FirstParts}
 
@@ -35,7 +35,7 @@ told_so : (k : Storage) (place : ℕ) (s : List ℕ) (at part : ℕ) → at + te
     → (part ≡ 0 → ⊥) → read_temporal k place s at ≡ refused (out_of place part)
 told_so k place s at part h f n =
     let e = out_first f in
-    refuses-read k place s at (out_of place part)
+    refuses_read k place s at (out_of place part)
     (subst (λ (q : ℕ). Refuses k place s at (out_of place q)) e (out h (λ z. n (sym e ∙ z))))
 
 pub first_parts : FirstParts

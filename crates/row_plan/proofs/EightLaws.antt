@@ -13,16 +13,16 @@ module _ (s : List ℕ) (b : Bytes s) where
   run_length : (at k : ℕ) → at + k ≤ length s → length (take k (drop at s)) ≡ k
   run_length at k h = length-take-le k (drop at s) (rw length-drop (omega arith))
 
-  run-bytes : (at k : ℕ) → Bytes (take k (drop at s))
-  run-bytes at k = bytes_take k (drop at s) (bytes_drop at s b)
+  run_bytes : (at k : ℕ) → Bytes (take k (drop at s))
+  run_bytes at k = bytes_take k (drop at s) (bytes_drop at s b)
 
   pub le_below : (at k : ℕ) → at + k ≤ length s → le_value (take k (drop at s)) < 256 ^ k
   le_below at k h =
-      subst (λ (n : ℕ). le_value (take k (drop at s)) < 256 ^ n) (run_length at k h) (le_bound (take k (drop at s)) (run-bytes at k))
+      subst (λ (n : ℕ). le_value (take k (drop at s)) < 256 ^ n) (run_length at k h) (le_bound (take k (drop at s)) (run_bytes at k))
 
-  pub be-below : (at k : ℕ) → at + k ≤ length s → be_value (take k (drop at s)) < 256 ^ k
-  be-below at k h =
-      subst (λ (n : ℕ). be_value (take k (drop at s)) < 256 ^ n) (run_length at k h) (be_bound (take k (drop at s)) (run-bytes at k))
+  pub be_below : (at k : ℕ) → at + k ≤ length s → be_value (take k (drop at s)) < 256 ^ k
+  be_below at k h =
+      subst (λ (n : ℕ). be_value (take k (drop at s)) < 256 ^ n) (run_length at k h) (be_bound (take k (drop at s)) (run_bytes at k))
 
   -- ---- the low bytes, the least significant first
   module _ (at x : ℕ) (h : at + 8 ≤ length s) (e : x ≡ le_value (take 8 (drop at s))) where
@@ -39,9 +39,9 @@ module _ (s : List ℕ) (b : Bytes s) where
     low4 = omega (arith, e, le_runs s at 4 4 (omega arith), le_below at 4 (omega arith))
 
     -- ---- the eight bytes turned: they are those of the number, the least significant first
-    turned-list : take 8 (drop at s) ≡ le_bytes 8 x
-    turned-list =
-        sym (le_sound (take 8 (drop at s)) (run-bytes at 8)) ∙ ap (λ (n : ℕ). le_bytes n (le_value (take 8 (drop at s)))) (run_length at 8 h)
+    turned_list : take 8 (drop at s) ≡ le_bytes 8 x
+    turned_list =
+        sym (le_sound (take 8 (drop at s)) (run_bytes at 8)) ∙ ap (λ (n : ℕ). le_bytes n (le_value (take 8 (drop at s)))) (run_length at 8 h)
         ∙ ap (le_bytes 8) (sym e)
 
     pub turned : (((x % 256 * 256 + x / 256 % 256) * 256 + x / 256 / 256 % 256) * 256 + x / 256 / 256 / 256 % 256) * 4294967296
@@ -57,7 +57,7 @@ module _ (s : List ℕ) (b : Bytes s) where
         = refl in
         sum (x % 256) (x / 256 % 256) (x / 256 / 256 % 256) (x / 256 / 256 / 256 % 256) (x / 256 / 256 / 256 / 256 % 256)
         (x / 256 / 256 / 256 / 256 / 256 % 256) (x / 256 / 256 / 256 / 256 / 256 / 256 % 256)
-        (x / 256 / 256 / 256 / 256 / 256 / 256 / 256 % 256) ∙ sym z ∙ ap be_value (sym turned-list)
+        (x / 256 / 256 / 256 / 256 / 256 / 256 / 256 % 256) ∙ sym z ∙ ap be_value (sym turned_list)
       where
         sum : (p q r t u v y w : ℕ)
             → (((p * 256 + q) * 256 + r) * 256 + t) * 4294967296 + (((u * 256 + v) * 256 + y) * 256 + w)
@@ -69,15 +69,15 @@ module _ (s : List ℕ) (b : Bytes s) where
   unfolding be_value le_value
   front at w l h =
       widths (λ (k : ℕ). be_value (take 3 (drop at s)) / 256 ^ (3 - k) ≡ be_value (take k (drop at s)))
-      (omega (arith, be-below at 3 h))
-      (omega (arith, be_runs s at 1 2 (omega arith), be-below (at + 1) 2 (omega arith)))
-      (omega (arith, be_runs s at 2 1 (omega arith), be-below (at + 2) 1 (omega arith)))
+      (omega (arith, be_below at 3 h))
+      (omega (arith, be_runs s at 1 2 (omega arith), be_below (at + 1) 2 (omega arith)))
+      (omega (arith, be_runs s at 2 1 (omega arith), be_below (at + 2) 1 (omega arith)))
       (omega arith) w l
 
   -- ---- a whole part of 3, 4 or 5 bytes and the three bytes behind it, cut out of the number of all eight
   module _ (at x : ℕ) (h : at + 8 ≤ length s) (e : x ≡ be_value (take 8 (drop at s))) where
     pub whole4 : x / 4294967296 ≡ be_value (take 4 (drop at s))
-    whole4 = omega (arith, e, be_runs s at 4 4 (omega arith), be-below (at + 4) 4 (omega arith))
+    whole4 = omega (arith, e, be_runs s at 4 4 (omega arith), be_below (at + 4) 4 (omega arith))
 
     pub behind4 : x / 256 % 16777216 ≡ be_value (take 3 (drop (at + 4) s))
     behind4 =
@@ -86,15 +86,15 @@ module _ (s : List ℕ) (b : Bytes s) where
           e,
           be_runs s at 4 4 (omega arith),
           be_runs s (at + 4) 3 1 (omega arith),
-          be-below (at + 4) 3 (omega arith),
-          be-below (at + 4 + 3) 1 (omega arith),
+          be_below (at + 4) 3 (omega arith),
+          be_below (at + 4 + 3) 1 (omega arith),
         )
 
     pub whole5 : x / 16777216 ≡ be_value (take 5 (drop at s))
-    whole5 = omega (arith, e, be_runs s at 5 3 (omega arith), be-below (at + 5) 3 (omega arith))
+    whole5 = omega (arith, e, be_runs s at 5 3 (omega arith), be_below (at + 5) 3 (omega arith))
 
     pub behind5 : x % 16777216 ≡ be_value (take 3 (drop (at + 5) s))
-    behind5 = omega (arith, e, be_runs s at 5 3 (omega arith), be-below (at + 5) 3 (omega arith))
+    behind5 = omega (arith, e, be_runs s at 5 3 (omega arith), be_below (at + 5) 3 (omega arith))
 
     -- of both together the last bytes of the three are left out, so that w of them stay
     pub both3 : x / 65536 ≡ be_value (take 3 (drop at s)) * 16777216 + be_value (take 3 (drop (at + 3) s))
@@ -104,7 +104,7 @@ module _ (s : List ℕ) (b : Bytes s) where
           e,
           be_runs s at 3 5 (omega arith),
           be_runs s (at + 3) 3 2 (omega arith),
-          be-below (at + 3 + 3) 2 (omega arith),
+          be_below (at + 3 + 3) 2 (omega arith),
         )
 
     pub kept3 : (w : ℕ) → w ≤ 3

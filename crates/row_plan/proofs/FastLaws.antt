@@ -22,7 +22,7 @@ use Rattle.temporal.specs.Datetimes.{signed_datetime, datetime_by, datetime2_of,
 use Rattle.temporal.specs.Storage.{whole_bytes, fraction_size, is_big, temporal_of, fault_of}
 use Rattle.temporal.specs.Reading.{temporal_size, whole_in, units_in, temporal_fault, temporal_decode, read_temporal}
 use Rattle.temporal.proofs.Ranges.{Clock, Day, clock_none, clock_of, day_none}
-use Rattle.temporal.proofs.Steps.{whole-big, whole-little, units-big, units_little}
+use Rattle.temporal.proofs.Steps.{whole_big, whole_little, units_big, units_little}
 use Rattle.temporal.proofs.Units.{widths}
 use Rattle.value.specs.declared.shape.Shape.{Shape}
 use Rattle.value.specs.declared.shape.Shape.TheVariants.{Unsigned, Signed, YearByte, Timed}
@@ -39,7 +39,7 @@ use Rattle.row_plan.proofs.NumberLaws.{unsigned_got, signed_got, timed_told, one
 use Rattle.wire.specs.Signed.{signed_of, twos_of}
 use Rattle.row_plan.specs.Inner.Numbers.{numbered}
 use Rattle.row_plan.specs.Inner.Fast.{Took}
-use Rattle.row_plan.proofs.EightLaws.{be-below, le_below, front, whole4, behind4, whole5, behind5, kept3}
+use Rattle.row_plan.proofs.EightLaws.{be_below, le_below, front, whole4, behind4, whole5, behind5, kept3}
 
 -- ---- left, or taken
 pub took_none : (sh : Shape) (s : List ℕ) (at : ℕ) (d : List ℕ) (to : ℕ) → Took sh s at d d to 0
@@ -60,20 +60,20 @@ at_op s at d d' to n e t = rw e t
 
 -- ---- integers and years
 module _ (s : List ℕ) (at : ℕ) (d d' : List ℕ) (to : ℕ) where
-  pub took-unsigned : (k x : ℕ) → 0 < k → k ≤ 8 → at + 8 ≤ length s → x ≡ le_value (take k (drop at s)) → d' ≡ stored (one_listed 3 x) d to
+  pub took_unsigned : (k x : ℕ) → 0 < k → k ≤ 8 → at + 8 ≤ length s → x ≡ le_value (take k (drop at s)) → d' ≡ stored (one_listed 3 x) d to
       → Took (Unsigned k) s at d d' to k
-  took-unsigned k x z l h e =
+  took_unsigned k x z l h e =
       took_some (Unsigned k) s at d d' to k (one_listed 3 x) z l (λ by p. sym (unsigned_got k by p s at x (omega arith) z e))
 
-  pub took-signed : (k x : ℕ) → 0 < k → k ≤ 8 → at + 8 ≤ length s → x ≡ twos_of (2 ^ 64) (signed_of (256 ^ k) (le_value (take k (drop at s))))
+  pub took_signed : (k x : ℕ) → 0 < k → k ≤ 8 → at + 8 ≤ length s → x ≡ twos_of (2 ^ 64) (signed_of (256 ^ k) (le_value (take k (drop at s))))
       → d' ≡ stored (one_listed 2 x) d to → Took (Signed k) s at d d' to k
-  took-signed k x z l h e =
+  took_signed k x z l h e =
       took_some (Signed k) s at d d' to k (one_listed 2 x) z l (λ by p. sym (signed_got k by p s at x (omega arith) z e))
 
-  pub took-year : (x y : ℕ) → at + 8 ≤ length s → x ≡ le_value (take 1 (drop at s)) → y ≡ year_of x → d' ≡ stored (one_listed 7 y) d to
+  pub took_year : (x y : ℕ) → at + 8 ≤ length s → x ≡ le_value (take 1 (drop at s)) → y ≡ year_of x → d' ≡ stored (one_listed 7 y) d to
       → Took YearByte s at d d' to 1
   unfolding is_taken need decode fault placed value_numbers
-  took-year x y h e ey =
+  took_year x y h e ey =
       took_some YearByte s at d d' to 1 (one_listed 7 y) (omega arith) (omega arith) (λ by p. sym (ap (numbered by)
       (got YearByte p s at 1 (Year y) (at + 1) refl refl (omega arith) refl (ap Year (ey ∙ ap year_of e)) refl)))
 
@@ -91,12 +91,12 @@ module _ (k : Storage) (s : List ℕ) (at m w a f : ℕ) (em : m ≡ whole_bytes
   unfolding temporal_size
   size_is = rw (em, ew)
 
-  pub big-got : (by p : ℕ)
+  pub big_got : (by p : ℕ)
       → numbered by (read_value (Timed k) p s at) ≡ ok (value_numbers by (Value.Temporal (temporal_of k a f)), at + (m + w))
-  big-got by p =
+  big_got by p =
       let l : w ≤ 8 = omega arith in
-      let x = whole-big k s at a m em lm big (rw (narrow m lm) ea) (rw (narrow m lm) la) in
-      let y = units-big k s at f m w em ew lw big (rw (narrow w l) ef) (rw (narrow w l) lf) in
+      let x = whole_big k s at a m em lm big (rw (narrow m lm) ea) (rw (narrow m lm) la) in
+      let y = units_big k s at f m w em ew lw big (rw (narrow w l) ef) (rw (narrow w l) lf) in
       let t = timed_got k p s at a f (rw (← size_is) there) x.0 y.0 z in
       rw size_is (sym (timed_told k by p s at (sym t)))
 
@@ -190,23 +190,23 @@ signed_is w l a f q off lf eq eo =
     rw (lt-leb (2 ^ 23) a (omega arith), ne_eqb f 0 (λ z. omega arith), lt-ltb q (2 ^ 47) r.0, r.1, r.2)))
 
 module _ (s : List ℕ) (b : Bytes s) (at : ℕ) (h : at + 8 ≤ length s) (d d' : List ℕ) (to : ℕ) where
-  pub took-date : (n : ℕ) → n ≡ le_value (take 3 (drop at s)) → n / 32 / 16 ≤ 9999 → n / 32 % 16 ≤ 12
+  pub took_date : (n : ℕ) → n ≡ le_value (take 3 (drop at s)) → n / 32 / 16 ≤ 9999 → n / 32 % 16 ≤ 12
       → d' ≡ stored (8 ∷ (n / 32 / 16 ∷ (n / 32 % 16 ∷ (n % 32 ∷ (0 ∷ (0 ∷ (0 ∷ (0 ∷ [])))))))) d to → Took (Timed Newdate) s at d d' to 3
   unfolding value_numbers temporal_of fault_of date_of temporal_size whole_bytes fraction_size is_big
-  took-date n e y m =
+  took_date n e y m =
       let lt : n < 256 ^ 3 = rw e (le_below s b at 3 (omega arith)) in
-      let x = whole-little Newdate s at n 3 refl (omega arith) refl e lt in
+      let x = whole_little Newdate s at n 3 refl (omega arith) refl e lt in
       let u = units_little Newdate (take (temporal_size Newdate) (drop at s)) refl in
       let day : Day (n / 32 / 16) (n / 32 % 16) (n % 32) = record { year = y; month = m; day = omega arith } in
       took_some (Timed Newdate) s at d d' to 3 _ (omega arith) (omega arith) (λ by p.
       sym (timed_told Newdate by p s at (sym (timed_got Newdate p s at n 0 (omega arith) x.0 u.0 (day_none 0 day)))))
 
   module _ (m0 w : ℕ) (ew : (w ≡ fraction_bytes m0) × (w ≤ 3)) (x : ℕ) (ex : x ≡ be_value (take 8 (drop at s))) where
-    pub took-seconds : (u : ℕ) → u ≡ x / 256 % 16777216 / 256 ^ (3 - w) * unit_of w → u ≤ 999999
+    pub took_seconds : (u : ℕ) → u ≡ x / 256 % 16777216 / 256 ^ (3 - w) * unit_of w → u ≤ 999999
         → d' ≡ stored (6 ∷ (x / 4294967296 ∷ (u ∷ (0 ∷ (0 ∷ (0 ∷ (0 ∷ (0 ∷ [])))))))) d to
         → Took (Timed (Timestamp2 m0)) s at d d' to (4 + w)
     unfolding value_numbers temporal_of fault_of seconds_of whole_bytes fraction_size is_big
-    took-seconds u eu lu e =
+    took_seconds u eu lu e =
         let f = be_value (take w (drop (at + 4) s)) in
         let ef : f ≡ x / 256 % 16777216 / 256 ^ (3 - w) = sym (rw (behind4 s b at x h ex) (front s b (at + 4) w ew.1 (omega arith))) in
         let uf : u ≡ f * unit_of (fraction_bytes m0) = rw (ef, ← ew.0) eu in
@@ -217,17 +217,17 @@ module _ (s : List ℕ) (b : Bytes s) (at : ℕ) (h : at + 8 ≤ length s) (d d'
           micros = rw uf at lu;
         } in
         let a : x / 4294967296 ≡ be_value (take 4 (drop at s)) = whole4 s b at x h ex in
-        let r = big-got (Timestamp2 m0) s at 4 w (x / 4294967296) f refl (omega arith) ew.0 ew.1 refl (omega (arith, ew.1)) a
-        (rw a (be-below s b at 4 (omega arith))) refl (be-below s b (at + 4) w (omega (arith, ew.1))) (clock_none ck) in
+        let r = big_got (Timestamp2 m0) s at 4 w (x / 4294967296) f refl (omega arith) ew.0 ew.1 refl (omega (arith, ew.1)) a
+        (rw a (be_below s b at 4 (omega arith))) refl (be_below s b (at + 4) w (omega (arith, ew.1))) (clock_none ck) in
         took_some (Timed (Timestamp2 m0)) s at d d' to (4 + w) (6 ∷ (x / 4294967296 ∷ (u ∷ (0 ∷ (0 ∷ (0 ∷ (0 ∷ (0 ∷ [])))))))) (omega arith)
         (omega (arith, ew.1)) (λ by p. rw uf (r by p)) e
 
-    pub took-datetime : (n u : ℕ) → 2 ^ 39 ≤ x / 16777216 → n ≡ x / 16777216 - 2 ^ 39 → u ≡ x % 16777216 / 256 ^ (3 - w) * unit_of w
+    pub took_datetime : (n u : ℕ) → 2 ^ 39 ≤ x / 16777216 → n ≡ x / 16777216 - 2 ^ 39 → u ≡ x % 16777216 / 256 ^ (3 - w) * unit_of w
         → n / 64 / 64 / 32 / 32 / 13 ≤ 9999 → in_clock 23 (n / 64 / 64 % 32) (n / 64 % 64) (n % 64) u ≡ true
         → d' ≡ stored (9 ∷ (n / 64 / 64 / 32 / 32 / 13 ∷ (n / 64 / 64 / 32 / 32 % 13 ∷ (n / 64 / 64 / 32 % 32 ∷ (n / 64 / 64 % 32
         ∷ (n / 64 % 64 ∷ (n % 64 ∷ (u ∷ [])))))))) d to → Took (Timed (Datetime2 m0)) s at d d' to (5 + w)
     unfolding value_numbers temporal_of fault_of datetime2_of datetime2_fault signed_datetime datetime_by whole_bytes fraction_size is_big
-    took-datetime n u big en eu ly ck e =
+    took_datetime n u big en eu ly ck e =
         let f = be_value (take w (drop (at + 5) s)) in
         let ef : f ≡ x % 16777216 / 256 ^ (3 - w) = sym (rw (behind5 s b at x h ex) (front s b (at + 5) w ew.1 (omega arith))) in
         let uf : u ≡ f * unit_of (fraction_bytes m0) = rw (ef, ← ew.0) eu in
@@ -240,28 +240,28 @@ module _ (s : List ℕ) (b : Bytes s) (at : ℕ) (h : at + 8 ≤ length s) (d d'
         let a : x / 16777216 ≡ be_value (take 5 (drop at s)) = whole5 s b at x h ex in
         let z : fault_of (Datetime2 m0) (x / 16777216) f ≡ 0 =
         rw (le-ltb (x / 16777216) (2 ^ 39) big, ← en, ← uf) (day_none _ y ∙ clock_none c) in
-        let r = big-got (Datetime2 m0) s at 5 w (x / 16777216) f refl (omega arith) ew.0 ew.1 refl (omega (arith, ew.1)) a
-        (rw a (be-below s b at 5 (omega arith))) refl (be-below s b (at + 5) w (omega (arith, ew.1))) z in
+        let r = big_got (Datetime2 m0) s at 5 w (x / 16777216) f refl (omega arith) ew.0 ew.1 refl (omega (arith, ew.1)) a
+        (rw a (be_below s b at 5 (omega arith))) refl (be_below s b (at + 5) w (omega (arith, ew.1))) z in
         took_some (Timed (Datetime2 m0)) s at d d' to (5 + w) (9 ∷ (n / 64 / 64 / 32 / 32 / 13 ∷ (n / 64 / 64 / 32 / 32 % 13
         ∷ (n / 64 / 64 / 32 % 32 ∷ (n / 64 / 64 % 32 ∷ (n / 64 % 64 ∷ (n % 64 ∷ (u ∷ [])))))))) (omega arith) (omega (arith, ew.1))
         (λ by p. rw (en, uf) (r by p)) e
 
-    pub took-time : (q off n u v : ℕ) → q ≡ x / 65536 / 256 ^ (3 - w) * 256 ^ (3 - w) → off ≡ q - 2 ^ 47 + (2 ^ 47 - q)
+    pub took_time : (q off n u v : ℕ) → q ≡ x / 65536 / 256 ^ (3 - w) * 256 ^ (3 - w) → off ≡ q - 2 ^ 47 + (2 ^ 47 - q)
         → n ≡ off / 16777216 → u ≡ off % 16777216 / 256 ^ (3 - w) * unit_of w
         → in_clock 838 (n / 64 / 64) (n / 64 % 64) (n % 64) u ≡ true
         → v ≡ cond (ltb q (2 ^ 47)) 1 0
         → d' ≡ stored (10 ∷ (v ∷ (n / 64 / 64 ∷ (n / 64 % 64 ∷ (n % 64 ∷ (u ∷ (0 ∷ (0 ∷ [])))))))) d to
         → Took (Timed (Time2 m0)) s at d d' to (3 + w)
     unfolding value_numbers temporal_of fault_of time2_of time_by whole_bytes fraction_size is_big
-    took-time q off n u v eq eo en eu ck ev e =
+    took_time q off n u v eq eo en eu ck ev e =
         let a = be_value (take 3 (drop at s)) in
         let f = be_value (take w (drop (at + 3) s)) in
-        let lf = be-below s b (at + 3) w (omega (arith, ew.1)) in
+        let lf = be_below s b (at + 3) w (omega (arith, ew.1)) in
         let g : signed_time (fraction_bytes m0) a f ≡ record { negative = ltb q (2 ^ 47); whole = n; micros = u } =
         rw (← ew.0, en, eu) (signed_is w ew.1 a f q off lf (eq ∙ kept3 s b at x h ex w ew.1) eo) in
         let c = clock_of 838 (n / 64 / 64) (n / 64 % 64) (n % 64) u ck in
         let z : fault_of (Time2 m0) a f ≡ 0 = rw g (clock_none c) in
-        let r = big-got (Time2 m0) s at 3 w a f refl (omega arith) ew.0 ew.1 refl (omega (arith, ew.1)) refl
-        (be-below s b at 3 (omega arith)) refl lf z in
+        let r = big_got (Time2 m0) s at 3 w a f refl (omega arith) ew.0 ew.1 refl (omega (arith, ew.1)) refl
+        (be_below s b at 3 (omega arith)) refl lf z in
         took_some (Timed (Time2 m0)) s at d d' to (3 + w) (10 ∷ (v ∷ (n / 64 / 64 ∷ (n / 64 % 64 ∷ (n % 64
         ∷ (u ∷ (0 ∷ (0 ∷ [])))))))) (omega arith) (omega (arith, ew.1)) (λ by p. rw ev (rw g at (r by p))) e

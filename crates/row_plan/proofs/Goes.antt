@@ -48,24 +48,24 @@ module _ (plan images : List ℕ) (c : RowCursor) {im : List ℕ} (is : im ≡ d
         c.offset d,
   )
 
-  pub row-end : c.item ≡ item_count plan → plan_step plan images c ≡ ok (end c.offset)
+  pub row_end : c.item ≡ item_count plan → plan_step plan images c ≡ ok (end c.offset)
   unfolding plan_slots items_from slots step_over
-  row-end e =
+  row_end e =
       let z : item_count plan - c.item ≡ 0 = omega arith in
       goes ∙ rw z
 
   pub slots_end : c.item ≡ item_count plan → plan_slots plan im c.item ≡ []
   slots_end e = slots_over plan im c.item (omega arith)
 
-  pub slots-here : c.item < item_count plan
+  pub slots_here : c.item < item_count plan
       → plan_slots plan im c.item ≡ record { present = item_at plan c.item; null = bit_lsb0 im c.item } ∷ plan_slots plan im (suc
       c.item)
-  slots-here l = slots_at_lem plan im c.item l
+  slots_here l = slots_at_lem plan im c.item l
 
   module _ (l : c.item < item_count plan) {j : ℕ} (col : j ≡ le_value (take 2 (drop (3 * c.item + 1) plan))) where
-    pub row-null : bit_lsb0 im c.item ≡ true → plan_step plan images c ≡ ok (null j (row_cursor c.start (c.item + 1) c.offset))
+    pub row_null : bit_lsb0 im c.item ≡ true → plan_step plan images c ≡ ok (null j (row_cursor c.start (c.item + 1) c.offset))
     unfolding step_over item_at
-    row-null n = goes ∙ rw (slots-here l, n, col)
+    row_null n = goes ∙ rw (slots_here l, n, col)
 
     module _ (n : bit_lsb0 im c.item ≡ false) (x : Read) (q : read_told x
         ≡ read_value (shape_for (get_or plan (3 * c.item) 0)) j im c.offset) where
@@ -79,13 +79,13 @@ module _ (plan images : List ℕ) (c : RowCursor) {im : List ℕ} (is : im ≡ d
 
       read : plan_step plan images c ≡ then (read_told x)
       unfolding step_over item_at
-      read = goes ∙ rw (slots-here l, n, sym col, sym q) (through (read_told x))
+      read = goes ∙ rw (slots_here l, n, sym col, sym q) (through (read_told x))
 
-      pub row-got : (v : Value) (o : ℕ) → x ≡ Got v o → plan_step plan images c ≡ ok (value j v (row_cursor c.start (c.item + 1) o))
-      row-got v o y = rw y at read
+      pub row_got : (v : Value) (o : ℕ) → x ≡ Got v o → plan_step plan images c ≡ ok (value j v (row_cursor c.start (c.item + 1) o))
+      row_got v o y = rw y at read
 
-      pub row-bad : (w : Refusal) → x ≡ Refused w → plan_step plan images c ≡ refused w
-      row-bad w y = rw y at read
+      pub row_bad : (w : Refusal) → x ≡ Refused w → plan_step plan images c ≡ refused w
+      row_bad w y = rw y at read
 
 -- ---- the tests
 pub row_none : (plan images : List ℕ) (c : RowCursor) → item_count plan < c.item → plan_step plan images c ≡ refuse 14 c.item

@@ -35,20 +35,20 @@ module _ (r p d : List ℕ) (h : Head) (e : head_of r p ≡ ok h) where
   pub columns_are : h.columns ≡ count_of r
   columns_are = (head_tested r p e).columns
 
-  pub items-are : length (present r p) ≡ h.present
-  items-are = present_length r p ∙ sym (ap (count_bits p) columns_are) ∙ sym (head_tested r p e).present
+  pub items_are : length (present r p) ≡ h.present
+  items_are = present_length r p ∙ sym (ap (count_bits p) columns_are) ∙ sym (head_tested r p e).present
 
   -- three bytes for each present column
   size_is : length (plan_of r p) ≡ 3 * h.present
   unfolding plan_of
-  size_is = plan_length (present r p) ∙ ap (λ (i : ℕ). 3 * i) items-are
+  size_is = plan_length (present r p) ∙ ap (λ (i : ℕ). 3 * i) items_are
 
-  pub make-full : length d < 3 * h.present → make_plan r p d ≡ refuse 8 0
+  pub make_full : length d < 3 * h.present → make_plan r p d ≡ refuse 8 0
   unfolding make_plan store
-  make-full f = rw (e, lt-leb (0 + length (plan_of r p)) (length d) (omega (arith, size_is)))
+  make_full f = rw (e, lt-leb (0 + length (plan_of r p)) (length d) (omega (arith, size_is)))
 
-  pub make-done : 3 * h.present ≤ length d → make_plan r p d ≡ ok ((3 * h.present, h.present), stored (plan_of r p) d 0)
+  pub make_done : 3 * h.present ≤ length d → make_plan r p d ≡ ok ((3 * h.present, h.present), stored (plan_of r p) d 0)
   unfolding make_plan
-  make-done f =
+  make_done f =
       let z : 0 + length (plan_of r p) ≡ 3 * h.present = omega (arith, size_is) in
       rw (e, store_fits d (plan_of r p) 0 (omega (arith, size_is)), z)

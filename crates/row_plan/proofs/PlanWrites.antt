@@ -66,10 +66,10 @@ next j w = after w (λ x. ok (cursor (j + 1) x.0, x.1))
 
 module _ (p lent : List ℕ) (v : Value) (buf : List ℕ) (c : Cursor) (i : Slot) (is : List Slot) where
   -- over the same slots, from a cursor with another number in place of its column
-  over-alike : (k : ℕ) → count_bits p (i.present.column + 1) ≡ k + 1
+  over_alike : (k : ℕ) → count_bits p (i.present.column + 1) ≡ k + 1
       → told k (put_over (i ∷ is) (cursor k c.offset) lent v buf) ≡ items p (put_over (i ∷ is) c lent v buf)
   unfolding put_over item_of
-  over-alike k e = go (slot_bytes i lent v)
+  over_alike k e = go (slot_bytes i lent v)
     where
       stores : (w : Outcome (ℕ × List ℕ)) → told k (next i.present.column w) ≡ items p (next i.present.column w)
       stores (ok x) = rw e
@@ -82,42 +82,42 @@ module _ (p lent : List ℕ) (v : Value) (buf : List ℕ) (c : Cursor) (i : Slot
       go (refused z) = refl
 
   -- the cursor behind
-  over-next : (x : Cursor × List ℕ) → put_over (i ∷ is) c lent v buf ≡ ok x → x.0.column ≡ i.present.column + 1
+  over_next : (x : Cursor × List ℕ) → put_over (i ∷ is) c lent v buf ≡ ok x → x.0.column ≡ i.present.column + 1
   unfolding put_over
-  over-next x e =
+  over_next x e =
       let a = after_is_ok (slot_bytes i lent v) _ x e in
       let b = after_is_ok (store a.0 buf c.offset) _ x a.2 in
       ap (λ (y : Cursor × List ℕ). y.0.column) (sym (same_ok b.2))
 
 module _ (r p nulls lent : List ℕ) (v : Value) (buf : List ℕ) (c : Cursor) (u : Over r p) (b : c.column ≤ count_of r) where
   -- past the tests it goes over the slots from its column on
-  put-goes : (t : Bool) → eqb (length nulls) (null_bytes r p) ≡ t
+  put_goes : (t : Bool) → eqb (length nulls) (null_bytes r p) ≡ t
       → put_from r p nulls c lent v buf ≡ cond t (put_over (slots_at r p nulls c.column) c lent v buf) (refuse 12 0)
   unfolding put_from head_nulls
-  put-goes true e = rw (head_is r p u, e, le-ltb (count_of r) c.column b)
-  put-goes false e = rw (head_is r p u, e)
+  put_goes true e = rw (head_is r p u, e, le-ltb (count_of r) c.column b)
+  put_goes false e = rw (head_is r p u, e)
 
-  plan-goes : (t : Bool) → eqb (length nulls) (null_bytes r p) ≡ t
+  plan_goes : (t : Bool) → eqb (length nulls) (null_bytes r p) ≡ t
       → plan_put (plan_of r p) nulls (item_of p c) lent v buf
       ≡ cond t (told (count_bits p c.column) (put_over (slots_at r p nulls c.column) (cursor (count_bits p c.column) c.offset)
       lent v buf)) (refuse 12 0)
   unfolding plan_put item_of
-  plan-goes t e = rw (plan_slots_lem r p nulls c.column u.valid b, items_present r p, e)
+  plan_goes t e = rw (plan_slots_lem r p nulls c.column u.valid b, items_present r p, e)
 
   module _ (l : count_bits p c.column < count_bits p (count_of r)) where
     -- a value is written alike, from a cursor of the writer that has a present column left
-    put-alike : plan_put (plan_of r p) nulls (item_of p c) lent v buf ≡ items p (put_from r p nulls c lent v buf)
-    put-alike = go (eqb (length nulls) (null_bytes r p)) refl
+    put_alike : plan_put (plan_of r p) nulls (item_of p c) lent v buf ≡ items p (put_from r p nulls c lent v buf)
+    put_alike = go (eqb (length nulls) (null_bytes r p)) refl
       where
         go : (t : Bool) → eqb (length nulls) (null_bytes r p) ≡ t
             → plan_put (plan_of r p) nulls (item_of p c) lent v buf ≡ items p (put_from r p nulls c lent v buf)
-        go false e = plan-goes false e ∙ sym (ap (items p) (put-goes false e))
+        go false e = plan_goes false e ∙ sym (ap (items p) (put_goes false e))
         go true e =
             let h = ahead r p nulls c.column b l in
-            plan-goes true e
+            plan_goes true e
             ∙ rw h.is
-            (over-alike p lent v buf c (slot_at r p nulls h.at) (slots_at r p nulls (h.at + 1)) (count_bits p c.column) h.rank)
-            ∙ sym (ap (items p) (put-goes true e))
+            (over_alike p lent v buf c (slot_at r p nulls h.at) (slots_at r p nulls (h.at + 1)) (count_bits p c.column) h.rank)
+            ∙ sym (ap (items p) (put_goes true e))
 
     -- and the cursor behind it has one item less before it
     next_of : (x : Cursor × List ℕ) → put_from r p nulls c lent v buf ≡ ok x
@@ -126,12 +126,12 @@ module _ (r p nulls lent : List ℕ) (v : Value) (buf : List ℕ) (c : Cursor) (
       where
         go : (t : Bool) → eqb (length nulls) (null_bytes r p) ≡ t → put_from r p nulls c lent v buf ≡ ok x
             → (x.0.column ≤ count_of r) × (count_bits p x.0.column ≡ count_bits p c.column + 1)
-        go false e q = absurd (let z : refuse 12 0 ≡ ok x = sym (put-goes false e) ∙ q in let y : ◌≡◌ {A = ℕ} 0 1 = cc in omega arith)
+        go false e q = absurd (let z : refuse 12 0 ≡ ok x = sym (put_goes false e) ∙ q in let y : ◌≡◌ {A = ℕ} 0 1 = cc in omega arith)
         go true e q =
             let h = ahead r p nulls c.column b l in
             let w : put_over (slot_at r p nulls h.at ∷ slots_at r p nulls (h.at + 1)) c lent v buf ≡ ok x =
-            rw h.is at (sym (put-goes true e) ∙ q) in
-            let n = over-next p lent v buf c (slot_at r p nulls h.at) (slots_at r p nulls (h.at + 1)) x w in
+            rw h.is at (sym (put_goes true e) ∙ q) in
+            let n = over_next p lent v buf c (slot_at r p nulls h.at) (slots_at r p nulls (h.at + 1)) x w in
             (omega (arith, n, h.below), ap (count_bits p) n ∙ h.rank)
 
 -- by the plan a value is written as under the record: a column above the record's has no present one left
@@ -140,7 +140,7 @@ pub plan_put_lem : (r p nulls lent : List ℕ) (v : Value) (buf : List ℕ) (c :
     → plan_put (plan_of r p) nulls (item_of p c) lent v buf ≡ items p (put_from r p nulls c lent v buf)
 plan_put_lem r p nulls lent v buf c u l =
     dite (dec_le c.column (count_of r))
-    (λ b. put-alike r p nulls lent v buf c u b l)
+    (λ b. put_alike r p nulls lent v buf c u b l)
     (λ b. let e : count_of r + (c.column - count_of r) ≡ c.column = omega arith in
     let m = rw e at (count_up p (count_of r) (c.column - count_of r)) in absurd (omega arith))
 
@@ -151,7 +151,7 @@ puts_alike : (r p nulls : List ℕ) → Over r p → (gs : List LentValue) (c : 
 unfolding plan_puts put_row
 puts_alike r p nulls u [] c buf b l = refl
 puts_alike r p nulls u (g ∷ gs) c buf b l =
-    rw (put-alike r p nulls g.lent g.value buf c u b (omega arith))
+    rw (put_alike r p nulls g.lent g.value buf c u b (omega arith))
     (go (puts_alike r p nulls u gs) (put_from r p nulls c g.lent g.value buf) refl)
   where
     go : ((c : Cursor) (buf : List ℕ) → c.column ≤ count_of r → count_bits p c.column + length gs ≤ count_bits p (count_of r)
@@ -203,7 +203,7 @@ left_alike : (r p nulls : List ℕ) → Over r p → (gs : List LentValue) (c : 
 unfolding plan_puts_left put_left
 left_alike r p nulls u [] c buf b l = refl
 left_alike r p nulls u (g ∷ gs) c buf b l =
-    rw (put-alike r p nulls g.lent g.value buf c u b (omega arith))
+    rw (put_alike r p nulls g.lent g.value buf c u b (omega arith))
     (go (left_alike r p nulls u gs) (put_from r p nulls c g.lent g.value buf) refl)
   where
     go : ((c : Cursor) (buf : List ℕ) → c.column ≤ count_of r → count_bits p c.column + length gs ≤ count_bits p (count_of r)

@@ -15,7 +15,7 @@ use Rattle.row_plan.specs.Plan.{item_count, RowStepped, null, value, end, plan_s
 use Rattle.value.specs.declared.datum.Value.TheVariants.{Null}
 use Rattle.row_plan.specs.Runs.{value_numbers, turned, is_over, RowRan, ran, run_on, run_from, run_answer, read_run}
 use Rattle.row_plan.specs.Inner.Paused.{Stands, row_gate, stop_answer}
-use Rattle.row_plan.proofs.Goes.{row-end}
+use Rattle.row_plan.proofs.Goes.{row_end}
 use Rattle.row_plan.proofs.RunLaws.{gate_refused, gate_open}
 
 -- ---- a run that stored nothing left the buffer as it was
@@ -74,29 +74,29 @@ module _ (plan images : List ℕ) (room : ℕ) (d₀ : List ℕ) (c₀ : RowCurs
       let e : room - values ≡ suc (room - (values + 1)) = omega arith in
       sym r.goes ∙ ap (λ (k : ℕ). run_from k plan images c values d) e
 
-  pub read-over : is_over images here ≡ true → run_from room plan images c₀ 0 d₀ ≡ ran values here (ok tt) d
+  pub read_over : is_over images here ≡ true → run_from room plan images c₀ 0 d₀ ≡ ran values here (ok tt) d
   unfolding run_from
-  read-over o = turns ∙ rw (sym h, o)
+  read_over o = turns ∙ rw (sym h, o)
 
   module _ (o : is_over images here ≡ false) where
     steps : run_from room plan images c₀ 0 d₀ ≡ run_on (run_from m plan images) here values d (plan_step plan images here)
     unfolding run_from
     steps = turns ∙ rw (sym h, o)
 
-    pub read-refused : (w : Refusal) → row_gate (item_count plan) (length images - here.start) here ≡ refused w
+    pub read_refused : (w : Refusal) → row_gate (item_count plan) (length images - here.start) here ≡ refused w
         → run_from room plan images c₀ 0 d₀ ≡ ran values here (refused w) d
-    read-refused w g = steps ∙ ap (run_on (run_from m plan images) here values d) (gate_refused plan images here w g)
+    read_refused w g = steps ∙ ap (run_on (run_from m plan images) here values d) (gate_refused plan images here w g)
 
     module _ (g : row_gate (item_count plan) (length images - here.start) here ≡ ok tt) where
-      pub read-end : here.item ≡ item_count plan → run_from room plan images c₀ 0 d₀ ≡ ran values here (ok tt) d
-      read-end e =
+      pub read_end : here.item ≡ item_count plan → run_from room plan images c₀ 0 d₀ ≡ ran values here (ok tt) d
+      read_end e =
           let t = gate_open (item_count plan) (length images - here.start) here g in
           let n = length-drop here.start images in
           steps ∙ ap (run_on (run_from m plan images) here values d)
-          (row-end plan images here refl t.0 (omega (arith, t.1, n)) (omega (arith, t.2, n)) e)
+          (row_end plan images here refl t.0 (omega (arith, t.1, n)) (omega (arith, t.2, n)) e)
 
-      pub read-stands : (items : ℕ) → items ≡ item_count plan → (here.item ≡ items → ⊥) → Stands plan images items here
-      read-stands items e f =
+      pub read_stands : (items : ℕ) → items ≡ item_count plan → (here.item ≡ items → ⊥) → Stands plan images items here
+      read_stands items e f =
           let t = gate_open (item_count plan) (length images - here.start) here g in
           record {
             count = e;
@@ -105,10 +105,10 @@ module _ (plan images : List ℕ) (room : ℕ) (d₀ : List ℕ) (c₀ : RowCurs
             offset = t.2;
           }
 
-      pub read-enter : (here.item ≡ item_count plan → ⊥)
+      pub read_enter : (here.item ≡ item_count plan → ⊥)
           → run_from (room - values) plan images here values d ≡ run_from room plan images c₀ 0 d₀
       unfolding run_from turned
-      read-enter f =
+      read_enter f =
           let e : room - values ≡ suc (room - (values + 1)) = omega arith in
           rw e (rw (ne_eqb here.item (item_count plan) f, o) (sym steps))
 
@@ -129,16 +129,16 @@ module _ (plan images : List ℕ) (c₀ : RowCursor) (d₀ : List ℕ) (room : �
   by_count true z = ap some (sym (eqb-true v 0 z))
   by_count false z = refl
 
-  pub told-ran : run_from room plan images c₀ 0 d₀ ≡ ran v c (ok tt) d → read_run plan images c₀ d₀ ≡ ok ((v, c), d)
-  told-ran g = goes_on _ g ∙ by_count (eqb v 0) refl
+  pub told_ran : run_from room plan images c₀ 0 d₀ ≡ ran v c (ok tt) d → read_run plan images c₀ d₀ ≡ ok ((v, c), d)
+  told_ran g = goes_on _ g ∙ by_count (eqb v 0) refl
 
   module _ (w : Refusal) (g : run_from room plan images c₀ 0 d₀ ≡ ran v c (refused w) d) where
-    answer-by : (b : Bool) → answer_of (cond b (refused w) (some v)) ≡ cond b (refused w) said
-    answer-by true = refl
-    answer-by false = refl
+    answer_by : (b : Bool) → answer_of (cond b (refused w) (some v)) ≡ cond b (refused w) said
+    answer_by true = refl
+    answer_by false = refl
 
-    pub told-stopped : stop_answer v c w ≡ answer_of (read_run plan images c₀ d₀)
-    told-stopped = sym (ap answer_of (goes_on _ g) ∙ answer-by (eqb v 0))
+    pub told_stopped : stop_answer v c w ≡ answer_of (read_run plan images c₀ d₀)
+    told_stopped = sym (ap answer_of (goes_on _ g) ∙ answer_by (eqb v 0))
 
     left_by : (b : Bool) → eqb v 0 ≡ b → d ≡ left_of (cond b (refused w) (some v)) d₀
     left_by true z =
@@ -147,8 +147,8 @@ module _ (plan images : List ℕ) (c₀ : RowCursor) (d₀ : List ℕ) (room : �
         ap (λ (x : RowRan). x.left) (sym g) ∙ k.kept n
     left_by false z = refl
 
-    pub left-stopped : d ≡ left_of (read_run plan images c₀ d₀) d₀
-    left-stopped =
+    pub left_stopped : d ≡ left_of (read_run plan images c₀ d₀) d₀
+    left_stopped =
         left_by (eqb v 0) refl ∙ sym (ap (λ (x : Outcome ((ℕ × RowCursor) × List ℕ)). left_of x d₀) (goes_on _ g))
 
 pub told_full : (plan images : List ℕ) (c : RowCursor) (d : List ℕ) → length d < 8 → read_run plan images c d ≡ refuse 8 0

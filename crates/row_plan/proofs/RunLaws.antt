@@ -30,7 +30,7 @@ use Rattle.row_plan.specs.Inner.Numbers.{numbered, item_numbers}
 use Rattle.row_plan.specs.Inner.Fast.{Took, TookItem}
 use Rattle.row_plan.specs.Inner.Paused.{Stands, Running, row_gate}
 use Rattle.row_plan.proofs.NumberLaws.{one_listed}
-use Rattle.row_plan.proofs.Goes.{goes, slots-here}
+use Rattle.row_plan.proofs.Goes.{goes, slots_here}
 
 -- ---- eight numbers stored one after the other
 next_stored : (d : List ℕ) (at : ℕ) (w : List ℕ) (x : ℕ) → at + length w < length d
@@ -92,11 +92,11 @@ bound im (refused w) c false ns o h k e = absurd (ok_not_refused (sym e))
 
 module _ (plan images : List ℕ) (items : ℕ) (c : RowCursor) (t : Stands plan images items c) {im : List ℕ} (is : im
     ≡ drop c.start images) where
-  pub im-length : length im ≡ length images - c.start
-  im-length = ap length is ∙ length-drop c.start images
+  pub im_length : length im ≡ length images - c.start
+  im_length = ap length is ∙ length-drop c.start images
 
-  abbrev readHere : Outcome (Value × ℕ)
-  readHere = read_value (shape_for (get_or plan (3 * c.item) 0)) (le_value (take 2 (drop (3 * c.item + 1) plan))) im c.offset
+  abbrev read_here : Outcome (Value × ℕ)
+  read_here = read_value (shape_for (get_or plan (3 * c.item) 0)) (le_value (take 2 (drop (3 * c.item + 1) plan))) im c.offset
 
   abbrev column : ℕ
   column = le_value (take 2 (drop (3 * c.item + 1) plan))
@@ -109,47 +109,47 @@ module _ (plan images : List ℕ) (items : ℕ) (c : RowCursor) (t : Stands plan
 
   over : (b : Bool)
       → after (cond b (ok (null₁ column (cursor (column + 1) c.offset)))
-      (after readHere (λ y. ok (value₁ column y.0 (cursor (column + 1) y.1))))) (λ t. ok (row_next c t))
-      ≡ step_of column c b readHere
+      (after read_here (λ y. ok (value₁ column y.0 (cursor (column + 1) y.1))))) (λ t. ok (row_next c t))
+      ≡ step_of column c b read_here
   over true = refl
-  over false = through readHere
+  over false = through read_here
 
-  pub step-here : plan_step plan images c ≡ step_of column c (bit_lsb0 im c.item) readHere
+  pub step_here : plan_step plan images c ≡ step_of column c (bit_lsb0 im c.item) read_here
   unfolding step_over item_at
-  step-here =
+  step_here =
       let i : c.item < item_count plan = omega (arith, t.item, t.count) in
-      let n : bytes_for (item_count plan) ≤ length im = omega (arith, t.nulls, t.count, im-length) in
-      let o : c.offset ≤ length im = omega (arith, t.offset, im-length) in
-      goes plan images c is (omega arith) n o ∙ rw (slots-here plan images c is (omega arith) n o i) (over (bit_lsb0 im c.item))
+      let n : bytes_for (item_count plan) ≤ length im = omega (arith, t.nulls, t.count, im_length) in
+      let o : c.offset ≤ length im = omega (arith, t.offset, im_length) in
+      goes plan images c is (omega arith) n o ∙ rw (slots_here plan images c is (omega arith) n o i) (over (bit_lsb0 im c.item))
 
   -- there the run does not turn, and is not over
-  run-here : (m v : ℕ) (d : List ℕ)
-      → run_from (suc m) plan images c v d ≡ run_on (run_from m plan images) c v d (step_of column c (bit_lsb0 im c.item) readHere)
+  run_here : (m v : ℕ) (d : List ℕ)
+      → run_from (suc m) plan images c v d ≡ run_on (run_from m plan images) c v d (step_of column c (bit_lsb0 im c.item) read_here)
   unfolding run_from turned is_over
-  run-here m v d =
+  run_here m v d =
       let i : c.item ≡ item_count plan → ⊥ = λ e. omega (arith, t.item, t.count, e) in
       let s : c.start ≡ length images → ⊥ = λ e. omega (arith, t.nulls, t.item, e) in
-      rw (ne_eqb c.item (item_count plan) i, ne_eqb c.start (length images) s, and_false (eqb c.item 0), step-here)
+      rw (ne_eqb c.item (item_count plan) i, ne_eqb c.start (length images) s, and_false (eqb c.item 0), step_here)
 
-  pub run-got : (m v : ℕ) (d ns : List ℕ) (o : ℕ) → item_numbers plan im c.start c.item c.offset ≡ ok (ns, o)
+  pub run_got : (m v : ℕ) (d ns : List ℕ) (o : ℕ) → item_numbers plan im c.start c.item c.offset ≡ ok (ns, o)
       → run_from (suc m) plan images c v d
       ≡ run_from m plan images (row_cursor c.start (c.item + 1) o) (v + 1) (stored ns d (8 * v))
   unfolding item_numbers
-  run-got m v d ns o e = run-here m v d ∙ on_got (run_from m plan images) column c v d (bit_lsb0 im c.item) readHere ns o e
+  run_got m v d ns o e = run_here m v d ∙ on_got (run_from m plan images) column c v d (bit_lsb0 im c.item) read_here ns o e
 
-  pub run-bad : (m v : ℕ) (d : List ℕ) (w : Refusal) → item_numbers plan im c.start c.item c.offset ≡ refused w
+  pub run_bad : (m v : ℕ) (d : List ℕ) (w : Refusal) → item_numbers plan im c.start c.item c.offset ≡ refused w
       → run_from (suc m) plan images c v d ≡ ran v c (refused w) d
   unfolding item_numbers
-  run-bad m v d w e = run-here m v d ∙ on_bad (run_from m plan images) column c v d (bit_lsb0 im c.item) readHere w e
+  run_bad m v d w e = run_here m v d ∙ on_bad (run_from m plan images) column c v d (bit_lsb0 im c.item) read_here w e
 
-  pub next-inside : (ns : List ℕ) (o : ℕ) → item_numbers plan im c.start c.item c.offset ≡ ok (ns, o)
+  pub next_inside : (ns : List ℕ) (o : ℕ) → item_numbers plan im c.start c.item c.offset ≡ ok (ns, o)
       → o ≤ length images - c.start
   unfolding item_numbers
-  next-inside ns o e =
-      let l : c.offset ≤ length im = omega (arith, t.offset, im-length) in
-      let b = bound im readHere c (bit_lsb0 im c.item) ns o l (λ x y.
+  next_inside ns o e =
+      let l : c.offset ≤ length im = omega (arith, t.offset, im_length) in
+      let b = bound im read_here c (bit_lsb0 im c.item) ns o l (λ x y.
       value_within (shape_for (get_or plan (3 * c.item) 0)) column im c.offset x l y) e in
-      omega (arith, b, im-length)
+      omega (arith, b, im_length)
 
 -- ---- before an image: the tests, and what a step says where they do not hold
 pub gate_refused : (plan images : List ℕ) (c : RowCursor) (w : Refusal) → row_gate (item_count plan) (length images - c.start) c ≡ refused w
@@ -262,10 +262,10 @@ run_begin plan images items room had d here t h = record {
 module _ (plan images : List ℕ) (items room had : ℕ) (d₀ : List ℕ) (here : RowCursor) (t : Stands plan images items here) (d : List ℕ)
     (item offset values : ℕ) (r : Running plan images items room had d₀ here d item offset values) (l : values < room)
     (i : item < items) {im : List ℕ} (is : im ≡ drop here.start images) where
-  pub run-turn : (ns : List ℕ) (o : ℕ) (d' : List ℕ) → item_numbers plan im here.start item offset ≡ ok (ns, o)
+  pub run_turn : (ns : List ℕ) (o : ℕ) (d' : List ℕ) → item_numbers plan im here.start item offset ≡ ok (ns, o)
       → d' ≡ stored ns d (8 * values) → length d' ≡ length d
       → Running plan images items room had d₀ here d' (item + 1) o (values + 1)
-  run-turn ns o d' e s n =
+  run_turn ns o d' e s n =
       let u = standing plan images items here item offset t i r.inside in
       let m : room - values ≡ suc (room - (values + 1)) = omega arith in
       record {
@@ -274,19 +274,19 @@ module _ (plan images : List ℕ) (items room had : ℕ) (d₀ : List ℕ) (here
         counted = omega arith;
         first = λ x. absurd (omega (arith, r.more, x));
         same = n ∙ r.same;
-        inside = next-inside plan images items (row_cursor here.start item offset) u is ns o e;
+        inside = next_inside plan images items (row_cursor here.start item offset) u is ns o e;
         goes =
             ap (λ (b : List ℕ). run_from (room - (values + 1)) plan images (row_cursor here.start (item + 1) o) (values + 1) b) s
-            ∙ sym (run-got plan images items (row_cursor here.start item offset) u is (room - (values + 1)) values d ns o e)
+            ∙ sym (run_got plan images items (row_cursor here.start item offset) u is (room - (values + 1)) values d ns o e)
             ∙ ap (λ (k : ℕ). run_from k plan images (row_cursor here.start item offset) values d) (sym m) ∙ r.goes;
       }
 
-  pub run-stop : (w : Refusal) → item_numbers plan im here.start item offset ≡ refused w
+  pub run_stop : (w : Refusal) → item_numbers plan im here.start item offset ≡ refused w
       → ran values (row_cursor here.start item offset) (refused w) d ≡ run_from (room - had) plan images here had d₀
-  run-stop w e =
+  run_stop w e =
       let u = standing plan images items here item offset t i r.inside in
       let m : room - values ≡ suc (room - (values + 1)) = omega arith in
-      sym (run-bad plan images items (row_cursor here.start item offset) u is (room - (values + 1)) values d w e)
+      sym (run_bad plan images items (row_cursor here.start item offset) u is (room - (values + 1)) values d w e)
       ∙ ap (λ (k : ℕ). run_from k plan images (row_cursor here.start item offset) values d) (sym m) ∙ r.goes
 
 -- ---- an item read fast
@@ -360,12 +360,12 @@ take_fits offset limit item len n h l f b = omega arith
 module _ (plan images : List ℕ) (items room had : ℕ) (d₀ : List ℕ) (here : RowCursor) (t : Stands plan images items here) (d : List ℕ)
     (item offset values limit : ℕ) (r : Taking plan images items room had d₀ here d item offset values limit) (l : item < limit)
     {im : List ℕ} (is : im ≡ drop here.start images) where
-  pub take-turn : (n : ℕ) (d' : List ℕ) → TookItem plan im item offset d d' (8 * values) n → (n ≡ 0 → ⊥) → length d' ≡ length d
+  pub take_turn : (n : ℕ) (d' : List ℕ) → TookItem plan im item offset d d' (8 * values) n → (n ≡ 0 → ⊥) → length d' ≡ length d
       → Taking plan images items room had d₀ here d' (item + 1) (offset + (n - 1)) (values + 1) limit
-  take-turn n d' k f e =
+  take_turn n d' k f e =
       let g = k.taken f in
       record {
-        run = run-turn plan images items room had d₀ here t d item offset values r.run (omega (arith, r.space))
+        run = run_turn plan images items room had d₀ here t d item offset values r.run (omega (arith, r.space))
             (omega (arith, r.most)) is g.numbers (offset + (n - 1)) d' (g.read here.start 0) g.put e;
         space = omega (arith, r.space);
         bytes = omega (arith, r.bytes, k.few);

@@ -24,7 +24,7 @@ use Rattle.row_plan.specs.Plan.{plan_of, item_count, item_at, row_cursor, RowSte
 use Rattle.row_plan.specs.Runs.{value_numbers, turned, is_over, RowRan, run_on, run_from}
 use Rattle.row_plan.specs.Inner.Paused.{Stands}
 use Rattle.row_plan.proofs.Rows.{items_present}
-use Rattle.row_plan.proofs.RunLaws.{step-here}
+use Rattle.row_plan.proofs.RunLaws.{step_here}
 
 pub items_are : (r p : List ℕ) → item_count (plan_of r p) ≡ length (present r p)
 items_are r p = items_present r p ∙ sym (present_length r p)
@@ -74,4 +74,4 @@ no_op plan images c i z b d n =
     let l = length-drop c.start images in
     let t : Stands plan images (item_count plan) c =
     record { count = refl; item = i; nulls = omega (arith, b, l); offset = omega (arith, d, l) } in
-    step-here plan images (item_count plan) c t refl ∙ rw (not_true (bit_lsb0 (drop c.start images) c.item) n, z)
+    step_here plan images (item_count plan) c t refl ∙ rw (not_true (bit_lsb0 (drop c.start images) c.item) n, z)

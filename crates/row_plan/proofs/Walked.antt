@@ -33,9 +33,9 @@ use Rattle.row_plan.specs.Runs.{value_numbers, run_from}
 use Rattle.row_plan.specs.Rows.{Same, put_values, Stopped, at_end, at_refusal, RowRun}
 use Rattle.row_plan.specs.Inner.Numbers.{item_numbers}
 use Rattle.row_plan.specs.Inner.Paused.{Stands}
-use Rattle.row_plan.proofs.Goes.{slots-here, slots_end, row_short}
+use Rattle.row_plan.proofs.Goes.{slots_here, slots_end, row_short}
 use Rattle.row_plan.proofs.Rows.{plan_slots_lem, items_present}
-use Rattle.row_plan.proofs.RunLaws.{run-got, item_null, item_read, next-inside, step-here}
+use Rattle.row_plan.proofs.RunLaws.{run_got, item_null, item_read, next_inside, step_here}
 
 module _ (plan images : List ℕ) (start : ℕ) where
   abbrev im : List ℕ
@@ -63,7 +63,7 @@ module _ (plan images : List ℕ) (start : ℕ) where
             let k : v + 1 + length xs ≡ v + suc (length xs) = omega arith in
             let z : suc (length xs) + m ≡ suc (length xs + m) = omega arith in
             ap (λ (i : ℕ). run_from i plan images (row_cursor start item offset) v buf) z
-            ∙ run-got plan images (item_count plan) (row_cursor start item offset) t refl (length xs + m) v buf (value_numbers start x) o e
+            ∙ run_got plan images (item_count plan) (row_cursor start item offset) t refl (length xs + m) v buf (value_numbers start x) o e
             ∙ r.goes m (v + 1) (stored (value_numbers start x) buf (8 * v))
             ∙ rw (n, k);
         stops = subst (λ (i : ℕ). Stopped plan images start i r.last w.how) n r.stops;
@@ -105,11 +105,11 @@ module _ (plan images : List ℕ) (start : ℕ) where
   unfolding read_value
   numbers_of item offset d n u e = item_read plan im start item offset (op item) (column item) u refl refl ∙ rw e
 
-  step-refused : (item offset : ℕ) (w : Refusal) → Stands plan images (item_count plan) (row_cursor start item offset)
+  step_refused : (item offset : ℕ) (w : Refusal) → Stands plan images (item_count plan) (row_cursor start item offset)
       → bit_lsb0 im item ≡ false → read_datum (shape item) (column item) (drop offset im) ≡ refused w
       → plan_step plan images (row_cursor start item offset) ≡ refused w
   unfolding read_value
-  step-refused item offset w t u e = step-here plan images (item_count plan) (row_cursor start item offset) t refl ∙ rw (u, e)
+  step_refused item offset w t u e = step_here plan images (item_count plan) (row_cursor start item offset) t refl ∙ rw (u, e)
 
   module _ (item offset : ℕ) (t : Stands plan images (item_count plan) (row_cursor start item offset))
       (ih : (o : ℕ) → o ≤ length images - start
@@ -117,8 +117,8 @@ module _ (plan images : List ℕ) (start : ℕ) where
     abbrev behind : ℕ → RowWalked
     behind n = read_slots (plan_slots plan im (suc item)) (drop n (drop offset im)) (offset + n)
 
-    behind-is : (n : ℕ) → read_slots (plan_slots plan im (item + 1)) (drop (offset + n) im) (offset + n) ≡ behind n
-    behind-is n = rw (add-one item, drop-drop n offset im)
+    behind_is : (n : ℕ) → read_slots (plan_slots plan im (item + 1)) (drop (offset + n) im) (offset + n) ≡ behind n
+    behind_is n = rw (add-one item, drop-drop n offset im)
 
     by_read : bit_lsb0 im item ≡ false → (x : Outcome (Datum × ℕ)) → read_datum (shape item) (column item) (drop offset im) ≡ x
         → RowRun plan images start item offset (answered (column item) behind x)
@@ -126,12 +126,12 @@ module _ (plan images : List ℕ) (start : ℕ) where
         let d = x.0 in
         let n = x.1 in
         let q = numbers_of item offset d n u e in
-        let l = next-inside plan images (item_count plan) (row_cursor start item offset) t refl (value_numbers start (placed (offset + n) d))
+        let l = next_inside plan images (item_count plan) (row_cursor start item offset) t refl (value_numbers start (placed (offset + n) d))
         (offset + n) q in
-        subst (λ (w : RowWalked). RowRun plan images start item offset (with_answer (column item, d) w)) (behind-is n)
+        subst (λ (w : RowWalked). RowRun plan images start item offset (with_answer (column item, d) w)) (behind_is n)
         (more item offset (offset + n) (placed (offset + n) d) (column item, d) _ t q
         (said_read (shape item) (column item) im offset d n e) (ih (offset + n) l))
-    by_read u (refused w) e = none item offset w (step-refused item offset w t u e)
+    by_read u (refused w) e = none item offset w (step_refused item offset w t u e)
 
     by_bit : (bit : Bool) → bit_lsb0 im item ≡ bit
         → RowRun plan images start item offset
@@ -139,7 +139,7 @@ module _ (plan images : List ℕ) (start : ℕ) where
     unfolding datum_of
     by_bit true u =
         let z : offset + 0 ≡ offset = omega arith in
-        subst (λ (w : RowWalked). RowRun plan images start item offset (with_answer (column item, nullDatum) w)) (behind-is 0)
+        subst (λ (w : RowWalked). RowRun plan images start item offset (with_answer (column item, nullDatum) w)) (behind_is 0)
         (more item offset (offset + 0) Null (column item, nullDatum) _ t (item_null plan im start item offset u ∙ rw z) refl
         (ih (offset + 0) (rw z t.offset)))
     by_bit false u = by_read u (read_datum (shape item) (column item) (drop offset im)) refl
@@ -149,12 +149,12 @@ module _ (plan images : List ℕ) (start : ℕ) where
   unfolding read_slots
   no_slot s o = refl
 
-  one-slot : (item offset : ℕ)
+  one_slot : (item offset : ℕ)
       → read_slots (record { present = item_at plan item; null = bit_lsb0 im item } ∷ plan_slots plan im (suc item)) (drop offset im) offset
       ≡ answered (column item) (λ n. read_slots (plan_slots plan im (suc item)) (drop n (drop offset im)) (offset + n))
       (cond (bit_lsb0 im item) (ok (nullDatum, 0)) (read_datum (shape item) (column item) (drop offset im)))
   unfolding read_slots read_slot item_at
-  one-slot item offset = refl
+  one_slot item offset = refl
 
   follow : (k item offset : ℕ) → k + item ≡ item_count plan → bytes_for (item_count plan) ≤ length images - start
       → offset ≤ length images - start
@@ -171,9 +171,9 @@ module _ (plan images : List ℕ) (start : ℕ) where
       let l : item < item_count plan = omega arith in
       let t : Stands plan images (item_count plan)
       (row_cursor start item offset) = record { count = refl; item = l; nulls = b; offset = d } in
-      let q = slots-here plan images (row_cursor start item offset) refl (omega arith) (omega (arith, b, n)) (omega (arith, d, n)) l in
+      let q = slots_here plan images (row_cursor start item offset) refl (omega arith) (omega (arith, b, n)) (omega (arith, d, n)) l in
       subst (λ (w : RowWalked). RowRun plan images start item offset w)
-      (sym (one-slot item offset) ∙ ap (λ (is : List Slot). read_slots is (drop offset im) offset) (sym q))
+      (sym (one_slot item offset) ∙ ap (λ (is : List Slot). read_slots is (drop offset im) offset) (sym q))
       (by_bit item offset t (λ o h. follow k (item + 1) o (omega arith) b h) (bit_lsb0 im item) refl)
 
 -- ---- under a record

@@ -95,41 +95,41 @@ module _ (plan nulls : List ℕ) (c : ItemCursor) (lent : List ℕ) (v : Value) 
   abbrev put : Outcome (ItemCursor × List ℕ)
   put = plan_put plan nulls c lent v buf
 
-  pub put-bits : (length nulls ≡ bytes_for (item_count plan) → ⊥) → put ≡ refuse 12 0
+  pub put_bits : (length nulls ≡ bytes_for (item_count plan) → ⊥) → put ≡ refuse 12 0
   unfolding plan_put
-  put-bits n = rw (ne_eqb (length nulls) (bytes_for (item_count plan)) n)
+  put_bits n = rw (ne_eqb (length nulls) (bytes_for (item_count plan)) n)
 
   module _ (e : length nulls ≡ bytes_for (item_count plan)) where
     goes : put ≡ told c (put_over (plan_slots plan nulls c.item) (cursor c.item c.offset) lent v buf)
     unfolding plan_put
     goes = rw (eq-eqb (length nulls) (bytes_for (item_count plan)) e)
 
-    pub put-over : item_count plan ≤ c.item → put ≡ refuse 14 c.item
+    pub put_over_lem : item_count plan ≤ c.item → put ≡ refuse 14 c.item
     unfolding put_over
-    put-over l = goes ∙ rw (slots_over plan nulls c.item l)
+    put_over_lem l = goes ∙ rw (slots_over plan nulls c.item l)
 
     module _ (l : c.item < item_count plan) {j : ℕ} (col : j ≡ le_value (take 2 (drop (3 * c.item + 1) plan))) where
       -- NULL for an item whose bit says a value
-      pub put-unmarked : is_null (datum_of lent v) ≡ true → bit_lsb0 nulls c.item ≡ false → put ≡ refuse 13 j
+      pub put_unmarked : is_null (datum_of lent v) ≡ true → bit_lsb0 nulls c.item ≡ false → put ≡ refuse 13 j
       unfolding put_over slot_bytes item_at
-      put-unmarked i b = goes ∙ rw (slots_at_lem plan nulls c.item l, i, b, col)
+      put_unmarked i b = goes ∙ rw (slots_at_lem plan nulls c.item l, i, b, col)
 
       -- and a value for one whose bit says NULL
-      pub put-marked : is_null (datum_of lent v) ≡ false → bit_lsb0 nulls c.item ≡ true → put ≡ refuse 13 j
+      pub put_marked : is_null (datum_of lent v) ≡ false → bit_lsb0 nulls c.item ≡ true → put ≡ refuse 13 j
       unfolding put_over slot_bytes item_at
-      put-marked i b = goes ∙ rw (slots_at_lem plan nulls c.item l, i, b, col)
+      put_marked i b = goes ∙ rw (slots_at_lem plan nulls c.item l, i, b, col)
 
       -- NULL takes no bytes, but the offset must be in the buffer
       put_null : is_null (datum_of lent v) ≡ true → bit_lsb0 nulls c.item ≡ true → put ≡ behind (c.item + 1) (store [] buf c.offset)
       unfolding put_over slot_bytes item_at
       put_null i b = goes ∙ rw (slots_at_lem plan nulls c.item l, i, b, sym col) (told_behind c j (store [] buf c.offset))
 
-      pub put-null-full : is_null (datum_of lent v) ≡ true → bit_lsb0 nulls c.item ≡ true → length buf < c.offset → put ≡ refuse 8 0
-      put-null-full i b m = put_null i b ∙ ap (behind (c.item + 1)) (store_full buf [] c.offset (omega arith))
+      pub put_null_full : is_null (datum_of lent v) ≡ true → bit_lsb0 nulls c.item ≡ true → length buf < c.offset → put ≡ refuse 8 0
+      put_null_full i b m = put_null i b ∙ ap (behind (c.item + 1)) (store_full buf [] c.offset (omega arith))
 
-      pub put-null-goes : is_null (datum_of lent v) ≡ true → bit_lsb0 nulls c.item ≡ true → c.offset ≤ length buf
+      pub put_null_goes : is_null (datum_of lent v) ≡ true → bit_lsb0 nulls c.item ≡ true → c.offset ≤ length buf
           → put ≡ ok (item_cursor (c.item + 1) c.offset, buf)
-      put-null-goes i b m = put_null i b ∙ ap (behind (c.item + 1)) (store_none buf c.offset m)
+      put_null_goes i b m = put_null i b ∙ ap (behind (c.item + 1)) (store_none buf c.offset m)
 
       -- the value as the op stores it
       module _ (i : is_null (datum_of lent v) ≡ false) (b : bit_lsb0 nulls c.item ≡ false) where
@@ -146,16 +146,16 @@ module _ (plan nulls : List ℕ) (c : ItemCursor) (lent : List ℕ) (v : Value) 
             ∙ told_behind c j (after (stored_bytes (shape_for (get_or plan (3 * c.item) 0)) j lent v) (λ b. store b buf c.offset)))
 
         module _ (a : Written) (x : List ℕ) (q : written_told a ≡ answer_of written) (y : x ≡ left_of written buf) where
-          answer-is : answer_of put ≡ after (written_told a) (λ m. ok (item_cursor (c.item + 1) m))
-          answer-is =
+          answer_is : answer_of put ≡ after (written_told a) (λ m. ok (item_cursor (c.item + 1) m))
+          answer_is =
               ap answer_of put_value ∙ behind_answer (c.item + 1) written
               ∙ ap (λ (w : Outcome ℕ). after w (λ m. ok (item_cursor (c.item + 1) m))) (sym q)
 
           left_is : x ≡ left_of put buf
           left_is = y ∙ sym (ap (λ (o : Outcome (ItemCursor × List ℕ)). left_of o buf) put_value ∙ behind_left (c.item + 1) buf written)
 
-          pub put-done : (m : ℕ) → a ≡ Done m → Wrote buf put (Next (item_cursor (c.item + 1) m)) x
-          put-done m z = (sym (rw z at answer-is), left_is)
+          pub put_done : (m : ℕ) → a ≡ Done m → Wrote buf put (Next (item_cursor (c.item + 1) m)) x
+          put_done m z = (sym (rw z at answer_is), left_is)
 
-          pub put-bad : (w : Refusal) → a ≡ Refused w → Wrote buf put (Refused₁ w) x
-          put-bad w z = (sym (rw z at answer-is), left_is)
+          pub put_bad : (w : Refusal) → a ≡ Refused w → Wrote buf put (Refused₁ w) x
+          put_bad w z = (sym (rw z at answer_is), left_is)

@@ -179,12 +179,12 @@ pub own_record : (r : List ℕ) (w : Rows) (s : List ℕ) (c : Images) (v : Refu
     → (v.number ≡ 9) ⊎ (v.number ≡ 10)
 unfolding next_image
 own_record r w s c v f y e =
-    by_test (ltb (length s) c.at) (refuse 9 0) _ (refused v) e (λ t q. left-short q)
+    by_test (ltb (length s) c.at) (refuse 9 0) _ (refused v) e (λ t q. left_short q)
     (λ t q. by_test (eqb c.at (length s) && not (is_second w c)) (ok end) _ (refused v) q (λ t q. absurd (ok_not_refused q))
     (λ t q. read (after_refuses (walk_image r (set_of w s (is_second w c)) (drop c.at s)).how _ v q)))
   where
-    left-short : ◌≡◌ {A = Outcome ImageStepped} (refuse 9 0) (refused v) → (v.number ≡ 9) ⊎ (v.number ≡ 10)
-    left-short q = inl (sym (ap (λ (x : Refusal). x.number) (same_refused q)))
+    left_short : ◌≡◌ {A = Outcome ImageStepped} (refuse 9 0) (refused v) → (v.number ≡ 9) ⊎ (v.number ≡ 10)
+    left_short q = inl (sym (ap (λ (x : Refusal). x.number) (same_refused q)))
 
     read : ((walk_image r (set_of w s (is_second w c)) (drop c.at s)).how ≡ refused v)
         ⊎ ((u : ℕ) × ((walk_image r (set_of w s (is_second w c)) (drop c.at s)).how ≡ ok u)
@@ -193,4 +193,4 @@ own_record r w s c v f y e =
     read (inl q) =
         refusal_number_lem (no_other r (set_of w s (is_second w c)) (drop c.at s) v f.valid (f.sets (is_second w c) (cursor_set w c))
         (bytes_drop c.at s y) q)
-    read (inr x) = by_test (is_empty r w s) (refuse 9 0) _ (refused v) x.2 (λ t q. left-short q) (λ t q. absurd (ok_not_refused q))
+    read (inr x) = by_test (is_empty r w s) (refuse 9 0) _ (refused v) x.2 (λ t q. left_short q) (λ t q. absurd (ok_not_refused q))

@@ -151,7 +151,7 @@ walked_from : (m : ℕ) (r : List ℕ) (w : Rows) (s : List ℕ) (c : Images) �
     → From r w s (is_second w c) (drop c.at s) (images_from r w s c)
 walked_from zero r w s c f y n l h = absurd (omega arith)
 walked_from (suc m) r w s c f y n l h =
-    rw (images_on r w s c) (at-start (λ c' z k. walked_from m r w s c' f y n z (omega (arith, k))) (eqb c.at (length s)) refl
+    rw (images_on r w s c) (at_start (λ c' z k. walked_from m r w s c' f y n z (omega (arith, k))) (eqb c.at (length s)) refl
     (is_second w c) refl)
   where
     -- the walk from a later cursor
@@ -192,15 +192,15 @@ walked_from (suc m) r w s c f y n l h =
         rw (step_reads r w s c u l g e n, met_is r w s b c.at u (walk_image r p im).answers f (cursor_set w c) k)
         (from_more r w s b im (take u im) (drop u im) (walk_image r p im).answers _ (sym (take-append-drop u im)) g k t₂)
 
-    at-start : Later → (a : Bool) → eqb c.at (length s) ≡ a → (q : Bool) → is_second w c ≡ q → From r w s b im (on (next_image r w s c))
-    at-start later true e false v =
+    at_start : Later → (a : Bool) → eqb c.at (length s) ≡ a → (q : Bool) → is_second w c ≡ q → From r w s b im (on (next_image r w s c))
+    at_start later true e false v =
         let z = eqb-true c.at (length s) e in
         let i : im ≡ [] = ap (λ (k : ℕ). drop k s) z ∙ drop-length s in
         rw (step_ends r w s c z v)
         (subst (λ (q : Bool). From r w s q im (images_stopped (ok tt))) (sym v)
         (subst (λ (t : List ℕ). From r w s false t (images_stopped (ok tt))) (sym i) (ends none)))
-    at-start later true e true v = goes later (λ u. absurd (true≢false (sym v ∙ u))) (walk_image r p im).how refl
-    at-start later false e q v =
+    at_start later true e true v = goes later (λ u. absurd (true≢false (sym v ∙ u))) (walk_image r p im).how refl
+    at_start later false e q v =
         goes later (λ u i. absurd (true≢false (sym (eq-eqb c.at (length s) (at_end_lem s c.at l i)) ∙ e))) (walk_image r p im).how refl
 
 -- where no set has a column, no image takes a byte

@@ -19,7 +19,7 @@ use Rattle.temporal.specs.Datetimes.{signed_datetime, datetime2_of, datetime2_fa
 use Rattle.temporal.specs.Storage.{whole_bytes, fraction_size, is_big, temporal_of, fault_of}
 use Rattle.temporal.specs.Inner.Ranged.{ranged, ranged_time, ranged_signed, ranged_date, ranged_seconds, ranged_told}
 use Rattle.temporal.specs.Reading.{temporal_size, whole_in, units_in, read_temporal}
-use Rattle.temporal.proofs.Steps.{little_whole, whole-big, whole-little, units-big, units_little, read-in, read_out, read_short}
+use Rattle.temporal.proofs.Steps.{little_whole, whole_big, whole_little, units_big, units_little, read_in, read_out, read_short}
 
 -- ---- the widths that a reader of one storage goes by are those of the storage
 pub record Big (storage : Storage) (k w : ℕ) : Type 0 where
@@ -78,39 +78,39 @@ module _ (storage : Storage) (place : ℕ) (s : List ℕ) (at : ℕ) where
       → f ≡ units_in storage (take (temporal_size storage) (drop at s))
       → (r : Ranged) → r ≡ ranged (fault_of storage a f) (temporal_of storage a f)
       → ranged_told r (at + temporal_size storage) place ≡ read_temporal storage place s at
-  told a f there x y (In t) e = sym (read-in storage place s at a f there x y t (sym e))
+  told a f there x y (In t) e = sym (read_in storage place s at a f there x y t (sym e))
   told a f there x y (Out n) e = sym (read_out storage place s at a f there x y n (sym e))
 
   -- the most significant byte first
   module _ (k w : ℕ) (b : Big storage k w) where
-    pub big-told : (a f : ℕ) → at + (k + w) ≤ length s → (a ≡ be_value (take (min k 8) (drop at s))) × (a < 256 ^ min k 8)
+    pub big_told : (a f : ℕ) → at + (k + w) ≤ length s → (a ≡ be_value (take (min k 8) (drop at s))) × (a < 256 ^ min k 8)
         → (f ≡ be_value (take w (drop (at + k) s))) × (f < 256 ^ w)
         → (r : Ranged) → r ≡ ranged (fault_of storage a f) (temporal_of storage a f)
         → ranged_told r (at + (k + w)) place ≡ read_temporal storage place s at
-    big-told a f there x y r e =
+    big_told a f there x y r e =
         let few = b.few in
         let l : w ≤ 8 = omega arith in
         let y₁ : (f ≡ be_value (take (min w 8) (drop (at + k) s))) × (f < 256 ^ min w 8) = rw (min-eq_left l) y in
         let n = big_size storage k w b in
-        let a₁ = whole-big storage s at a k b.whole b.most b.big x.0 x.1 in
-        let f₁ = units-big storage s at f k w b.whole b.units b.few b.big y₁.0 y₁.1 in
+        let a₁ = whole_big storage s at a k b.whole b.most b.big x.0 x.1 in
+        let f₁ = units_big storage s at f k w b.whole b.units b.few b.big y₁.0 y₁.1 in
         let there₁ : at + temporal_size storage ≤ length s = rw (← n) there in
         rw n (told a f there₁ a₁.0 f₁.0 r e)
 
-    pub big-short : length s < at + (k + w) → read_temporal storage place s at ≡ refuse 9 place
-    big-short h = read_short storage place s at (rw (← big_size storage k w b) h)
+    pub big_short : length s < at + (k + w) → read_temporal storage place s at ≡ refuse 9 place
+    big_short h = read_short storage place s at (rw (← big_size storage k w b) h)
 
   -- the least significant byte first
   module _ (k : ℕ) (e : k ≡ whole_bytes storage) (b : is_big storage ≡ false) where
-    pub little-told : (a : ℕ) → k ≤ 8 → at + k ≤ length s → (a ≡ le_value (take (min k 8) (drop at s))) × (a < 256 ^ min k 8)
+    pub little_told : (a : ℕ) → k ≤ 8 → at + k ≤ length s → (a ≡ le_value (take (min k 8) (drop at s))) × (a < 256 ^ min k 8)
         → (r : Ranged) → r ≡ ranged (fault_of storage a 0) (temporal_of storage a 0)
         → ranged_told r (at + k) place ≡ read_temporal storage place s at
-    little-told a h there x r g =
+    little_told a h there x r g =
         let n = little_size storage k e b in
-        let a₁ = whole-little storage s at a k e h b x.0 x.1 in
+        let a₁ = whole_little storage s at a k e h b x.0 x.1 in
         let f₁ = units_little storage (take (temporal_size storage) (drop at s)) b in
         let there₁ : at + temporal_size storage ≤ length s = rw (← n) there in
         rw n (told a 0 there₁ a₁.0 f₁.0 r g)
 
-    pub little-short : length s < at + k → read_temporal storage place s at ≡ refuse 9 place
-    little-short h = read_short storage place s at (rw (← little_size storage k e b) h)
+    pub little_short : length s < at + k → read_temporal storage place s at ≡ refuse 9 place
+    little_short h = read_short storage place s at (rw (← little_size storage k e b) h)

@@ -22,7 +22,7 @@ use Rattle.temporal.specs.Storage.{fraction_size, temporal_of, fault_of}
 use Rattle.temporal.specs.Reading.{temporal_size, whole_in, units_in, temporal_decode, temporal_fault}
 use Rattle.temporal.specs.Firsts.{PartRange, parts_in, InRange, BelowZero, below_zero, FirstOut, is_below, is_out, with_fraction}
 use Rattle.temporal.specs.Firsts.{tellable}
-use Rattle.temporal.proofs.Forms.{units-few}
+use Rattle.temporal.proofs.Forms.{units_few}
 
 -- ---- the first of some parts, or 0
 first_over : List PartRange → ℕ
@@ -278,7 +278,7 @@ told_within (Time2 m0) a f h =
 pub parts_told : (k : Storage) (b : List ℕ) → length b ≡ temporal_size k → Bytes b → (temporal_fault k b ≡ 0 → ⊥)
     → is_among (temporal_fault k b) (tellable k) ≡ true
 unfolding temporal_fault
-parts_told k b n h z = go (told_within k (whole_in k b) (units_in k b) (units-few k b n h))
+parts_told k b n h z = go (told_within k (whole_in k b) (units_in k b) (units_few k b n h))
   where
     go : Within (tellable k) (temporal_fault k b) → is_among (temporal_fault k b) (tellable k) ≡ true
     go (none e) = absurd (z e)

@@ -55,20 +55,20 @@ size_most (Time2 m0) = omega (arith, fraction_small m0)
 -- ---- of the bytes alone
 module _ (k : Storage) where
   -- every stored form of a storage has the storage's size
-  sized-by : (b : Bool) → is_big k ≡ b → (t : Temporal) → length (temporal_bytes k t) ≡ temporal_size k
+  sized_by : (b : Bool) → is_big k ≡ b → (t : Temporal) → length (temporal_bytes k t) ≡ temporal_size k
   unfolding temporal_bytes temporal_size
-  sized-by true e t = rw (e, length-append, be_bytes_length (whole_bytes k) (whole_of k t), be_bytes_length (fraction_size k) (units_of k t))
-  sized-by false e t = rw (e, le_bytes_length (whole_bytes k) (whole_of k t), little_whole k e, add-zero (whole_bytes k))
+  sized_by true e t = rw (e, length-append, be_bytes_length (whole_bytes k) (whole_of k t), be_bytes_length (fraction_size k) (units_of k t))
+  sized_by false e t = rw (e, le_bytes_length (whole_bytes k) (whole_of k t), little_whole k e, add-zero (whole_bytes k))
 
   -- of every temporal
   pub sized : (t : Temporal) → length (temporal_bytes k t) ≡ temporal_size k
-  sized = sized-by (is_big k) refl
+  sized = sized_by (is_big k) refl
 
   -- the two numbers of a stored form are those that were stored
-  numbers-by : (b : Bool) → is_big k ≡ b → (t : Temporal) → whole_of k t < 256 ^ whole_bytes k → units_of k t < 256 ^ fraction_size k
+  numbers_by : (b : Bool) → is_big k ≡ b → (t : Temporal) → whole_of k t < 256 ^ whole_bytes k → units_of k t < 256 ^ fraction_size k
       → (whole_in k (temporal_bytes k t) ≡ whole_of k t) × (units_in k (temporal_bytes k t) ≡ units_of k t)
   unfolding temporal_bytes whole_in units_in
-  numbers-by true e t g h =
+  numbers_by true e t g h =
       let x = be_bytes (whole_bytes k) (whole_of k t) in
       let y = be_bytes (fraction_size k) (units_of k t) in
       let n = be_bytes_length (whole_bytes k) (whole_of k t) in
@@ -76,7 +76,7 @@ module _ (k : Storage) where
         ap be_value (take_at x y (whole_bytes k) n) ∙ be_back (whole_bytes k) (whole_of k t) g,
         ap be_value (drop_at x y (whole_bytes k) n) ∙ be_back (fraction_size k) (units_of k t) h,
       )
-  numbers-by false e t g h =
+  numbers_by false e t g h =
       let z : units_of k t < 256 ^ 0 = rw (little_whole k e) at h in
       rw e (le_back (whole_bytes k) (whole_of k t) g, omega arith)
 
@@ -86,12 +86,12 @@ module _ (k : Storage) where
   unfolding temporal_fault temporal_decode
   back t d =
       let l = (number_law k).back t d in
-      let n = numbers-by (is_big k) refl t l.1 l.2 in
+      let n = numbers_by (is_big k) refl t l.1 l.2 in
       rw (n.0, n.1) (l.0, l.3)
 
   -- no two that can be held have the same form
-  pub same-form : (t u : Temporal) → temporal_domain k t ≡ true → temporal_domain k u ≡ true → temporal_bytes k t ≡ temporal_bytes k u → t ≡ u
-  same-form t u d e p = sym (back t d).1 ∙ ap (temporal_decode k) p ∙ (back u e).1
+  pub same_form : (t u : Temporal) → temporal_domain k t ≡ true → temporal_domain k u ≡ true → temporal_bytes k t ≡ temporal_bytes k u → t ≡ u
+  same_form t u d e p = sym (back t d).1 ∙ ap (temporal_decode k) p ∙ (back u e).1
 
   -- the numbers of a form's bytes are of so many bytes, and their bytes are these
   record Numbers (b : List ℕ) : Type 0 where
@@ -130,8 +130,8 @@ module _ (k : Storage) where
             rw (e, x₁, p);
       }
 
-  pub units-few : (b : List ℕ) → length b ≡ temporal_size k → Bytes b → units_in k b < 256 ^ fraction_size k
-  units-few b n h = (numbers_of (is_big k) refl b n h).units
+  pub units_few : (b : List ℕ) → length b ≡ temporal_size k → Bytes b → units_in k b < 256 ^ fraction_size k
+  units_few b n h = (numbers_of (is_big k) refl b n h).units
 
   -- what bytes say with no part out of range can be held, and is stored as just these bytes
   pub sound : (b : List ℕ) → length b ≡ temporal_size k → Bytes b → temporal_fault k b ≡ 0
@@ -159,18 +159,18 @@ module _ (k : Storage) (place : ℕ) where
       rw (le-leb _ _ h, drop-append_seam, take_at (temporal_bytes k t) rest (temporal_size k) n, b.1, eq-eqb _ _ b.0)
 
   -- and from a buffer that it was stored in
-  pub read-stored : (d : List ℕ) (at : ℕ) (t : Temporal) → temporal_domain k t ≡ true → at + temporal_size k ≤ length d
+  pub read_stored : (d : List ℕ) (at : ℕ) (t : Temporal) → temporal_domain k t ≡ true → at + temporal_size k ≤ length d
       → read_temporal k place (stored (temporal_bytes k t) d at) at ≡ ok (t, at + temporal_size k)
   unfolding stored
-  read-stored d at t g r =
+  read_stored d at t g r =
       let n : length (take at d) ≡ at = length-take-le at d (omega arith) in
       rw n at (read_back (take at d) (drop (at + length (temporal_bytes k t)) d) t g)
 
   -- and from what the writer leaves, at the place where it wrote, up to the place that it answers
-  pub read-written : (d : List ℕ) (at : ℕ) (t : Temporal) (other next : ℕ) (left : List ℕ) → write_temporal k other t d at ≡ ok (next, left)
+  pub read_written : (d : List ℕ) (at : ℕ) (t : Temporal) (other next : ℕ) (left : List ℕ) → write_temporal k other t d at ≡ ok (next, left)
       → read_temporal k place left at ≡ ok (t, next)
   unfolding write_temporal store
-  read-written d at t other next left e =
+  read_written d at t other next left e =
       by_test (temporal_domain k t) _ _ _ e
       (λ g e₁.
       let w =
@@ -180,7 +180,7 @@ module _ (k : Storage) (place : ℕ) where
       let n : at + temporal_size k ≡ next = ap (λ (m : ℕ). at + m) (sym (sized k t)) ∙ ap (λ (x : ℕ × List ℕ). x.0) w.1 in
       let l : stored (temporal_bytes k t) d at ≡ left = ap (λ (x : ℕ × List ℕ). x.1) w.1 in
       subst (λ (x : List ℕ). read_temporal k place x at ≡ ok (t, next)) l
-      (read-stored d at t g (omega (arith, sized k t)) ∙ ap (λ (m : ℕ). ok (t, m)) n))
+      (read_stored d at t g (omega (arith, sized k t)) ∙ ap (λ (m : ℕ). ok (t, m)) n))
       (λ g e₁. absurd (ok_not_refused (sym e₁)))
 
   -- what was read: the bytes are all there, no part of them is out of range, and they say it
@@ -191,9 +191,9 @@ module _ (k : Storage) (place : ℕ) where
     pub ends : next ≡ at + temporal_size k
 
   -- from the answer
-  pub read-says : (s : List ℕ) (at : ℕ) (t : Temporal) (next : ℕ) → read_temporal k place s at ≡ ok (t, next) → Reads s at t next
+  pub read_says : (s : List ℕ) (at : ℕ) (t : Temporal) (next : ℕ) → read_temporal k place s at ≡ ok (t, next) → Reads s at t next
   unfolding read_temporal
-  read-says s at t next e =
+  read_says s at t next e =
       by_test (leb (at + temporal_size k) (length s)) _ _ _ e
       (λ h e₁.
       let w =
@@ -211,14 +211,14 @@ module _ (k : Storage) (place : ℕ) where
   pub read_moves : (s : List ℕ) (at : ℕ) (t : Temporal) (next : ℕ) → read_temporal k place s at ≡ ok (t, next)
       → (at < next) × (next ≤ length s)
   read_moves s at t next e =
-      let r = read-says s at t next e in
+      let r = read_says s at t next e in
       (omega (arith, size_least k), omega arith)
 
   -- what was read can be held, and its stored form is what stands at the place
   pub read_sound : (s : List ℕ) (at : ℕ) (t : Temporal) (next : ℕ) → Bytes s → read_temporal k place s at ≡ ok (t, next)
       → (temporal_domain k t ≡ true) × (take (temporal_size k) (drop at s) ≡ temporal_bytes k t) × (next ≡ at + temporal_size k)
   read_sound s at t next b e =
-      let r = read-says s at t next e in
+      let r = read_says s at t next e in
       let n : length (at_place s at) ≡ temporal_size k = length-take-le (temporal_size k) (drop at s) (omega (arith, length-drop at s)) in
       let x = sound k (at_place s at) n (bytes_take (temporal_size k) (drop at s) (bytes_drop at s b)) r.clear in
       (subst (λ (y : Temporal). temporal_domain k y ≡ true) r.says x.0, sym x.1 ∙ ap (temporal_bytes k) r.says, r.ends)
@@ -254,10 +254,10 @@ module _ (k : Storage) (place : ℕ) where
       (λ h e₁. subst (Refuses s at) (same_refused e₁) (short (leb-false (at + temporal_size k) (length s) h)))
 
   -- and each reason its refusal
-  pub refuses-read : (s : List ℕ) (at : ℕ) (w : Refusal) → Refuses s at w → read_temporal k place s at ≡ refused w
+  pub refuses_read : (s : List ℕ) (at : ℕ) (w : Refusal) → Refuses s at w → read_temporal k place s at ≡ refused w
   unfolding read_temporal
-  refuses-read s at w (short h) = rw (lt-leb (at + temporal_size k) (length s) h)
-  refuses-read s at w (out h z) = rw (le-leb (at + temporal_size k) (length s) h, ne_eqb (temporal_fault k (at_place s at)) 0 z)
+  refuses_read s at w (short h) = rw (lt-leb (at + temporal_size k) (length s) h)
+  refuses_read s at w (out h z) = rw (le-leb (at + temporal_size k) (length s) h, ne_eqb (temporal_fault k (at_place s at)) 0 z)
 
   -- ---- a writer's refusals: 13 where the column cannot hold it and nowhere else, then 8 where there is no room
   pub data NotWritten (d : List ℕ) (at : ℕ) (t : Temporal) : Refusal → Type 0 where
@@ -265,9 +265,9 @@ module _ (k : Storage) (place : ℕ) where
     full : temporal_domain k t ≡ true → length d < at + temporal_size k → NotWritten d at t (why 8 0)
 
   -- each refusal has its reason
-  pub write-refuses : (d : List ℕ) (at : ℕ) (t : Temporal) (w : Refusal) → write_temporal k place t d at ≡ refused w → NotWritten d at t w
+  pub write_refuses : (d : List ℕ) (at : ℕ) (t : Temporal) (w : Refusal) → write_temporal k place t d at ≡ refused w → NotWritten d at t w
   unfolding write_temporal store
-  write-refuses d at t w e =
+  write_refuses d at t w e =
       by_test (temporal_domain k t) _ _ _ e
       (λ g e₁.
       let x =
@@ -278,10 +278,10 @@ module _ (k : Storage) (place : ℕ) where
       (λ g e₁. subst (NotWritten d at t) (same_refused e₁) (alien g))
 
   -- and each reason its refusal
-  pub refuses-write : (d : List ℕ) (at : ℕ) (t : Temporal) (w : Refusal) → NotWritten d at t w → write_temporal k place t d at ≡ refused w
+  pub refuses_write : (d : List ℕ) (at : ℕ) (t : Temporal) (w : Refusal) → NotWritten d at t w → write_temporal k place t d at ≡ refused w
   unfolding write_temporal
-  refuses-write d at t w (alien g) = rw g
-  refuses-write d at t w (full g h) = rw g (store_full d (temporal_bytes k t) at (omega (arith, sized k t)))
+  refuses_write d at t w (alien g) = rw g
+  refuses_write d at t w (full g h) = rw g (store_full d (temporal_bytes k t) at (omega (arith, sized k t)))
 
   -- and where neither, all of it is written
   pub written : (d : List ℕ) (at : ℕ) (t : Temporal) → temporal_domain k t ≡ true → at + temporal_size k ≤ length d

@@ -46,31 +46,31 @@ little_whole (Time2 m0) e = absurd (true≢false e)
 
 module _ (storage : Storage) (s : List ℕ) (at r : ℕ) where
   -- the whole part, the most significant byte first
-  pub whole-big : (k : ℕ) → k ≡ whole_bytes storage → k ≤ 8 → is_big storage ≡ true → r ≡ be_value (take (min k 8) (drop at s))
+  pub whole_big : (k : ℕ) → k ≡ whole_bytes storage → k ≤ 8 → is_big storage ≡ true → r ≡ be_value (take (min k 8) (drop at s))
       → r < 256 ^ min k 8
       → (r ≡ whole_in storage (take (temporal_size storage) (drop at s))) × (r < 256 ^ whole_bytes storage)
   unfolding whole_in temporal_size
-  whole-big k e h b p q =
+  whole_big k e h b p q =
       let p₁ : r ≡ be_value (take k (drop at s)) = rw (min-eq_left h) at p in
       let q₁ : r < 256 ^ k = rw (min-eq_left h) at q in
       rw (b, ← e, take-take k (k + fraction_size storage) (drop at s) (omega arith)) (p₁, q₁)
 
   -- the whole part, the least significant byte first
-  pub whole-little : (k : ℕ) → k ≡ whole_bytes storage → k ≤ 8 → is_big storage ≡ false → r ≡ le_value (take (min k 8) (drop at s))
+  pub whole_little : (k : ℕ) → k ≡ whole_bytes storage → k ≤ 8 → is_big storage ≡ false → r ≡ le_value (take (min k 8) (drop at s))
       → r < 256 ^ min k 8
       → (r ≡ whole_in storage (take (temporal_size storage) (drop at s))) × (r < 256 ^ whole_bytes storage)
   unfolding whole_in temporal_size
-  whole-little k e h b p q =
+  whole_little k e h b p q =
       let p₁ : r ≡ le_value (take k (drop at s)) = rw (min-eq_left h) at p in
       let q₁ : r < 256 ^ k = rw (min-eq_left h) at q in
       rw (b, ← e, little_whole storage b, add-zero k) (p₁, q₁)
 
   -- the fraction behind it
-  pub units-big : (k w : ℕ) → k ≡ whole_bytes storage → w ≡ fraction_size storage → w ≤ 3 → is_big storage ≡ true
+  pub units_big : (k w : ℕ) → k ≡ whole_bytes storage → w ≡ fraction_size storage → w ≤ 3 → is_big storage ≡ true
       → r ≡ be_value (take (min w 8) (drop (at + k) s)) → r < 256 ^ min w 8
       → (r ≡ units_in storage (take (temporal_size storage) (drop at s))) × (r < 256 ^ fraction_size storage)
   unfolding units_in temporal_size
-  units-big k w e f h b p q =
+  units_big k w e f h b p q =
       let l : w ≤ 8 = omega arith in
       let p₁ : r ≡ be_value (take w (drop (at + k) s)) = rw (min-eq_left l) at p in
       let q₁ : r < 256 ^ w = rw (min-eq_left l) at q in
@@ -86,10 +86,10 @@ module _ (storage : Storage) (place : ℕ) (s : List ℕ) (at a f : ℕ) (there 
     (x : a ≡ whole_in storage (take (temporal_size storage) (drop at s))) (y : f ≡ units_in storage (take (temporal_size storage) (drop at s)))
   where
     -- all parts in range
-    pub read-in : (t : Temporal) → ranged (fault_of storage a f) (temporal_of storage a f) ≡ In t
+    pub read_in : (t : Temporal) → ranged (fault_of storage a f) (temporal_of storage a f) ≡ In t
         → read_temporal storage place s at ≡ ok (t, at + temporal_size storage)
     unfolding read_temporal temporal_fault temporal_decode
-    read-in t e =
+    read_in t e =
         by_test (eqb (fault_of storage a f) 0) _ _ _ e
         (λ z g. let p : temporal_of storage a f ≡ t = cc in rw (le-leb _ _ there, ← x, ← y, z, p))
         (λ z g. let q : ◌≡◌ {A = ℕ} 0 1 = cc in absurd (omega arith))
@@ -117,22 +117,22 @@ Writes storage place d at t r x =
 
 module _ (storage : Storage) (place : ℕ) (d : List ℕ) (at : ℕ) (t : Temporal) where
   -- two numbers, the most significant byte first
-  pub write-big : (r : Written) (x : List ℕ) (k w a f : ℕ) → temporal_domain storage t ≡ true → is_big storage ≡ true → k ≡ whole_bytes storage
+  pub write_big : (r : Written) (x : List ℕ) (k w a f : ℕ) → temporal_domain storage t ≡ true → is_big storage ≡ true → k ≡ whole_bytes storage
       → w ≡ fraction_size storage
       → a ≡ whole_of storage t → f ≡ units_of storage t → Wrote d at (be_bytes k a ++ be_bytes w f) r x → Writes storage place d at t r x
   unfolding write_temporal temporal_bytes
-  write-big r x k w a f g b ek ew ea ef o = rw (g, b, ← ek, ← ew, ← ea, ← ef) (o.0, o.1)
+  write_big r x k w a f g b ek ew ea ef o = rw (g, b, ← ek, ← ew, ← ea, ← ef) (o.0, o.1)
 
   -- one number, the least significant byte first
-  pub write-little : (r : Written) (x : List ℕ) (k a : ℕ) → temporal_domain storage t ≡ true → is_big storage ≡ false → k ≡ whole_bytes storage
+  pub write_little : (r : Written) (x : List ℕ) (k a : ℕ) → temporal_domain storage t ≡ true → is_big storage ≡ false → k ≡ whole_bytes storage
       → k ≤ 8
       → a ≡ whole_of storage t → Wrote d at (le_bytes (min k 8) a) r x → Writes storage place d at t r x
   unfolding write_temporal temporal_bytes
-  write-little r x k a g b ek h ea o =
+  write_little r x k a g b ek h ea o =
       let p : Wrote d at (le_bytes k a) r x = rw (min-eq_left h) at o in
       rw (g, b, ← ek, ← ea) (p.0, p.1)
 
   -- what the column cannot hold
-  pub write-none : temporal_domain storage t ≡ false → write_temporal storage place t d at ≡ refuse 13 place
+  pub write_none : temporal_domain storage t ≡ false → write_temporal storage place t d at ≡ refuse 13 place
   unfolding write_temporal
-  write-none g = rw g
+  write_none g = rw g

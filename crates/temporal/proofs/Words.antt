@@ -111,8 +111,8 @@ module _ (w a f : ℕ) (h : w ≤ 2) (l : f < 256 ^ w) where
       (ap split q ∙ split_neg (n * 16777216 + u * unit_of w) (omega arith) ∙ rw (x, y))
 
   -- m0 0..4
-  pub as-words : words w a f ≡ time2_of w a f
-  as-words =
+  pub as_words : words w a f ≡ time2_of w a f
+  as_words =
       dite (dec_le 8388608 a) above (λ p. dite (dec_le f 0) (λ z. whole (omega arith) (omega arith)) (λ z. part (omega arith) (omega arith)))
 
 -- m0 5..6
@@ -165,7 +165,7 @@ as_worded m0 b e h =
     let n : length (drop 3 b) ≡ w = length-drop 3 b ∙ omega arith in
     let l : be_value (drop 3 b) < 256 ^ w = rw n at (be_bound (drop 3 b) (bytes_drop 3 b h)) in
     dite (dec_le m0 4)
-    (λ p. ap Temporal.Time (sym (as-words w a f (narrow m0 p) l)
+    (λ p. ap Temporal.Time (sym (as_words w a f (narrow m0 p) l)
     ∙ sym (ap (λ (t : Bool). cond t (words w a f) (words6 (be_value b))) (le-leb m0 4 p))))
     (λ p.
     let t : w ≡ 3 = three m0 (omega arith) in

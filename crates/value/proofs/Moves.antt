@@ -57,11 +57,11 @@ unfolding read_value
 value_moved sh p s at d n t to e m =
     let w = took sh p (drop at s) d n e in
     let l : n ≤ length (drop to t) = rw length-drop (omega (arith, m.whole)) in
-    rw (datum-moved-by n w.size w.fits l m.same, e)
+    rw (datum_moved_by n w.size w.fits l m.same, e)
   where
-    datum-moved-by : (k : ℕ) → k ≡ need sh (drop at s) → k ≤ length (drop at s) → k ≤ length (drop to t)
+    datum_moved_by : (k : ℕ) → k ≡ need sh (drop at s) → k ≤ length (drop at s) → k ≤ length (drop to t)
         → take k (drop to t) ≡ take k (drop at s)
         → read_datum sh p (drop to t) ≡ read_datum sh p (drop at s)
-    datum-moved-by k q a b c =
+    datum_moved_by k q a b c =
         datum_moved sh p (drop at s) (drop to t) (omega (arith, a, q)) (omega (arith, b, q))
         (ap (λ (x : ℕ). take x (drop to t)) (sym q) ∙ c ∙ ap (λ (x : ℕ). take x (drop at s)) q)

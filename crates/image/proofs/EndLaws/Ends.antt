@@ -105,13 +105,13 @@ module _ (r p im : List ℕ) {h : Head} (e : head_of r p ≡ ok h) where
   unfolding walk_image first_cursor
   walk_begins = ap (λ (x : Outcome Head). going_on (walk_from r p im) (after x (λ g. ok (cursor 0 g.nulls)))) e
 
-  pub walk-cut : length im < h.nulls → (walk_image r p im).how ≡ refuse 9 0
+  pub walk_cut : length im < h.nulls → (walk_image r p im).how ≡ refuse 9 0
   unfolding walk_from slots_left
-  walk-cut l = ap (λ (w : RowWalked). w.how) walk_begins ∙ rw (e, le-ltb h.columns 0 (omega arith), lt-ltb (length im) h.nulls l)
+  walk_cut l = ap (λ (w : RowWalked). w.how) walk_begins ∙ rw (e, le-ltb h.columns 0 (omega arith), lt-ltb (length im) h.nulls l)
 
   module _ (l : h.nulls ≤ length im) where
-    pub going-first : Going r p im h.columns (record { column = 0; bit = record { 0 = 0 }; offset = h.nulls })
-    going-first =
+    pub going_first : Going r p im h.columns (record { column = 0; bit = record { 0 = 0 }; offset = h.nulls })
+    going_first =
         let t = head_tested r p e in
         record {
           placed = record {
@@ -128,8 +128,8 @@ module _ (r p im : List ℕ) {h : Head} (e : head_of r p ≡ ok h) where
     module _ {at : InnerCursor} (g : Going r p im h.columns at) (x : InnerStep)
         (q : inner_told x ≡ step_over (slots_at r p im at.column) im at.offset) where
       -- the walk ends as it ends from the step's cursor
-      rest-is : (walk_image r p im).how ≡ (row_onward (walk_from r p im) im (inner_told x)).how
-      rest-is =
+      rest_is : (walk_image r p im).how ≡ (row_onward (walk_from r p im) im (inner_told x)).how
+      rest_is =
           g.rest
           ∙ ap (λ (w : RowWalked). w.how)
           (walk_on r p im (cursor_of at)
@@ -141,10 +141,10 @@ module _ (r p im : List ℕ) {h : Head} (e : head_of r p ≡ ok h) where
           subst (λ (m : ℕ). Moves m at.column (length im) t) (sym n)
           (moves r p im at.column at.offset t (omega (arith, g.placed.column)) g.within (sym q ∙ y))
 
-      next-going : (next : InnerCursor) → Further h.columns at.column (length im) (cursor_of next)
+      next_going : (next : InnerCursor) → Further h.columns at.column (length im) (cursor_of next)
           → next.bit.0 ≡ count_bits p next.column
           → (walk_image r p im).how ≡ (walk_from r p im (cursor_of next)).how → Going r p im h.columns next
-      next-going next f k w =
+      next_going next f k w =
           record {
             placed =
                 record { count = g.placed.count; few = g.placed.few; column = f.column; rank = k };
@@ -152,20 +152,20 @@ module _ (r p im : List ℕ) {h : Head} (e : head_of r p ≡ ok h) where
             rest = w;
           }
 
-      pub going-null : (j : ℕ) (next : InnerCursor) → x ≡ Null j next → Ranked p x
+      pub going_null : (j : ℕ) (next : InnerCursor) → x ≡ Null j next → Ranked p x
           → (at.column < next.column) × Going r p im h.columns next
-      going-null j next y k =
+      going_null j next y k =
           let f : Further h.columns at.column (length im) (cursor_of next) = further (null j (cursor_of next)) (ap inner_told y) in
-          (f.on, next-going next f (rw y at k) (rest-is ∙ ap (λ (z : InnerStep). (row_onward (walk_from r p im) im (inner_told z)).how) y))
+          (f.on, next_going next f (rw y at k) (rest_is ∙ ap (λ (z : InnerStep). (row_onward (walk_from r p im) im (inner_told z)).how) y))
 
-      pub going-value : (j : ℕ) (v : Value) (next : InnerCursor) → x ≡ Value₁ j v next → Ranked p x
+      pub going_value : (j : ℕ) (v : Value) (next : InnerCursor) → x ≡ Value₁ j v next → Ranked p x
           → (at.column < next.column) × Going r p im h.columns next
-      going-value j v next y k =
+      going_value j v next y k =
           let f : Further h.columns at.column (length im) (cursor_of next) = further (value j v (cursor_of next)) (ap inner_told y) in
-          (f.on, next-going next f (rw y at k) (rest-is ∙ ap (λ (z : InnerStep). (row_onward (walk_from r p im) im (inner_told z)).how) y))
+          (f.on, next_going next f (rw y at k) (rest_is ∙ ap (λ (z : InnerStep). (row_onward (walk_from r p im) im (inner_told z)).how) y))
 
       pub going_end : (used : ℕ) → x ≡ End used → ok used ≡ (walk_image r p im).how
-      going_end used y = sym (rest-is ∙ ap (λ (z : InnerStep). (row_onward (walk_from r p im) im (inner_told z)).how) y)
+      going_end used y = sym (rest_is ∙ ap (λ (z : InnerStep). (row_onward (walk_from r p im) im (inner_told z)).how) y)
 
-      pub going-refused : (w : Refusal) → x ≡ Refused w → refused w ≡ (walk_image r p im).how
-      going-refused w y = sym (rest-is ∙ ap (λ (z : InnerStep). (row_onward (walk_from r p im) im (inner_told z)).how) y)
+      pub going_refused : (w : Refusal) → x ≡ Refused w → refused w ≡ (walk_image r p im).how
+      going_refused w y = sym (rest_is ∙ ap (λ (z : InnerStep). (row_onward (walk_from r p im) im (inner_told z)).how) y)

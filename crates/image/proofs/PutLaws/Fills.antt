@@ -74,58 +74,58 @@ module _ (n : ℕ) (nulls : List ℕ) (h : length nulls ≡ bytes_for n) where
   abbrev front : List ℕ
   front = take (n / 8) nulls
 
-  abbrev lastByte : ℕ
-  lastByte = spare_set (n % 8) (get_or nulls (n / 8) 0)
+  abbrev last_byte : ℕ
+  last_byte = spare_set (n % 8) (get_or nulls (n / 8) 0)
 
   -- no spare bits, or some in the last byte
-  pub fill-whole : n % 8 ≡ 0 → filled n nulls ≡ nulls
+  pub fill_whole : n % 8 ≡ 0 → filled n nulls ≡ nulls
   unfolding filled
-  fill-whole e = rw (eq-eqb (n % 8) 0 e)
+  fill_whole e = rw (eq-eqb (n % 8) 0 e)
 
-  pub fill-last : eqb (n % 8) 0 ≡ false → filled n nulls ≡ front ++ (lastByte ∷ [])
+  pub fill_last : eqb (n % 8) 0 ≡ false → filled n nulls ≡ front ++ (last_byte ∷ [])
   unfolding filled
-  fill-last e = rw e
+  fill_last e = rw e
 
   front_length : length front ≡ n / 8
   front_length = length-take-le (n / 8) nulls (omega arith)
 
-  pub fill-length : length (filled n nulls) ≡ length nulls
-  fill-length = go (eqb (n % 8) 0) refl
+  pub fill_length : length (filled n nulls) ≡ length nulls
+  fill_length = go (eqb (n % 8) 0) refl
     where
       go : (b : Bool) → eqb (n % 8) 0 ≡ b → length (filled n nulls) ≡ length nulls
-      go true e = ap length (fill-whole (eqb-true (n % 8) 0 e))
+      go true e = ap length (fill_whole (eqb-true (n % 8) 0 e))
       go false e =
           let w : n % 8 ≡ 0 → ⊥ = eqb-false (n % 8) 0 e in
-          ap length (fill-last e) ∙ length-append front (lastByte ∷ []) ∙ omega (arith, front_length)
+          ap length (fill_last e) ∙ length-append front (last_byte ∷ []) ∙ omega (arith, front_length)
 
   -- the byte that the spare bits are in
-  last-is : (i : ℕ) → i ≡ n / 8 → get_or (front ++ (lastByte ∷ [])) i 0 ≡ lastByte
-  last-is i e = get_or_at front lastByte [] 0 i (front_length ∙ sym e)
+  last_is : (i : ℕ) → i ≡ n / 8 → get_or (front ++ (last_byte ∷ [])) i 0 ≡ last_byte
+  last_is i e = get_or_at front last_byte [] 0 i (front_length ∙ sym e)
 
-  front-is : (i : ℕ) → i < n / 8 → get_or (front ++ (lastByte ∷ [])) i 0 ≡ get_or nulls i 0
-  front-is i l = get_or-append front (lastByte ∷ []) 0 i (omega (arith, front_length)) ∙ get_or-take (n / 8) nulls i 0 l
+  front_is : (i : ℕ) → i < n / 8 → get_or (front ++ (last_byte ∷ [])) i 0 ≡ get_or nulls i 0
+  front_is i l = get_or-append front (last_byte ∷ []) 0 i (omega (arith, front_length)) ∙ get_or-take (n / 8) nulls i 0 l
 
   -- each of the n bits is what it was
-  pub fill-kept : (k : ℕ) → k < n → bit_lsb0 (filled n nulls) k ≡ bit_lsb0 nulls k
+  pub fill_kept : (k : ℕ) → k < n → bit_lsb0 (filled n nulls) k ≡ bit_lsb0 nulls k
   unfolding bit_lsb0
-  fill-kept k l = go (eqb (n % 8) 0) refl
+  fill_kept k l = go (eqb (n % 8) 0) refl
     where
-      in-last : n / 8 ≤ k / 8 → digit (get_or (front ++ (lastByte ∷ [])) (k / 8) 0) (k % 8) ≡ digit (get_or nulls (k / 8) 0) (k % 8)
-      in-last m =
+      in_last : n / 8 ≤ k / 8 → digit (get_or (front ++ (last_byte ∷ [])) (k / 8) 0) (k % 8) ≡ digit (get_or nulls (k / 8) 0) (k % 8)
+      in_last m =
           let i : k / 8 ≡ n / 8 = omega arith in
           let j : k % 8 < n % 8 = omega arith in
-          ap (λ (x : ℕ). digit x (k % 8)) (last-is (k / 8) i) ∙ spare_low (n % 8) (get_or nulls (n / 8) 0) (k % 8) (omega arith) j
+          ap (λ (x : ℕ). digit x (k % 8)) (last_is (k / 8) i) ∙ spare_low (n % 8) (get_or nulls (n / 8) 0) (k % 8) (omega arith) j
           ∙ ap (λ (x : ℕ). digit (get_or nulls x 0) (k % 8)) (sym i)
 
       go : (t : Bool) → eqb (n % 8) 0 ≡ t → digit (get_or (filled n nulls) (k / 8) 0) (k % 8) ≡ digit (get_or nulls (k / 8) 0) (k % 8)
-      go true e = rw (fill-whole (eqb-true (n % 8) 0 e))
+      go true e = rw (fill_whole (eqb-true (n % 8) 0 e))
       go false e =
-          rw (fill-last e) (dite (dec_le (n / 8) (k / 8)) in-last (λ m. ap (λ (x : ℕ). digit x (k % 8)) (front-is (k / 8) (omega arith))))
+          rw (fill_last e) (dite (dec_le (n / 8) (k / 8)) in_last (λ m. ap (λ (x : ℕ). digit x (k % 8)) (front_is (k / 8) (omega arith))))
 
   -- and each behind them, to the end of the last byte, is set
-  pub fill-spare : (k : ℕ) → n ≤ k → k < 8 * length nulls → bit_lsb0 (filled n nulls) k ≡ true
+  pub fill_spare : (k : ℕ) → n ≤ k → k < 8 * length nulls → bit_lsb0 (filled n nulls) k ≡ true
   unfolding bit_lsb0
-  fill-spare k l m = go (eqb (n % 8) 0) refl
+  fill_spare k l m = go (eqb (n % 8) 0) refl
     where
       go : (t : Bool) → eqb (n % 8) 0 ≡ t → digit (get_or (filled n nulls) (k / 8) 0) (k % 8) ≡ true
       go true e =
@@ -135,7 +135,7 @@ module _ (n : ℕ) (nulls : List ℕ) (h : length nulls ≡ bytes_for n) where
           let w : n % 8 ≡ 0 → ⊥ = eqb-false (n % 8) 0 e in
           let i : k / 8 ≡ n / 8 = omega arith in
           let j : n % 8 ≤ k % 8 = omega arith in
-          rw (fill-last e, last-is (k / 8) i) (spare_high (n % 8) (get_or nulls (n / 8) 0) (k % 8) j (omega arith))
+          rw (fill_last e, last_is (k / 8) i) (spare_high (n % 8) (get_or nulls (n / 8) 0) (k % 8) j (omega arith))
 
 -- ---- a list stored at a buffer's head, and then its last element anew
 pub last_set : (d l : List ℕ) (k x : ℕ) → length l ≡ k + 1 → length l ≤ length d
@@ -156,14 +156,14 @@ last_set d l k x h m =
 
 -- ---- null bits at a buffer's head, as the code puts them there: as they are, and then the last byte anew if it has spare bits
 module _ (d nulls : List ℕ) (n : ℕ) (h : length nulls ≡ bytes_for n) (m : length nulls ≤ length d) where
-  left-stored : left_of (store nulls d 0) d ≡ stored nulls d 0
-  left-stored = rw (store_fits d nulls 0 (omega arith))
+  left_stored : left_of (store nulls d 0) d ≡ stored nulls d 0
+  left_stored = rw (store_fits d nulls 0 (omega arith))
 
   pub put_whole : n % 8 ≡ 0 → left_of (store nulls d 0) d ≡ stored (filled n nulls) d 0
-  put_whole e = left-stored ∙ ap (λ (b : List ℕ). stored b d 0) (sym (fill-whole n nulls h e))
+  put_whole e = left_stored ∙ ap (λ (b : List ℕ). stored b d 0) (sym (fill_whole n nulls h e))
 
-  pub put-spare : (n % 8 ≡ 0 → ⊥)
+  pub put_spare : (n % 8 ≡ 0 → ⊥)
       → set (left_of (store nulls d 0) d) (n / 8) (spare_set (n % 8) (get_or nulls (n / 8) 0)) ≡ stored (filled n nulls) d 0
-  put-spare e =
-      rw (left-stored, fill-last n nulls h (ne_eqb (n % 8) 0 e))
+  put_spare e =
+      rw (left_stored, fill_last n nulls h (ne_eqb (n % 8) 0 e))
       (last_set d nulls (n / 8) (spare_set (n % 8) (get_or nulls (n / 8) 0)) (omega arith) m)

@@ -33,8 +33,8 @@ use Rattle.image.specs.Inner.Steps.{Placed, cursor_of}
 use Rattle.image.specs.Rows.{is_null}
 use Rattle.image.specs.Puts.{filled, head_nulls, start_image, slot_bytes, put_over, put_from, put_told}
 use Rattle.image.proofs.CursorLaws.Heads.{Tested, head_tested, nulls_tested}
-use Rattle.image.proofs.StepLaws.Steps.{slots-none, slots-some}
-use Rattle.image.proofs.PutLaws.Fills.{fill-length}
+use Rattle.image.proofs.StepLaws.Steps.{slots_none, slots_some}
+use Rattle.image.proofs.PutLaws.Fills.{fill_length}
 
 -- the answer a of a call that writes, and the buffer x that it leaves, are those of w
 abbrev pub Puts : List ℕ → Outcome (Cursor × List ℕ) → Put → List ℕ → Type 0
@@ -57,27 +57,27 @@ module _ (r p nulls buf : List ℕ) {h : Head} (e : head_nulls r p nulls ≡ ok 
   tested = head_tested r p (nulls_tested r p nulls e).0
 
   -- the null bits are as many bytes as one for each present column take
-  pub nulls-size : length nulls ≡ bytes_for h.present
-  nulls-size = (nulls_tested r p nulls e).1 ∙ tested.nulls
+  pub nulls_size : length nulls ≡ bytes_for h.present
+  nulls_size = (nulls_tested r p nulls e).1 ∙ tested.nulls
 
-  pub nulls-fit : h.nulls ≤ length buf → length nulls ≤ length buf
-  nulls-fit l = omega (arith, (nulls_tested r p nulls e).1)
+  pub nulls_fit : h.nulls ≤ length buf → length nulls ≤ length buf
+  nulls_fit l = omega (arith, (nulls_tested r p nulls e).1)
 
-  filled-size : length (filled h.present nulls) ≡ h.nulls
-  filled-size = fill-length h.present nulls nulls-size ∙ (nulls_tested r p nulls e).1
+  filled_size : length (filled h.present nulls) ≡ h.nulls
+  filled_size = fill_length h.present nulls nulls_size ∙ (nulls_tested r p nulls e).1
 
-  pub start-full : length buf < h.nulls → start_image r p nulls buf ≡ refuse 8 0
+  pub start_full : length buf < h.nulls → start_image r p nulls buf ≡ refuse 8 0
   unfolding start_image
-  start-full l = rw (e, store_full buf (filled h.present nulls) 0 (omega (arith, filled-size)))
+  start_full l = rw (e, store_full buf (filled h.present nulls) 0 (omega (arith, filled_size)))
 
-  start-goes : h.nulls ≤ length buf → start_image r p nulls buf ≡ ok (cursor 0 h.nulls, stored (filled h.present nulls) buf 0)
+  start_goes : h.nulls ≤ length buf → start_image r p nulls buf ≡ ok (cursor 0 h.nulls, stored (filled h.present nulls) buf 0)
   unfolding start_image
-  start-goes l = rw (e, store_fits buf (filled h.present nulls) 0 (omega (arith, filled-size)))
+  start_goes l = rw (e, store_fits buf (filled h.present nulls) 0 (omega (arith, filled_size)))
 
   -- x being the buffer that the code left
-  pub start-done : (x : List ℕ) → x ≡ stored (filled h.present nulls) buf 0 → h.nulls ≤ length buf
+  pub start_done : (x : List ℕ) → x ≡ stored (filled h.present nulls) buf 0 → h.nulls ≤ length buf
       → Puts buf (start_image r p nulls buf) (Next (cursor 0 h.nulls)) x
-  start-done x y l = put_next buf (start-goes l ∙ ap (λ (b : List ℕ). ok (cursor 0 h.nulls, b)) (sym y))
+  start_done x y l = put_next buf (start_goes l ∙ ap (λ (b : List ℕ). ok (cursor 0 h.nulls, b)) (sym y))
 
 -- ---- a step
 -- the cursor behind a value takes the place after it
@@ -99,32 +99,32 @@ module _
   abbrev put : Outcome (Cursor × List ℕ)
   put = put_over (slots_at r p nulls s.column) (cursor_of s) lent v buf
 
-  pub put-end : f ≡ n → put ≡ refuse 14 s.column
+  pub put_end : f ≡ n → put ≡ refuse 14 s.column
   unfolding put_over
-  put-end u = rw (slots-none h e nulls u)
+  put_end u = rw (slots_none h e nulls u)
 
   module _ (u : f ≡ n → ⊥) where
     -- NULL for a column whose bit says a value
-    pub put-unmarked : is_null (datum_of lent v) ≡ true → bit_lsb0 nulls s.bit.0 ≡ false → put ≡ refuse 13 f
+    pub put_unmarked : is_null (datum_of lent v) ≡ true → bit_lsb0 nulls s.bit.0 ≡ false → put ≡ refuse 13 f
     unfolding put_over slot_bytes
-    put-unmarked i b = rw (slots-some h e nulls u, i, b)
+    put_unmarked i b = rw (slots_some h e nulls u, i, b)
 
     -- and a value for one whose bit says NULL
-    pub put-marked : is_null (datum_of lent v) ≡ false → bit_lsb0 nulls s.bit.0 ≡ true → put ≡ refuse 13 f
+    pub put_marked : is_null (datum_of lent v) ≡ false → bit_lsb0 nulls s.bit.0 ≡ true → put ≡ refuse 13 f
     unfolding put_over slot_bytes
-    put-marked i b = rw (slots-some h e nulls u, i, b)
+    put_marked i b = rw (slots_some h e nulls u, i, b)
 
     -- NULL takes no bytes, but the offset must be in the buffer
     put_null : is_null (datum_of lent v) ≡ true → bit_lsb0 nulls s.bit.0 ≡ true → put ≡ behind (f + 1) (store [] buf s.offset)
     unfolding put_over slot_bytes
-    put_null i b = rw (slots-some h e nulls u, i, b)
+    put_null i b = rw (slots_some h e nulls u, i, b)
 
-    pub put-null-full : is_null (datum_of lent v) ≡ true → bit_lsb0 nulls s.bit.0 ≡ true → length buf < s.offset → put ≡ refuse 8 0
-    put-null-full i b l = put_null i b ∙ ap (behind (f + 1)) (store_full buf [] s.offset (omega arith))
+    pub put_null_full : is_null (datum_of lent v) ≡ true → bit_lsb0 nulls s.bit.0 ≡ true → length buf < s.offset → put ≡ refuse 8 0
+    put_null_full i b l = put_null i b ∙ ap (behind (f + 1)) (store_full buf [] s.offset (omega arith))
 
-    pub put-null-goes : is_null (datum_of lent v) ≡ true → bit_lsb0 nulls s.bit.0 ≡ true → s.offset ≤ length buf
+    pub put_null_goes : is_null (datum_of lent v) ≡ true → bit_lsb0 nulls s.bit.0 ≡ true → s.offset ≤ length buf
         → put ≡ ok (cursor (f + 1) s.offset, buf)
-    put-null-goes i b l = put_null i b ∙ ap (behind (f + 1)) (store_none buf s.offset l)
+    put_null_goes i b l = put_null i b ∙ ap (behind (f + 1)) (store_none buf s.offset l)
 
     -- the value as the record's column stores it
     module _ (i : is_null (datum_of lent v) ≡ false) (b : bit_lsb0 nulls s.bit.0 ≡ false) {k : Column} (g : k ≡ column_of (entry_in r f))
@@ -132,15 +132,15 @@ module _
         put_value : put ≡ behind (f + 1) (write_value (shape_of k) f lent v buf s.offset)
         unfolding put_over slot_bytes write_value shape_at
         put_value =
-            rw (slots-some h e nulls u, i, b)
+            rw (slots_some h e nulls u, i, b)
             (sym (after_after (stored_bytes (shape_at r f) f lent v) (λ b. store b buf s.offset) (λ x. ok (cursor (f + 1) x.0, x.1)))
             ∙ ap (λ (c : Column). behind (f + 1) (after (stored_bytes (shape_of c) f lent v) (λ b. store b buf s.offset))) (sym g))
 
         module _ (a : Written) (x : List ℕ)
             (q : written_told a ≡ answer_of (write_value (shape_of k) f lent v buf s.offset))
             (y : x ≡ left_of (write_value (shape_of k) f lent v buf s.offset) buf) where
-          answer-is : answer_of put ≡ after (written_told a) (λ m. ok (cursor (f + 1) m))
-          answer-is =
+          answer_is : answer_of put ≡ after (written_told a) (λ m. ok (cursor (f + 1) m))
+          answer_is =
               ap answer_of put_value ∙ behind_answer (f + 1) (write_value (shape_of k) f lent v buf s.offset)
               ∙ ap (λ (w : Outcome ℕ). after w (λ m. ok (cursor (f + 1) m))) (sym q)
 
@@ -149,11 +149,11 @@ module _
               ∙ sym (ap (λ (o : Outcome (Cursor × List ℕ)). left_of o buf) put_value
               ∙ behind_left (f + 1) buf (write_value (shape_of k) f lent v buf s.offset))
 
-          pub put-done : (m : ℕ) → a ≡ Done m → Puts buf put (Next (cursor (f + 1) m)) x
-          put-done m z = (sym (rw z at answer-is), left_is)
+          pub put_done : (m : ℕ) → a ≡ Done m → Puts buf put (Next (cursor (f + 1) m)) x
+          put_done m z = (sym (rw z at answer_is), left_is)
 
-          pub put-bad : (w : Refusal) → a ≡ Refused w → Puts buf put (Refused₂ w) x
-          put-bad w z = (sym (rw z at answer-is), left_is)
+          pub put_bad : (w : Refusal) → a ≡ Refused w → Puts buf put (Refused₂ w) x
+          put_bad w z = (sym (rw z at answer_is), left_is)
 
 -- a step from a column above the record's
 pub put_above : (r p nulls : List ℕ) (c : Cursor) (lent : List ℕ) (v : Value) (buf : List ℕ) {h : Head} → head_nulls r p nulls ≡ ok h

@@ -36,7 +36,7 @@ use Rattle.image.proofs.CursorLaws.Heads.{Over, null_bytes, head_is}
 use Rattle.image.proofs.StepLaws.Slots.{in_cell, cell}
 use Rattle.image.proofs.PresenceLaws.Presents.{present_length}
 use Rattle.image.proofs.EndLaws.Images.{row_length, every_row}
-use Rattle.image.proofs.PutLaws.Fills.{fill-length, fill-kept}
+use Rattle.image.proofs.PutLaws.Fills.{fill_length, fill_kept}
 use Rattle.image.proofs.PutLaws.Puts.{store_none, put_goes}
 
 -- ---- stores one behind the other are one store
@@ -187,7 +187,7 @@ write_row_lem r p nulls gs buf w =
     let n : count_bits p (count_of r) ≡ length (row_of gs) = sym (row_length (present r p) (row_of gs) w.row ∙ present_length r p) in
     let s : length nulls ≡ null_bytes r p = w.size ∙ ap bytes_for (sym n) in
     let u : Lent r p nulls = record { over = record { valid = w.valid; bits = w.bits }; size = s } in
-    write_lent r p nulls gs buf u w (fill-length (count_bits p (count_of r)) nulls s ∙ s)
+    write_lent r p nulls gs buf u w (fill_length (count_bits p (count_of r)) nulls s ∙ s)
     ∙ ap (λ (k : ℕ). store (filled k nulls ++ row_bytes (present r p) (row_of gs)) buf 0) n
 
 -- ---- with room it is written, and read back
@@ -211,7 +211,7 @@ image_size_lem : (r p nulls : List ℕ) (gs : List LentValue) → Fit r p nulls 
     → 0 + length (filled (length (row_of gs)) nulls ++ row_bytes (present r p) (row_of gs)) ≡ image_size r p nulls (row_of gs)
 image_size_lem r p nulls gs w =
     let f = filled (length (row_of gs)) nulls in
-    let l = fill-length (length (row_of gs)) nulls w.size in
+    let l = fill_length (length (row_of gs)) nulls w.size in
     omega (arith, length-append f (row_bytes (present r p) (row_of gs)))
 
 pub written : (r p nulls : List ℕ) (gs : List LentValue) (buf : List ℕ) → Fit r p nulls gs → image_size r p nulls (row_of gs) ≤ length buf
@@ -220,7 +220,7 @@ written r p nulls gs buf w h =
     let ds = row_of gs in
     let f = filled (length ds) nulls in
     let bs = row_bytes (present r p) ds in
-    let l : length f ≡ length nulls = fill-length (length ds) nulls w.size in
+    let l : length f ≡ length nulls = fill_length (length ds) nulls w.size in
     let s = image_size_lem r p nulls gs w in
     let a =
     after_is_ok (write_row r p nulls gs buf) (λ x. ok (x.0.offset, x.1)) _
@@ -228,7 +228,7 @@ written r p nulls gs buf w h =
     let e = same_ok a.2 in
     let o : a.0.0.offset ≡ length nulls + length bs = ap (λ (x : ℕ × List ℕ). x.0) e ∙ s in
     let k : a.0.1 ≡ stored (f ++ bs) buf 0 = ap (λ (x : ℕ × List ℕ). x.1) e in
-    let m : Marks f 0 ds = marks_same ds 0 nulls f (λ i g j. fill-kept (length ds) nulls w.size i (omega arith)) w.marks in
+    let m : Marks f 0 ds = marks_same ds 0 nulls f (λ i g j. fill_kept (length ds) nulls w.size i (omega arith)) w.marks in
     record {
       last = a.0.0;
       left = a.0.1;
@@ -333,4 +333,4 @@ stopped r p nulls gs buf w h =
     let n : count_bits p (count_of r) ≡ length (row_of gs) = sym (row_length (present r p) (row_of gs) w.row ∙ present_length r p) in
     let s : length nulls ≡ null_bytes r p = w.size ∙ ap bytes_for (sym n) in
     let u : Lent r p nulls = record { over = record { valid = w.valid; bits = w.bits }; size = s } in
-    left_lent r p nulls gs buf u w (fill-length (count_bits p (count_of r)) nulls s ∙ s) s n h
+    left_lent r p nulls gs buf u w (fill_length (count_bits p (count_of r)) nulls s ∙ s) s n h

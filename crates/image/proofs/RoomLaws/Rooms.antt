@@ -44,7 +44,7 @@ use Rattle.image.proofs.StepLaws.Splits.{Each, Good}
 use Rattle.image.proofs.PresenceLaws.Presents.{present_length, good_from, good_present}
 use Rattle.image.proofs.EndLaws.Images.{walk_read, row_length}
 use Rattle.image.proofs.EndLaws.Used.{walk_over, walk_used}
-use Rattle.image.proofs.PutLaws.Fills.{fill-length}
+use Rattle.image.proofs.PutLaws.Fills.{fill_length}
 use Rattle.image.proofs.PutLaws.Puts.{put_goes}
 use Rattle.image.proofs.PutLaws.WriteRows.{next_present}
 
@@ -219,37 +219,37 @@ module _ (r p nulls : List ℕ) {h : Head} (head : head_nulls r p nulls ≡ ok h
           })
       go (refused w) f = f
 
-  step-roomy : (c : Cursor) (lent : List ℕ) (v : Value) (buf : List ℕ) → Roomy c buf → Still (put_from r p nulls c lent v buf)
+  step_roomy : (c : Cursor) (lent : List ℕ) (v : Value) (buf : List ℕ) → Roomy c buf → Still (put_from r p nulls c lent v buf)
   unfolding slots_at
-  step-roomy c lent v buf m =
+  step_roomy c lent v buf m =
       let n = tested.columns in
       rw (put_goes r p nulls c lent v buf head (omega (arith, n, m.column)))
       (over _ c lent v buf m.column refl
       (good_from (count_of r - c.column) r p c.column tested.valid (omega (arith, m.column)))
       m.room (count_bits p c.column))
 
-  row-roomy : (gs : List LentValue) (c : Cursor) (buf : List ℕ) (w : Refusal) → Roomy c buf → put_row r p nulls gs c buf ≡ refused w
+  row_roomy : (gs : List LentValue) (c : Cursor) (buf : List ℕ) (w : Refusal) → Roomy c buf → put_row r p nulls gs c buf ≡ refused w
       → NotFull w
   unfolding put_row
-  row-roomy [] c buf w m e = absurd (ok_not_refused e)
-  row-roomy (g ∷ gs) c buf w m e =
-      let s = step-roomy c g.lent g.value buf m in
+  row_roomy [] c buf w m e = absurd (ok_not_refused e)
+  row_roomy (g ∷ gs) c buf w m e =
+      let s = step_roomy c g.lent g.value buf m in
       ⊎_elim
       (λ (q : put_from r p nulls c g.lent g.value buf ≡ refused w). subst Still q s)
-      (λ x. row-roomy gs x.0.0 x.0.1 w (subst Still x.1 s) x.2)
+      (λ x. row_roomy gs x.0.0 x.0.1 w (subst Still x.1 s) x.2)
       (after_refuses (put_from r p nulls c g.lent g.value buf) _ w e)
 
   -- from the start on
-  start-roomy : (buf : List ℕ) → image_room r p ≤ length buf → Still (start_image r p nulls buf)
+  start_roomy : (buf : List ℕ) → image_room r p ≤ length buf → Still (start_image r p nulls buf)
   unfolding start_image image_room
-  start-roomy buf l =
+  start_roomy buf l =
       let t = tested in
       let n : h.columns ≡ count_of r = t.columns in
       let k : h.present ≡ length (present r p) = t.present ∙ ap (count_bits p) n ∙ sym (present_length r p) in
       let m : h.nulls ≡ bytes_for (length (present r p)) = t.nulls ∙ ap bytes_for k in
       let f = filled h.present nulls in
       let z : length f ≡ h.nulls =
-      fill-length h.present nulls ((nulls_tested r p nulls head).1 ∙ t.nulls) ∙ (nulls_tested r p nulls head).1 in
+      fill_length h.present nulls ((nulls_tested r p nulls head).1 ∙ t.nulls) ∙ (nulls_tested r p nulls head).1 in
       let s : 0 + length f ≤ length buf = omega arith in
       rw (head, store_fits buf f 0 s) (record {
         column = omega arith;
@@ -257,14 +257,14 @@ module _ (r p nulls : List ℕ) {h : Head} (head : head_nulls r p nulls ≡ ok h
             rw (sub-zero (count_of r)) (omega (arith, length_stored buf 0 f s));
       })
 
-  good-head : (gs : List LentValue) (buf : List ℕ) (w : Refusal) → image_room r p ≤ length buf → write_row r p nulls gs buf ≡ refused w
+  good_head : (gs : List LentValue) (buf : List ℕ) (w : Refusal) → image_room r p ≤ length buf → write_row r p nulls gs buf ≡ refused w
       → NotFull w
   unfolding write_row
-  good-head gs buf w l e =
-      let s = start-roomy buf l in
+  good_head gs buf w l e =
+      let s = start_roomy buf l in
       ⊎_elim
       (λ (q : start_image r p nulls buf ≡ refused w). subst Still q s)
-      (λ x. row-roomy gs x.0.0 x.0.1 w (subst Still x.1 s) x.2)
+      (λ x. row_roomy gs x.0.0 x.0.1 w (subst Still x.1 s) x.2)
       (after_refuses (start_image r p nulls buf) _ w e)
 
 -- the tests before it refuse with 11 or 12
@@ -292,7 +292,7 @@ unfolding write_row start_image
 never_for_room r p nulls gs buf w l e = go (head_nulls r p nulls) refl
   where
     go : (x : Outcome Head) → head_nulls r p nulls ≡ x → NotFull w
-    go (ok h) q = good-head r p nulls q gs buf w l e
+    go (ok h) q = good_head r p nulls q gs buf w l e
     go (refused v) q =
         let z : v ≡ w = same_refused (rw q at e) in
         head_refuses r p nulls w (q ∙ ap refused z)

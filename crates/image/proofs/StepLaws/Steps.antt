@@ -36,42 +36,42 @@ module _ {r p : List ℕ} {n : ℕ} {s : InnerCursor} (h : Placed r p n s) {f : 
   facts : IsFirst (n - s.column) p s.column f
   facts = subst (IsFirst (n - s.column) p s.column) (sym e) (first_is (n - s.column) p s.column)
 
-  pub column-below : (f ≡ n → ⊥) → f < n
-  column-below u = omega (arith, facts.high, h.column)
+  pub column_below : (f ≡ n → ⊥) → f < n
+  column_below u = omega (arith, facts.high, h.column)
 
   rank_is : count_bits p f ≡ s.bit.0
   rank_is = facts.rank ∙ sym h.rank
 
   -- the rank behind it
-  pub rank-next : (f ≡ n → ⊥) → s.bit.0 + 1 ≡ count_bits p (f + 1)
-  rank-next u =
-      sym (ap (count_bits p) (add-one f) ∙ count_set p f (facts.found (omega (arith, column-below u, h.column))) ∙ ap suc rank_is
+  pub rank_next : (f ≡ n → ⊥) → s.bit.0 + 1 ≡ count_bits p (f + 1)
+  rank_next u =
+      sym (ap (count_bits p) (add-one f) ∙ count_set p f (facts.found (omega (arith, column_below u, h.column))) ∙ ap suc rank_is
       ∙ sym (add-one s.bit.0))
 
   -- which is no large number
-  pub rank-small : s.bit.0 ≤ most_columns
-  rank-small = omega (arith, h.rank, count_at_most p s.column, h.column, h.few)
+  pub rank_small : s.bit.0 ≤ most_columns
+  rank_small = omega (arith, h.rank, count_at_most p s.column, h.column, h.few)
 
-  pub slots-none : (im : List ℕ) → f ≡ n → slots_at r p im s.column ≡ []
-  slots-none im u = slots_end r p im s.column (omega (arith, h.column, h.count)) (omega (arith, here, h.count))
+  pub slots_none : (im : List ℕ) → f ≡ n → slots_at r p im s.column ≡ []
+  slots_none im u = slots_end r p im s.column (omega (arith, h.column, h.count)) (omega (arith, here, h.count))
 
-  pub slots-some : (im : List ℕ) → (f ≡ n → ⊥)
+  pub slots_some : (im : List ℕ) → (f ≡ n → ⊥)
       → slots_at r p im s.column ≡ record { present = present_at r f; null = bit_lsb0 im s.bit.0 } ∷ slots_at r p im (f + 1)
-  slots-some im u =
+  slots_some im u =
       let w =
       rw here at (slots_first r p im s.column (omega (arith, h.column, h.count))
-      (omega (arith, here, h.count, column-below u))) in
+      (omega (arith, here, h.count, column_below u))) in
       rw rank_is at w
 
   module _ (im : List ℕ) (o : ℕ) where
     pub step_end : f ≡ n → step_over (slots_at r p im s.column) im o ≡ ok (end o)
     unfolding step_over
-    step_end u = rw (slots-none im u)
+    step_end u = rw (slots_none im u)
 
-    pub step-null : (f ≡ n → ⊥) → bit_lsb0 im s.bit.0 ≡ true
+    pub step_null : (f ≡ n → ⊥) → bit_lsb0 im s.bit.0 ≡ true
         → step_over (slots_at r p im s.column) im o ≡ ok (null f (cursor (f + 1) o))
     unfolding step_over
-    step-null u b = rw (slots-some im u, b)
+    step_null u b = rw (slots_some im u, b)
 
     -- the value that the record's column says
     module _ (u : f ≡ n → ⊥) (b : bit_lsb0 im s.bit.0 ≡ false) {k : Column} (g : k ≡ column_of (entry_in r f)) (d : Read)
@@ -79,15 +79,15 @@ module _ {r p : List ℕ} {n : ℕ} {s : InnerCursor} (h : Placed r p n s) {f : 
       abbrev then : Outcome (Value × ℕ) → Outcome ColumnStepped
       then w = after w (λ x. ok (value f x.0 (cursor (f + 1) x.1)))
 
-      step-read : step_over (slots_at r p im s.column) im o ≡ then (read_told d)
+      step_read : step_over (slots_at r p im s.column) im o ≡ then (read_told d)
       unfolding step_over shape_at
-      step-read = rw (slots-some im u, b) (ap then (ap (λ (c : Column). read_value (shape_of c) f im o) (sym g) ∙ sym q))
+      step_read = rw (slots_some im u, b) (ap then (ap (λ (c : Column). read_value (shape_of c) f im o) (sym g) ∙ sym q))
 
-      pub step-got : (v : Value) (x : ℕ) → d ≡ Got v x → step_over (slots_at r p im s.column) im o ≡ ok (value f v (cursor (f + 1) x))
-      step-got v x y = rw y at step-read
+      pub step_got : (v : Value) (x : ℕ) → d ≡ Got v x → step_over (slots_at r p im s.column) im o ≡ ok (value f v (cursor (f + 1) x))
+      step_got v x y = rw y at step_read
 
-      pub step-bad : (z : Refusal) → d ≡ Refused z → step_over (slots_at r p im s.column) im o ≡ refused z
-      step-bad z y = rw y at step-read
+      pub step_bad : (z : Refusal) → d ≡ Refused z → step_over (slots_at r p im s.column) im o ≡ refused z
+      step_bad z y = rw y at step_read
 
 -- ---- a cursor that passes the tests
 pub left_goes : (r p im : List ℕ) (c : Cursor) {h : Head} → head_of r p ≡ ok h → c.column ≤ h.columns → h.nulls ≤ length im

@@ -50,17 +50,17 @@ pub record Sized (d : Dialect) (cs : List Declared) (k : Ranks) : Type 0 where
 pub sized : (d : Dialect) (cs : List Declared) → Sized d cs (ranks_from d no_ranks cs)
 unfolding ranks_after
 sized d cs = record {
-  sign = from-none (ranked d (λ k. k.sign.0) (signed d) (λ k c. refl) no_ranks cs);
-  character = from-none (ranked d (λ k. k.character.0) (character d) (λ k c. refl) no_ranks cs);
-  choice = from-none (ranked d (λ k. k.choice.0) choice (λ k c. refl) no_ranks cs);
-  set = from-none (ranked d (λ k. k.set.0) (of_type 248) (λ k c. refl) no_ranks cs);
-  enumeration = from-none (ranked d (λ k. k.enumeration.0) (of_type 247) (λ k c. refl) no_ranks cs);
-  geometry = from-none (ranked d (λ k. k.geometry.0) (of_type 255) (λ k c. refl) no_ranks cs);
-  vector = from-none (ranked d (λ k. k.vector.0) (of_type 242) (λ k c. refl) no_ranks cs);
+  sign = from_none (ranked d (λ k. k.sign.0) (signed d) (λ k c. refl) no_ranks cs);
+  character = from_none (ranked d (λ k. k.character.0) (character d) (λ k c. refl) no_ranks cs);
+  choice = from_none (ranked d (λ k. k.choice.0) choice (λ k c. refl) no_ranks cs);
+  set = from_none (ranked d (λ k. k.set.0) (of_type 248) (λ k c. refl) no_ranks cs);
+  enumeration = from_none (ranked d (λ k. k.enumeration.0) (of_type 247) (λ k c. refl) no_ranks cs);
+  geometry = from_none (ranked d (λ k. k.geometry.0) (of_type 255) (λ k c. refl) no_ranks cs);
+  vector = from_none (ranked d (λ k. k.vector.0) (of_type 242) (λ k c. refl) no_ranks cs);
 }
   where
-    from-none : {n m : ℕ} → n ≡ 0 + m → n ≡ m
-    from-none e = omega arith
+    from_none : {n m : ℕ} → n ≡ 0 + m → n ≡ m
+    from_none e = omega arith
 
 -- behind one column more
 pub ranks_behind : (d : Dialect) (k : Ranks) (before : List Declared) (c : Declared)

@@ -327,21 +327,21 @@ both_firsts {one} {other} fs n a b =
 apart : (fs : List Field) → NotBoth 2 3 fs → NotBoth 10 11 fs → NotBoth 8 9 fs → Each (λ (f : Field). 1 ≤ f.0) fs → Apart fs
 unfolding rival_of
 apart fs n m o h i j a b e =
-    by_test (eqb j 2) 3 _ i e (λ t u. both_firsts fs n (at-kind t) (at-rival u))
-    (λ t₂ e₂. by_test (eqb j 3) 2 _ i e₂ (λ t u. both_firsts fs n (at-rival u) (at-kind t))
-    (λ t₃ e₃. by_test (eqb j 10) 11 _ i e₃ (λ t u. both_firsts fs m (at-kind t) (at-rival u))
-    (λ t₄ e₄. by_test (eqb j 11) 10 _ i e₄ (λ t u. both_firsts fs m (at-rival u) (at-kind t))
-    (λ t₅ e₅. by_test (eqb j 8) 9 _ i e₅ (λ t u. both_firsts fs o (at-kind t) (at-rival u))
-    (λ t₆ e₆. by_test (eqb j 9) 8 _ i e₆ (λ t u. both_firsts fs o (at-rival u) (at-kind t))
+    by_test (eqb j 2) 3 _ i e (λ t u. both_firsts fs n (at_kind t) (at_rival u))
+    (λ t₂ e₂. by_test (eqb j 3) 2 _ i e₂ (λ t u. both_firsts fs n (at_rival u) (at_kind t))
+    (λ t₃ e₃. by_test (eqb j 10) 11 _ i e₃ (λ t u. both_firsts fs m (at_kind t) (at_rival u))
+    (λ t₄ e₄. by_test (eqb j 11) 10 _ i e₄ (λ t u. both_firsts fs m (at_rival u) (at_kind t))
+    (λ t₅ e₅. by_test (eqb j 8) 9 _ i e₅ (λ t u. both_firsts fs o (at_kind t) (at_rival u))
+    (λ t₆ e₆. by_test (eqb j 9) 8 _ i e₆ (λ t u. both_firsts fs o (at_rival u) (at_kind t))
     (λ t₇ e₇.
     let x = pair_member fs i a in
     omega (arith, h x.0 x.1, x.2, e₇)))))))
   where
-    at-kind : {k : ℕ} → eqb j k ≡ true → Member k (firsts fs)
-    at-kind {k} t = subst (λ (y : ℕ). Member y (firsts fs)) (eqb-true j k t) b
+    at_kind : {k : ℕ} → eqb j k ≡ true → Member k (firsts fs)
+    at_kind {k} t = subst (λ (y : ℕ). Member y (firsts fs)) (eqb-true j k t) b
 
-    at-rival : {k : ℕ} → k ≡ i → Member k (firsts fs)
-    at-rival u = subst (λ (y : ℕ). Member y (firsts fs)) (sym u) a
+    at_rival : {k : ℕ} → k ≡ i → Member k (firsts fs)
+    at_rival u = subst (λ (y : ℕ). Member y (firsts fs)) (sym u) a
 
 -- where the walk stands: no type that is to come stood, and none whose rival did
 record Clear (before : List ℕ) (fs : List Field) : Type 0 where

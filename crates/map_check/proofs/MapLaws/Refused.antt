@@ -208,25 +208,25 @@ step_refuses Comes Fault numeric columns s o before u h wrong w e =
     (λ r y.
     let n = eqb-false o (length s) t in
     let l : o < length s = omega arith in
-    ⊎_elim (λ z. item-refuses l z) (λ z. absurd (ok_not_refused z.2)) (after_refuses (field_item numeric columns s o) _ w y)))
+    ⊎_elim (λ z. item_refuses l z) (λ z. absurd (ok_not_refused z.2)) (after_refuses (field_item numeric columns s o) _ w y)))
   where
-    string-told : o < length s → {w : Refusal} → StringRefuses s (o + 1) w → Told s Comes Fault w
-    string-told l (cut_string c) = (1, o + 1, refl, cut u l c)
-    string-told l (bad_string c) = (2, o + 1, refl, unpacked u l c)
+    string_told : o < length s → {w : Refusal} → StringRefuses s (o + 1) w → Told s Comes Fault w
+    string_told l (cut_string c) = (1, o + 1, refl, cut u l c)
+    string_told l (bad_string c) = (2, o + 1, refl, unpacked u l c)
 
-    cut-refuses : o < length s → cut_field s o ≡ refused w → Told s Comes Fault w
-    cut-refuses l e =
+    cut_refuses : o < length s → cut_field s o ≡ refused w → Told s Comes Fault w
+    cut_refuses l e =
         ⊎_elim (λ z. absurd (omega (arith, (within_refuses s o 1 o w z).0)))
         (λ a.
         let q : a.0 ≡ o + 1 = (within_ok s o 1 o a.0 a.1).0 in
         ⊎_elim
-        (λ z. string-told l (string_refuses s (o + 1) w (subst (λ (p : ℕ). long_part s p ≡ refused w) q z)))
+        (λ z. string_told l (string_refuses s (o + 1) w (subst (λ (p : ℕ). long_part s p ≡ refused w) q z)))
         (λ z. absurd (ok_not_refused z.2))
         (after_refuses (long_part s a.0) _ w a.2))
         (after_refuses (within s o 1 o) _ w e)
 
-    judge-refuses : (f : ℕ × Part) (q : ℕ) → cut_field s o ≡ ok (f, q) → judge_field numeric columns s o f ≡ refused w → Told s Comes Fault w
-    judge-refuses f q x e =
+    judge_refuses : (f : ℕ × Part) (q : ℕ) → cut_field s o ≡ ok (f, q) → judge_field numeric columns s o f ≡ refused w → Told s Comes Fault w
+    judge_refuses f q x e =
         let r = cut_read s o f q x in
         let n = long_named s (o + 1) (f.1, q) r.1 in
         let h : f.1.start + f.1.len ≤ length s = omega (arith, n.1, n.2) in
@@ -242,11 +242,11 @@ step_refuses Comes Fault numeric columns s o before u h wrong w e =
         let k : is_field (get_or s o 0) ≡ false = rw r.0 t in
         (6, o, sym (same_refused y), unknown u (string_whole s (o + 1) (f.1, q) r.1) k))
 
-    item-refuses : o < length s → field_item numeric columns s o ≡ refused w → Told s Comes Fault w
-    item-refuses l e =
-        ⊎_elim (λ z. cut-refuses l z)
+    item_refuses : o < length s → field_item numeric columns s o ≡ refused w → Told s Comes Fault w
+    item_refuses l e =
+        ⊎_elim (λ z. cut_refuses l z)
         (λ a.
-        ⊎_elim (λ z. judge-refuses a.0.0 a.0.1 a.1 z) (λ z. absurd (ok_not_refused z.2))
+        ⊎_elim (λ z. judge_refuses a.0.0 a.0.1 a.1 z) (λ z. absurd (ok_not_refused z.2))
         (after_refuses (judge_field numeric columns s o a.0.0) _ w a.2))
         (after_refuses (cut_field s o) _ w e)
 
@@ -282,72 +282,72 @@ keys_refused true s sizes c fs p q k v r = rw (prefixed_alone sizes c s fs k p v
 -- ---- a map's columns, as the walk counts them
 module _ {d : Dialect} {cs : List Declared} {c : FieldCursor} (n : Counted d cs c) (s : List ℕ) where
   -- what is asked of a field, and the rules that it breaks or not
-  abbrev asksHere : List ℕ → ℕ → List ℕ → Bool
-  asksHere before kind value = asks c.numeric c.columns (sizes_of d cs) before kind value
+  abbrev asks_here : List ℕ → ℕ → List ℕ → Bool
+  asks_here before kind value = asks c.numeric c.columns (sizes_of d cs) before kind value
 
-  as-counted : (before : List ℕ) (kind : ℕ) (value : List ℕ)
-      → asksHere before kind value ≡ asks (count (signed d) cs) (length cs) (sizes_of d cs) before kind value
-  as-counted before kind value = rw (n.numeric, n.columns)
+  as_counted : (before : List ℕ) (kind : ℕ) (value : List ℕ)
+      → asks_here before kind value ≡ asks (count (signed d) cs) (length cs) (sizes_of d cs) before kind value
+  as_counted before kind value = rw (n.numeric, n.columns)
 
-  breaks-none : (before : List ℕ) (kind : ℕ) (value : List ℕ) → is_field kind ≡ true → asksHere before kind value ≡ true
+  breaks_none : (before : List ℕ) (kind : ℕ) (value : List ℕ) → is_field kind ≡ true → asks_here before kind value ≡ true
       → Breaks d cs before kind value → ⊥
-  breaks-none before kind value k e = asked before kind value k (sym (as-counted before kind value) ∙ e)
+  breaks_none before kind value k e = asked before kind value k (sym (as_counted before kind value) ∙ e)
 
-  breaks-one : (before : List ℕ) (kind : ℕ) (value : List ℕ) → asksHere before kind value ≡ false → Breaks d cs before kind value
-  breaks-one before kind value e = unasked before kind value (sym (as-counted before kind value) ∙ e)
+  breaks_one : (before : List ℕ) (kind : ℕ) (value : List ℕ) → asks_here before kind value ≡ false → Breaks d cs before kind value
+  breaks_one before kind value e = unasked before kind value (sym (as_counted before kind value) ∙ e)
 
-  none-asked : (before : List ℕ) (kind : ℕ) (value : List ℕ) → (Breaks d cs before kind value → ⊥) → asksHere before kind value ≡ true
-  none-asked before kind value b = go (asksHere before kind value) refl
+  none_asked : (before : List ℕ) (kind : ℕ) (value : List ℕ) → (Breaks d cs before kind value → ⊥) → asks_here before kind value ≡ true
+  none_asked before kind value b = go (asks_here before kind value) refl
     where
-      go : (t : Bool) → asksHere before kind value ≡ t → t ≡ true
+      go : (t : Bool) → asks_here before kind value ≡ t → t ≡ true
       go true e = refl
-      go false e = absurd (b (breaks-one before kind value e))
+      go false e = absurd (b (breaks_one before kind value e))
 
-  one-asked : (before : List ℕ) (kind : ℕ) (value : List ℕ) → is_field kind ≡ true → Breaks d cs before kind value
-      → asksHere before kind value ≡ false
-  one-asked before kind value k b = go (asksHere before kind value) refl
+  one_asked : (before : List ℕ) (kind : ℕ) (value : List ℕ) → is_field kind ≡ true → Breaks d cs before kind value
+      → asks_here before kind value ≡ false
+  one_asked before kind value k b = go (asks_here before kind value) refl
     where
-      go : (t : Bool) → asksHere before kind value ≡ t → t ≡ false
-      go true e = absurd (breaks-none before kind value k e b)
+      go : (t : Bool) → asks_here before kind value ≡ t → t ≡ false
+      go true e = absurd (breaks_none before kind value k e b)
       go false e = refl
 
-  abbrev keepHere : List ℕ → ℕ → Outcome (List (ℕ × Part))
-  keepHere before o = keep_from (sizes_of d cs) c s before o
+  abbrev keep_here : List ℕ → ℕ → Outcome (List (ℕ × Part))
+  keep_here before o = keep_from (sizes_of d cs) c s before o
 
   abbrev rule : Rule (ℕ × Part)
   rule = field_item c.numeric c.columns
 
   -- ---- fields that stand lead to what is behind them
-  stand-refuses : {from o : ℕ} {before : List ℕ} (w : Refusal) → Stand s (Breaks d cs) from o before → keepHere before o ≡ refused w
-      → keepHere [] from ≡ refused w
-  stand-refuses w no_field e = e
-  stand-refuses w (a_field {o} {len} {start} {before} u k r h b) e =
-      let t = none-asked before (get_or s o 0) (take len (drop start s)) b in
-      stand-refuses w u (keep_field (sizes_of d cs) c s before o len start k r h ∙ rw (t, e))
+  stand_refuses : {from o : ℕ} {before : List ℕ} (w : Refusal) → Stand s (Breaks d cs) from o before → keep_here before o ≡ refused w
+      → keep_here [] from ≡ refused w
+  stand_refuses w no_field e = e
+  stand_refuses w (a_field {o} {len} {start} {before} u k r h b) e =
+      let t = none_asked before (get_or s o 0) (take len (drop start s)) b in
+      stand_refuses w u (keep_field (sizes_of d cs) c s before o len start k r h ∙ rw (t, e))
 
   -- so the first field that is refused is told
   pub field_told : {from number p : ℕ} → Bytes s → FieldRefused s (Stand s (Breaks d cs) from) (Breaks d cs) number p
-      → keepHere [] from ≡ refuse number p
+      → keep_here [] from ≡ refuse number p
   field_told b (cut {o} {before} u l x) =
       let e = field_refused c.numeric c.columns s o (why 1 (o + 1)) l (cut_told x) in
-      stand-refuses (why 1 (o + 1)) u (keep_turn (sizes_of d cs) c s before o ∙ rw (refusal_stepped rule s o (why 1 (o + 1)) l e))
+      stand_refuses (why 1 (o + 1)) u (keep_turn (sizes_of d cs) c s before o ∙ rw (refusal_stepped rule s o (why 1 (o + 1)) l e))
   field_told b (unpacked {o} {before} u l x) =
       let e = field_refused c.numeric c.columns s o (why 2 (o + 1)) l (unpacked_told b x) in
-      stand-refuses (why 2 (o + 1)) u (keep_turn (sizes_of d cs) c s before o ∙ rw (refusal_stepped rule s o (why 2 (o + 1)) l e))
+      stand_refuses (why 2 (o + 1)) u (keep_turn (sizes_of d cs) c s before o ∙ rw (refusal_stepped rule s o (why 2 (o + 1)) l e))
   field_told b (unknown {o} {q} {before} u x k) =
       let y = field_unknown c.numeric c.columns s o q x k in
-      stand-refuses (why 6 o) u (keep_turn (sizes_of d cs) c s before o ∙ rw (refusal_stepped rule s o (why 6 o) y.0 y.1))
+      stand_refuses (why 6 o) u (keep_turn (sizes_of d cs) c s before o ∙ rw (refusal_stepped rule s o (why 6 o) y.0 y.1))
   field_told b (faulty {o} {len} {start} {before} u k r h f) =
-      let t = one-asked before (get_or s o 0) (take len (drop start s)) k f in
-      stand-refuses (why 7 o) u (keep_field (sizes_of d cs) c s before o len start k r h ∙ rw t)
+      let t = one_asked before (get_or s o 0) (take len (drop start s)) k f in
+      stand_refuses (why 7 o) u (keep_field (sizes_of d cs) c s before o len start k r h ∙ rw t)
 
   -- ---- the other way: a refusal is that of the first field that is refused
-  kept-refuses : (m : ℕ) {from o : ℕ} {before : List ℕ} (w : Refusal) → o ≤ length s → Stand s (Breaks d cs) from o before
+  kept_refuses : (m : ℕ) {from o : ℕ} {before : List ℕ} (w : Refusal) → o ≤ length s → Stand s (Breaks d cs) from o before
       → keep_steps m (sizes_of d cs) c s before o ≡ refused w → Told s (Stand s (Breaks d cs) from) (Breaks d cs) w
   unfolding keep_steps stands_given
-  kept-refuses zero w h u e = absurd (ok_not_refused e)
-  kept-refuses (suc m) {from} {o} {before} w h u e =
-      go (λ q l v x. kept-refuses m w l v x) (step rule s o) refl e
+  kept_refuses zero w h u e = absurd (ok_not_refused e)
+  kept_refuses (suc m) {from} {o} {before} w h u e =
+      go (λ q l v x. kept_refuses m w l v x) (step rule s o) refl e
     where
       kind : ℕ
       kind = get_or s o 0
@@ -362,7 +362,7 @@ module _ {d : Dialect} {cs : List Declared} {c : FieldCursor} (n : Counted d cs 
           let a = field_met c.numeric c.columns s o f q x in
           by_test (stands_behind (sizes_of d cs) c.columns s before f) _ _ _ y
           (λ t z.
-          let b = breaks-none before kind (take f.1.len (drop f.1.start s)) a.known (asks-so a t) in
+          let b = breaks_none before kind (take f.1.len (drop f.1.start s)) a.known (asks_so a t) in
           let v =
           subst (λ (p : ℕ). Stand s (Breaks d cs) from p (kind ∷ before)) (sym a.ends)
           (a_field u a.known a.read a.fits b) in
@@ -371,20 +371,20 @@ module _ {d : Dialect} {cs : List Declared} {c : FieldCursor} (n : Counted d cs 
           (λ r. absurd (ok_not_refused r.2))
           (after_refuses (keep_steps m (sizes_of d cs) c s (f.0 ∷ before) q) _ w z))
           (λ t z.
-          let b = breaks-one before kind (take f.1.len (drop f.1.start s)) (asks-so a t) in
+          let b = breaks_one before kind (take f.1.len (drop f.1.start s)) (asks_so a t) in
           (7, o, sym (same_refused z), faulty u a.known a.read a.fits b))
         where
-          asks-so : {t : Bool} → Met c.numeric c.columns s o f q → stands_behind (sizes_of d cs) c.columns s before f ≡ t
-              → asksHere before kind (take f.1.len (drop f.1.start s)) ≡ t
-          asks-so a t = rw (a.holds, a.kind_is, ← a.lent) t
+          asks_so : {t : Bool} → Met c.numeric c.columns s o f q → stands_behind (sizes_of d cs) c.columns s before f ≡ t
+              → asks_here before kind (take f.1.len (drop f.1.start s)) ≡ t
+          asks_so a t = rw (a.holds, a.kind_is, ← a.lent) t
       go again (refused v) x y =
           let q : v ≡ w = same_refused y in
           step_refuses (Stand s (Breaks d cs) from) (Breaks d cs) c.numeric c.columns s o before u h
-          (λ len start k f. breaks-one before kind (take len (drop start s)) (rw f)) w (x ∙ ap (λ (r : Refusal). refused r) q)
+          (λ len start k f. breaks_one before kind (take len (drop start s)) (rw f)) w (x ∙ ap (λ (r : Refusal). refused r) q)
 
-  pub field-refuses : (w : Refusal) {from : ℕ} → from ≤ length s → keepHere [] from ≡ refused w
+  pub field_refuses : (w : Refusal) {from : ℕ} → from ≤ length s → keep_here [] from ≡ refused w
       → Told s (Stand s (Breaks d cs) from) (Breaks d cs) w
-  field-refuses w {from} h e = kept-refuses (suc (length s - from)) w h no_field e
+  field_refuses w {from} h e = kept_refuses (suc (length s - from)) w h no_field e
 
   -- ---- keys, where all fields stand
   -- the field of a type that was found, behind those that stand before it
@@ -401,11 +401,11 @@ module _ {d : Dialect} {cs : List Declared} {c : FieldCursor} (n : Counted d cs 
     stand : Stand s (Breaks d cs) from (length s) types
     found : (kind : ℕ) (p : Part) → first_of kind fs ≡ Value p → FoundAt from kind p
 
-  kept-stand : (m : ℕ) {from o : ℕ} {before : List ℕ} (fs : List (ℕ × Part)) → length s - o < m → o ≤ length s
+  kept_stand : (m : ℕ) {from o : ℕ} {before : List ℕ} (fs : List (ℕ × Part)) → length s - o < m → o ≤ length s
       → Stand s (Breaks d cs) from o before → keep_steps m (sizes_of d cs) c s before o ≡ ok fs → AllStand from fs
   unfolding keep_steps stands_given first_of
-  kept-stand zero fs l h u e = absurd (omega arith)
-  kept-stand (suc m) {from} {o} {before} fs l h u e = go (λ q gs k g v x. kept-stand m gs k g v x) (step rule s o) refl e
+  kept_stand zero fs l h u e = absurd (omega arith)
+  kept_stand (suc m) {from} {o} {before} fs l h u e = go (λ q gs k g v x. kept_stand m gs k g v x) (step rule s o) refl e
     where
       kind : ℕ
       kind = get_or s o 0
@@ -428,7 +428,7 @@ module _ {d : Dialect} {cs : List Declared} {c : FieldCursor} (n : Counted d cs 
           let j = (field_moves c.numeric c.columns).moves s o f q i.1 in
           by_test (stands_behind (sizes_of d cs) c.columns s before f) _ _ _ y
           (λ t z.
-          let b = breaks-none before kind (take f.1.len (drop f.1.start s)) a.known (rw (a.holds, a.kind_is, ← a.lent) t) in
+          let b = breaks_none before kind (take f.1.len (drop f.1.start s)) a.known (rw (a.holds, a.kind_is, ← a.lent) t) in
           let v =
           subst (λ (p : ℕ). Stand s (Breaks d cs) from p (kind ∷ before)) (sym a.ends)
           (a_field u a.known a.read a.fits b) in
@@ -472,9 +472,9 @@ module _ {d : Dialect} {cs : List Declared} {c : FieldCursor} (n : Counted d cs 
     pub repeats : Repeats paired (take len (drop start s)) at
     pub told : w ≡ why 7 (start + at)
 
-  once-told : {from : ℕ} {fs : List (ℕ × Part)} → AllStand from fs → (paired : Bool) (w : Refusal) (f : Found)
+  once_told : {from : ℕ} {fs : List (ℕ × Part)} → AllStand from fs → (paired : Bool) (w : Refusal) (f : Found)
       → first_of (keys_field paired) fs ≡ f → once_in paired s f ≡ refused w → KeyTold from w
-  once-told {from} {fs} a paired w (Value p) e h =
+  once_told {from} {fs} a paired w (Value p) e h =
       let f = a.found (keys_field paired) p e in
       let l : lent_part s p ≡ take p.len (drop p.start s) = lent_is s p f.fits in
       let ks = keys_from paired (take p.len (drop p.start s)) 0 in
@@ -504,51 +504,51 @@ module _ {d : Dialect} {cs : List Declared} {c : FieldCursor} (n : Counted d cs 
         };
         told = x.2;
       }
-  once-told a paired w Nothing e h = absurd (ok_not_refused h)
+  once_told a paired w Nothing e h = absurd (ok_not_refused h)
 
-  pub key-refuses : (w : Refusal) {from : ℕ} (fs : List (ℕ × Part)) → from ≤ length s → keepHere [] from ≡ ok fs → keys_hold s fs ≡ refused w
+  pub key_refuses : (w : Refusal) {from : ℕ} (fs : List (ℕ × Part)) → from ≤ length s → keep_here [] from ≡ ok fs → keys_hold s fs ≡ refused w
       → KeyTold from w
   unfolding keys_hold
-  key-refuses w {from} fs h k e =
-      let a = kept-stand (suc (length s - from)) fs (omega arith) h no_field k in
-      ⊎_elim (λ l. once-told a false w (first_of 8 fs) refl l) (λ r. once-told a true w (first_of 9 fs) refl r.2)
+  key_refuses w {from} fs h k e =
+      let a = kept_stand (suc (length s - from)) fs (omega arith) h no_field k in
+      ⊎_elim (λ l. once_told a false w (first_of 8 fs) refl l) (λ r. once_told a true w (first_of 9 fs) refl r.2)
       (after_refuses (once_in false s (first_of 8 fs)) (λ x. once_in true s (first_of 9 fs)) w e)
 
   -- ---- and the other way
   -- fields that stand are kept
-  stand-kept : {from o : ℕ} {before : List ℕ} (gs : List (ℕ × Part)) → Stand s (Breaks d cs) from o before → keepHere before o ≡ ok gs
-      → (fs : List (ℕ × Part)) × (keepHere [] from ≡ ok fs)
-  stand-kept gs no_field e = (gs, e)
-  stand-kept gs (a_field {o} {len} {start} {before} u k r h b) e =
-      let t = none-asked before (get_or s o 0) (take len (drop start s)) b in
-      stand-kept ((get_or s o 0, part start len) ∷ gs) u (keep_field (sizes_of d cs) c s before o len start k r h ∙ rw (t, e))
+  stand_kept : {from o : ℕ} {before : List ℕ} (gs : List (ℕ × Part)) → Stand s (Breaks d cs) from o before → keep_here before o ≡ ok gs
+      → (fs : List (ℕ × Part)) × (keep_here [] from ≡ ok fs)
+  stand_kept gs no_field e = (gs, e)
+  stand_kept gs (a_field {o} {len} {start} {before} u k r h b) e =
+      let t = none_asked before (get_or s o 0) (take len (drop start s)) b in
+      stand_kept ((get_or s o 0, part start len) ∷ gs) u (keep_field (sizes_of d cs) c s before o len start k r h ∙ rw (t, e))
 
   -- of those that are kept, what is kept from a field on is a part
-  stand-among : {from o : ℕ} {before : List ℕ} (fs : List (ℕ × Part)) → Stand s (Breaks d cs) from o before → keepHere [] from ≡ ok fs
-      → (gs : List (ℕ × Part)) × (keepHere before o ≡ ok gs) × ((f : ℕ × Part) → Member f gs → Member f fs)
-  stand-among fs no_field e = (fs, e, λ f m. m)
-  stand-among fs (a_field {o} {len} {start} {before} u k r h b) e =
-      let x = stand-among fs u e in
-      let t = none-asked before (get_or s o 0) (take len (drop start s)) b in
-      let y : after (keepHere (get_or s o 0 ∷ before) (start + len)) (λ gs. ok ((get_or s o 0, part start len) ∷ gs)) ≡ ok x.0
+  stand_among : {from o : ℕ} {before : List ℕ} (fs : List (ℕ × Part)) → Stand s (Breaks d cs) from o before → keep_here [] from ≡ ok fs
+      → (gs : List (ℕ × Part)) × (keep_here before o ≡ ok gs) × ((f : ℕ × Part) → Member f gs → Member f fs)
+  stand_among fs no_field e = (fs, e, λ f m. m)
+  stand_among fs (a_field {o} {len} {start} {before} u k r h b) e =
+      let x = stand_among fs u e in
+      let t = none_asked before (get_or s o 0) (take len (drop start s)) b in
+      let y : after (keep_here (get_or s o 0 ∷ before) (start + len)) (λ gs. ok ((get_or s o 0, part start len) ∷ gs)) ≡ ok x.0
       = rw (← x.1, keep_field (sizes_of d cs) c s before o len start k r h, t) in
-      let z = after_is_ok (keepHere (get_or s o 0 ∷ before) (start + len)) (λ gs. ok ((get_or s o 0, part start len) ∷ gs)) x.0 y in
+      let z = after_is_ok (keep_here (get_or s o 0 ∷ before) (start + len)) (λ gs. ok ((get_or s o 0, part start len) ∷ gs)) x.0 y in
       (z.0, z.1, λ f m. x.2 f (behind f z.0 x.0 z.2 m))
     where
       behind : (f : ℕ × Part) (gs hs : List (ℕ × Part)) → ok ((get_or s o 0, part start len) ∷ gs) ≡ ok hs → Member f gs → Member f hs
       behind f gs hs e m = subst (Member f) (same_ok e) (later m)
 
-  field-among : {from o len start : ℕ} {before : List ℕ} (fs : List (ℕ × Part)) → Stand s (Breaks d cs) from o before
-      → is_field (get_or s o 0) ≡ true → read_packed s (o + 1) ≡ ok (len, start) → start + len ≤ length s → keepHere [] from ≡ ok fs
+  field_among : {from o len start : ℕ} {before : List ℕ} (fs : List (ℕ × Part)) → Stand s (Breaks d cs) from o before
+      → is_field (get_or s o 0) ≡ true → read_packed s (o + 1) ≡ ok (len, start) → start + len ≤ length s → keep_here [] from ≡ ok fs
       → Member (get_or s o 0, part start len) fs
-  field-among {from} {o} {len} {start} {before} fs u k r h e =
-      let x = stand-among fs u e in
-      let y : cond (asksHere before (get_or s o 0) (take len (drop start s)))
-      (after (keepHere (get_or s o 0 ∷ before) (start + len)) (λ gs. ok ((get_or s o 0, part start len) ∷ gs))) (refuse 7 o) ≡ ok x.0
+  field_among {from} {o} {len} {start} {before} fs u k r h e =
+      let x = stand_among fs u e in
+      let y : cond (asks_here before (get_or s o 0) (take len (drop start s)))
+      (after (keep_here (get_or s o 0 ∷ before) (start + len)) (λ gs. ok ((get_or s o 0, part start len) ∷ gs))) (refuse 7 o) ≡ ok x.0
       = rw (← x.1, keep_field (sizes_of d cs) c s before o len start k r h) in
-      by_test (asksHere before (get_or s o 0) (take len (drop start s))) _ _ _ y
+      by_test (asks_here before (get_or s o 0) (take len (drop start s))) _ _ _ y
       (λ t z.
-      let w = after_is_ok (keepHere (get_or s o 0 ∷ before) (start + len)) (λ gs. ok ((get_or s o 0, part start len) ∷ gs)) x.0 z in
+      let w = after_is_ok (keep_here (get_or s o 0 ∷ before) (start + len)) (λ gs. ok ((get_or s o 0, part start len) ∷ gs)) x.0 z in
       x.2 (get_or s o 0, part start len) (at_front w.0 x.0 w.2))
       (λ t z. absurd (ok_not_refused (sym z)))
     where
@@ -556,15 +556,15 @@ module _ {d : Dialect} {cs : List Declared} {c : FieldCursor} (n : Counted d cs 
       at_front gs hs e = subst (Member (get_or s o 0, part start len)) (same_ok e) (here refl)
 
   -- so the first key that repeats one is told
-  pub key-told : {from o len start p : ℕ} {before types : List ℕ} (paired : Bool) → c.at ≡ from
+  pub key_told : {from o len start p : ℕ} {before types : List ℕ} (paired : Bool) → c.at ≡ from
       → Stand s (Breaks d cs) from (length s) types
       → Stand s (Breaks d cs) from o before → get_or s o 0 ≡ keys_field paired → read_packed s (o + 1) ≡ ok (len, start)
       → start + len ≤ length s → Repeats paired (take len (drop start s)) p
-      → (fs : List (ℕ × Part)) × (keepHere [] from ≡ ok fs) × (keys_hold s fs ≡ refuse 7 (start + p))
-  key-told {from} {o} {len} {start} {p} {before} {types} paired q all u k r h x =
-      let y = stand-kept [] all (keep_turn (sizes_of d cs) c s types (length s) ∙ rw (step_end rule s (length s) refl)) in
-      let e : keep_fields (sizes_of d cs) c s ≡ ok y.0 = subst (λ (i : ℕ). keepHere [] i ≡ ok y.0) (sym q) y.1 in
-      let m = subst (λ (t : ℕ). Member (t, part start len) y.0) k (field-among y.0 u (known paired k) r h y.1) in
+      → (fs : List (ℕ × Part)) × (keep_here [] from ≡ ok fs) × (keys_hold s fs ≡ refuse 7 (start + p))
+  key_told {from} {o} {len} {start} {p} {before} {types} paired q all u k r h x =
+      let y = stand_kept [] all (keep_turn (sizes_of d cs) c s types (length s) ∙ rw (step_end rule s (length s) refl)) in
+      let e : keep_fields (sizes_of d cs) c s ≡ ok y.0 = subst (λ (i : ℕ). keep_here [] i ≡ ok y.0) (sym q) y.1 in
+      let m = subst (λ (t : ℕ). Member (t, part start len) y.0) k (field_among y.0 u (known paired k) r h y.1) in
       let f = member_first s y.0 (keys_field paired) (part start len) (kept_distinct (kept_fields (sizes_of d cs) c s y.0 e)) m in
       (y.0, y.1, keys_refused paired s (sizes_of d cs) c y.0 (part start len) p e f (rw (lent_is s (part start len) h) x))
     where
@@ -592,32 +592,32 @@ walk_breaks : (numeric n : ℕ) (before : List ℕ) (kind : ℕ) (value : List �
 unfolding contents_hold
 walk_breaks numeric n before kind value e =
     by_test (eqb kind 1) _ _ _ e
-    (λ t x. at-kind 1 t (not_signs (eqb-false (length value) (bytes_for numeric) x)))
+    (λ t x. at_kind 1 t (not_signs (eqb-false (length value) (bytes_for numeric) x)))
     (λ t e₁. by_test (eqb kind 12) _ _ _ e₁
-    (λ u x. at-kind 12 u (not_visible (eqb-false (length value) (bytes_for n) x)))
+    (λ u x. at_kind 12 u (not_visible (eqb-false (length value) (bytes_for n) x)))
     (λ u e₂. by_test (eqb kind 2 || eqb kind 10) _ _ _ e₂
     (λ v x. default (eqb kind 2) refl v (not_read value x))
     (λ v x. absurd (true≢false x))))
   where
-    at-kind : (k : ℕ) → eqb kind k ≡ true → WalkBreaks numeric n before k value → WalkBreaks numeric n before kind value
-    at-kind k t b = subst (λ (j : ℕ). WalkBreaks numeric n before j value) (sym (eqb-true kind k t)) b
+    at_kind : (k : ℕ) → eqb kind k ≡ true → WalkBreaks numeric n before k value → WalkBreaks numeric n before kind value
+    at_kind k t b = subst (λ (j : ℕ). WalkBreaks numeric n before j value) (sym (eqb-true kind k t)) b
 
     default : (t : Bool) → eqb kind 2 ≡ t → (t || eqb kind 10) ≡ true → ((v next : ℕ) → read_packed value 0 ≡ ok (v, next) → ⊥)
         → WalkBreaks numeric n before kind value
-    default true t e b = at-kind 2 t (no_default b)
-    default false t e b = at-kind 10 e (no_choice b)
+    default true t e b = at_kind 2 t (no_default b)
+    default false t e b = at_kind 10 e (no_choice b)
 
 -- a walk that breaks off, with no names before that
 module _ (numeric n : ℕ) (s : List ℕ) (from : ℕ) where
   abbrev Comes : ℕ → List ℕ → Type 0
   Comes o before = Stand s (WalkBreaks numeric n) from o before × (Member 4 before → ⊥)
 
-  walk-refuses : (m o : ℕ) (before : List ℕ) (w : Refusal) → o ≤ length s → Comes o before
+  walk_refuses : (m o : ℕ) (before : List ℕ) (w : Refusal) → o ≤ length s → Comes o before
       → first_of 4 (walk_steps m (field_item numeric n) s o).items ≡ Nothing → (walk_steps m (field_item numeric n) s o).how ≡ broken w
       → Told s Comes (WalkBreaks numeric n) w
   unfolding walk_steps first_of
-  walk-refuses zero o before w h u f e = absurd (whole_not_broken e)
-  walk-refuses (suc m) o before w h u f e = go (λ q l v g x. walk-refuses m q (kind ∷ before) w l v g x) (step rule s o) refl f e
+  walk_refuses zero o before w h u f e = absurd (whole_not_broken e)
+  walk_refuses (suc m) o before w h u f e = go (λ q l v g x. walk_refuses m q (kind ∷ before) w l v g x) (step rule s o) refl f e
     where
       kind : ℕ
       kind = get_or s o 0
@@ -650,7 +650,7 @@ pub names_refuses : (c : FieldCursor) (s : List ℕ) (w : Refusal) → c.at ≤ 
     → Told s (λ o before. Stand s (WalkBreaks c.numeric c.columns) c.at o before × (Member 4 before → ⊥))
     (WalkBreaks c.numeric c.columns) w
 names_refuses c s w h e =
-    walk-refuses c.numeric c.columns s c.at (suc (length s - c.at)) c.at [] w h (no_field, λ m. no_member m refl)
+    walk_refuses c.numeric c.columns s c.at (suc (length s - c.at)) c.at [] w h (no_field, λ m. no_member m refl)
     (names_unmet (walk_fields c s) w e) (names_broken (walk_fields c s) w e)
 
 -- ---- the whole check, of an event that is read
@@ -714,7 +714,7 @@ pub fields_refuse : (d : Dialect) (s : List ℕ) (post_header : ℕ) (e : Event)
     → (number p : ℕ) × (w ≡ why number p) × InFields d s post_header number p
 fields_refuse d s post_header e cs w r l t k =
     let x = all_taken s post_header e cs r l t in
-    let y = field-refuses (taken_counted d x) s w (omega (arith, (each_within s post_header e r).optional)) k in
+    let y = field_refuses (taken_counted d x) s w (omega (arith, (each_within s post_header e r).optional)) k in
     (y.0, y.1, y.2, in_fields x y.3)
 
 -- a key is
@@ -722,7 +722,7 @@ pub keys_told : {d : Dialect} {s : List ℕ} {post_header p : ℕ} → KeyRepeat
 unfolding check_map check_event few_enough
 keys_told {d} {s} (repeated paired x all u k r h y) =
     let types = lent_part s x.event.types in
-    let z = key-told (taken_counted d x) s paired refl all u k r h y in
+    let z = key_told (taken_counted d x) s paired refl all u k r h y in
     rw (x.read, le-leb (length types) most_columns x.few, columns_taken x.columns_are 0, z.1, z.2)
 
 pub keys_refuse : (d : Dialect) (s : List ℕ) (post_header : ℕ) (e : Event) (cs : List Declared) (fs : List (ℕ × Part)) (w : Refusal)
@@ -732,5 +732,5 @@ pub keys_refuse : (d : Dialect) (s : List ℕ) (post_header : ℕ) (e : Event) (
     → (p : ℕ) × (w ≡ why 7 p) × KeyRepeated d s post_header p
 keys_refuse d s post_header e cs fs w r l t k h =
     let x = all_taken s post_header e cs r l t in
-    let y = key-refuses (taken_counted d x) s w fs (omega (arith, (each_within s post_header e r).optional)) k h in
+    let y = key_refuses (taken_counted d x) s w fs (omega (arith, (each_within s post_header e r).optional)) k h in
     (y.start + y.at, y.told, repeated y.paired x y.all y.stand y.kind_is y.read y.fits y.repeats)

@@ -54,23 +54,23 @@ fit_among r p n nb st carry e =
 
 -- ---- a block
 module _ {ls : List Line} (r : List ℕ) (ten : (j : ℕ) → j < count_of r → Tens ls j) where
-  turn-listed : (nb : ℕ) (sh : Shape) (j : ℕ) (x : List ℕ) (st : Arriving) (carry block : List ℕ) (v : TurnSaid) → j < count_of r
+  turn_listed : (nb : ℕ) (sh : Shape) (j : ℕ) (x : List ℕ) (st : Arriving) (carry block : List ℕ) (v : TurnSaid) → j < count_of r
       → Listed ls (by_turn nb sh j x st carry block v)
   unfolding by_turn judged
-  turn-listed nb sh j x st carry block wait h = done _
-  turn-listed nb sh j x st carry block (long n) h = done _
-  turn-listed nb sh j x st carry block (whole n) h =
+  turn_listed nb sh j x st carry block wait h = done _
+  turn_listed nb sh j x st carry block (long n) h = done _
+  turn_listed nb sh j x st carry block (whole n) h =
       chain (judged sh j (take n x)) _
       (test (eqb (fault sh (take n x)) 0) (λ u. done _) (λ u. stop_part (ten j h) u (fault_most sh (take n x)))) (λ d e. done _)
 
-  over-listed : (room nb : ℕ) (is : List Slot) (x : List ℕ) (st : Arriving) (carry block : List ℕ) → EachSlot (Fine r) is
+  over_listed : (room nb : ℕ) (is : List Slot) (x : List ℕ) (st : Arriving) (carry block : List ℕ) → EachSlot (Fine r) is
       → Listed ls (give_over room nb is x st carry block)
   unfolding give_over EachSlot
-  over-listed room nb [] x st carry block f = done _
-  over-listed room nb (i ∷ is) x st carry block f =
+  over_listed room nb [] x st carry block f = done _
+  over_listed room nb (i ∷ is) x st carry block f =
       test i.null (λ u. done _)
       (λ u.
-      turn-listed nb i.present.shape i.present.column x st carry block (turn_of room i.present.shape x) f.0.column)
+      turn_listed nb i.present.shape i.present.column x st carry block (turn_of room i.present.shape x) f.0.column)
 
 pub block_given_lem : {ls : List Line} (r p : List ℕ) (st : Arriving) (carry block : List ℕ) → OneOf ls (why 11 0) → OneOf ls (why 12 0)
     → OneOf ls (why 20 0) → OneOf ls (why 21 0) → ((j : ℕ) → j < count_of r → Tens ls j) → Listed ls (give_block r p st carry block)
@@ -87,7 +87,7 @@ block_given_lem {ls} r p st carry block eleven twelve twenty unfit ten =
     go Open nb f =
         let y = at_hand st carry block in
         test (ltb (length y) nb) (λ u. done _)
-        (λ u. over-listed r ten (length carry - nb) nb (slots_at r p y st.column) (drop nb y) st carry block (f y))
+        (λ u. over_listed r ten (length carry - nb) nb (slots_at r p y st.column) (drop nb y) st carry block (f y))
     go Long nb f = test (eqb (length block) 0) (λ u. done _) (λ u. test (leb st.left (length block)) (λ u. done _) (λ u. done _))
     go Closed nb f = stop unfit
 

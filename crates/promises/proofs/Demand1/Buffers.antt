@@ -31,9 +31,9 @@ use Rattle.map_check.specs.Check.{check_map, check}
 use Rattle.image.specs.declared.cursor.Cursor.{Cursor}
 use Rattle.image.specs.Split.{Slot, cursor, slots_at, head_of}
 use Rattle.image.specs.Puts.{filled, head_nulls, start_image, slot_bytes, put_over, put_from}
-use Rattle.image.proofs.PutLaws.Fills.{fill-length}
+use Rattle.image.proofs.PutLaws.Fills.{fill_length}
 use Rattle.image.proofs.CursorLaws.Heads.{nulls_tested}
-use Rattle.image.proofs.PutLaws.Puts.{nulls-size}
+use Rattle.image.proofs.PutLaws.Puts.{nulls_size}
 use Rattle.blocks.specs.declared.state.Arriving.{Arriving}
 use Rattle.blocks.specs.States.{Arrived, more, null as null₁, value as value₁, long, part as part₁, end as end₁, BlockGiven}
 use Rattle.blocks.specs.Gives.{give_block}
@@ -108,7 +108,7 @@ starts r p nulls buf next left e =
     let b = after_is_ok (store (filled c nulls) buf 0) _ (next, left) a.2 in
     let x = b.0 in
     let m = (nulls_tested r p nulls a.1).1 in
-    let f = fill-length c nulls (nulls-size r p nulls buf a.1) in
+    let f = fill_length c nulls (nulls_size r p nulls buf a.1) in
     let z = store_ends buf 0 (filled c nulls) x.0 x.1 b.1 in
     let q = same_ok b.2 in
     let i : h.nulls ≡ next.offset = ap (λ (y : Cursor × List ℕ). y.0.offset) q in

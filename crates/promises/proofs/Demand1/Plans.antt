@@ -46,24 +46,24 @@ module _ {ls : List Line} (plan images : List ℕ) (c : RowCursor) (fourteen : O
   abbrev at_item : Outcome (Value × ℕ)
   at_item = read_value (item_at plan c.item).shape (item_at plan c.item).column im c.offset
 
-  value-here : Listed ls at_item
+  value_here : Listed ls at_item
   unfolding item_at
-  value-here =
+  value_here =
       value_read (shape_for (get_or plan (3 * c.item) 0)) (item_at plan c.item).column im c.offset
       (op_taken (get_or plan (3 * c.item) 0) (item_at plan c.item).column eleven) nine ten
 
-  item-read : (m : ℕ) → Listed ls (step_over (slots (items_from m plan c.item) c.item im) im c.offset)
+  item_read : (m : ℕ) → Listed ls (step_over (slots (items_from m plan c.item) c.item im) im c.offset)
   unfolding items_from slots step_over
-  item-read zero = done _
-  item-read (suc m) = test (bit_lsb0 im c.item) (λ u. done _) (λ u. chain at_item _ value-here (λ x e. done _))
+  item_read zero = done _
+  item_read (suc m) = test (bit_lsb0 im c.item) (λ u. done _) (λ u. chain at_item _ value_here (λ x e. done _))
 
-  pub plan-stepped : Listed ls (plan_step plan images c)
+  pub plan_stepped : Listed ls (plan_step plan images c)
   unfolding plan_step plan_slots
-  plan-stepped =
+  plan_stepped =
       test (ltb (item_count plan) c.item) (λ u. stop fourteen)
       (λ u. test (ltb (length im) (bytes_for (item_count plan))) (λ u. stop none)
       (λ u. test (ltb (length im) c.offset) (λ u. stop past)
-      (λ u. chain (step_over (plan_slots plan im c.item) im c.offset) _ (item-read (item_count plan - c.item)) (λ t e. done _))))
+      (λ u. chain (step_over (plan_slots plan im c.item) im c.offset) _ (item_read (item_count plan - c.item)) (λ t e. done _))))
 
 -- ---- a run: a refusal is told only before any value, so it is one of the first step
 abbrev StopListed : List Line → RowRan → Type 1
@@ -108,10 +108,10 @@ run_read plan images c buf eight h =
 module _ {ls : List Line} (plan nulls : List ℕ) (c : ItemCursor) (lent : List ℕ) (v : Value) (buf : List ℕ) (twelve : OneOf ls (why 12 0))
     (fourteen : OneOf ls (why 14 c.item)) (eleven : OneOf ls (why 11 (item_at plan c.item).column))
     (thirteen : OneOf ls (why 13 (item_at plan c.item).column)) (eight : OneOf ls (why 8 0)) where
-  item-over : (m : ℕ) → Listed ls (put_over (slots (items_from m plan c.item) c.item nulls) (cursor c.item c.offset) lent v buf)
+  item_over : (m : ℕ) → Listed ls (put_over (slots (items_from m plan c.item) c.item nulls) (cursor c.item c.offset) lent v buf)
   unfolding items_from slots put_over slot_bytes item_at
-  item-over zero = stop fourteen
-  item-over (suc m) =
+  item_over zero = stop fourteen
+  item_over (suc m) =
       chain (slot_bytes (record { present = item_at plan c.item; null = bit_lsb0 nulls c.item }) lent v) _
       (test (is_null (datum_of lent v)) (λ u. test (bit_lsb0 nulls c.item) (λ u. done _) (λ u. stop thirteen))
       (λ u. test (bit_lsb0 nulls c.item) (λ u. stop thirteen)
@@ -124,5 +124,5 @@ module _ {ls : List Line} (plan nulls : List ℕ) (c : ItemCursor) (lent : List 
   item_put =
       test (eqb (length nulls) (bytes_for (item_count plan)))
       (λ u. chain (put_over (plan_slots plan nulls c.item) (cursor c.item c.offset) lent v buf) _
-      (item-over (item_count plan - c.item)) (λ x e. done _))
+      (item_over (item_count plan - c.item)) (λ x e. done _))
       (λ u. stop twelve)

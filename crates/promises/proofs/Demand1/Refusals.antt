@@ -27,9 +27,9 @@ use Rattle.promises.proofs.Demand1.Maps.{event_read, event_written, event_sized,
 use Rattle.promises.proofs.Demand1.Maps.{field_cut, field_judged, checked, event_refused, map_refused, string_found, names_found}
 use Rattle.promises.proofs.RowsEvents.{rows_read, image_met_lem}
 use Rattle.promises.proofs.Demand1.Rows.{record_read, head_read, first_read, image_stepped, walk_ended, image_started, image_put}
-use Rattle.promises.proofs.Demand1.Rows.{past_refused, null_refused, room-told}
+use Rattle.promises.proofs.Demand1.Rows.{past_refused, null_refused, room_told}
 use Rattle.promises.proofs.Demand1.Arrivals.{blocks_begun, block_given_lem, blocks_ended}
-use Rattle.promises.proofs.Demand1.Plans.{plan_made, plan-stepped, run_read, item_put}
+use Rattle.promises.proofs.Demand1.Plans.{plan_made, plan_stepped, run_read, item_put}
 
 -- a refusal that is listed names a part, or has one of the numbers that do not
 parted : (ls : List Line) (w : Refusal) → in_table ls ≡ true → OneOf ls w → Parted w
@@ -168,7 +168,7 @@ refusals = record {
       (λ p x. fourth (such x)) (λ p x. fifth (such x)) (λ p x. sixth (such x)));
   read_head = λ r p. only refl (head_read just (second just) r p);
   first_cursor_lem = λ r p. only refl (first_read just (second just) r p);
-  image_room = λ r p. only refl (room-told just (second just) r p);
+  image_room = λ r p. only refl (room_told just (second just) r p);
   step_image = λ r p im c.
       only refl (image_stepped r p im c just (second just) (third just) (fourth just) (fifth just) (λ j h. sixth (under h))
       (λ j h part l m. seventh (under_part h l m)));
@@ -189,11 +189,11 @@ refusals = record {
       (blocks_ended r p st carry just (second just) (third just) (fourth just) (fifth just) (λ j h. sixth (under h)));
   make_plan_lem = λ r p buf. only refl (plan_made r p buf just (second just) (third just));
   step_plan = λ plan images c.
-      only refl (plan-stepped plan images c just (second just) (third just) (fourth just) (fifth just) (λ part l m. sixth (just_part l m)));
+      only refl (plan_stepped plan images c just (second just) (third just) (fourth just) (fifth just) (λ part l m. sixth (just_part l m)));
   read_run_lem = λ plan images c buf.
       only refl
       (run_read plan images c buf just
-      (plan-stepped plan images (turned plan images c) (second just) (third just) (fourth just) (fifth just) (sixth just)
+      (plan_stepped plan images (turned plan images c) (second just) (third just) (fourth just) (fifth just) (sixth just)
       (λ part l m. seventh (just_part l m))));
   put_item = λ plan nulls c lent v buf.
       only refl (item_put plan nulls c lent v buf just (second just) (third just) (fourth just) (fifth just));

@@ -47,13 +47,13 @@ module _ {ls : List Line} (eleven : OneOf ls (why 11 0)) (twelve : OneOf ls (why
   unfolding first_cursor
   first_read = chain (head_of r p) _ head_read (λ h e. done _)
 
-  pub room-told : Listed ls (read_room r p)
+  pub room_told : Listed ls (read_room r p)
   unfolding read_room
-  room-told = chain (head_of r p) _ head_read (λ h e. done _)
+  room_told = chain (head_of r p) _ head_read (λ h e. done _)
 
-  nulls-read : (nulls : List ℕ) → Listed ls (head_nulls r p nulls)
+  nulls_read : (nulls : List ℕ) → Listed ls (head_nulls r p nulls)
   unfolding head_nulls
-  nulls-read nulls = chain (head_of r p) _ head_read (λ h e. test (eqb (length nulls) h.nulls) (λ u. done _) (λ u. stop twelve))
+  nulls_read nulls = chain (head_of r p) _ head_read (λ h e. test (eqb (length nulls) h.nulls) (λ u. done _) (λ u. stop twelve))
 
 -- ---- the columns of slots: those of the record, and there is such a column
 pub record Fine (r : List ℕ) (c : Present) : Type 0 where
@@ -151,7 +151,7 @@ pub image_started : {ls : List Line} (r p nulls buf : List ℕ) → OneOf ls (wh
     → Listed ls (start_image r p nulls buf)
 unfolding start_image
 image_started r p nulls buf eleven twelve eight =
-    chain (head_nulls r p nulls) _ (nulls-read eleven twelve r p nulls) (λ h e.
+    chain (head_nulls r p nulls) _ (nulls_read eleven twelve r p nulls) (λ h e.
     chain (store (filled h.present nulls) buf 0) _ (room buf 0 (filled h.present nulls) eight) (λ x f. done _))
 
 put_over_lem : {ls : List Line} (r : List ℕ) (c : Cursor) → OneOf ls (why 14 c.column) → ((j : ℕ) → j < count_of r → OneOf ls (why 13 j))
@@ -174,7 +174,7 @@ pub image_put : {ls : List Line} (r p nulls : List ℕ) (c : Cursor) (lent : Lis
     → Listed ls (put_from r p nulls c lent v buf)
 unfolding put_from
 image_put r p nulls c lent v buf eleven twelve fourteen thirteen eight =
-    chain (head_nulls r p nulls) _ (nulls-read eleven twelve r p nulls) (λ h e.
+    chain (head_nulls r p nulls) _ (nulls_read eleven twelve r p nulls) (λ h e.
     let t = head_tested r p (nulls_tested r p nulls e).0 in
     test (ltb h.columns c.column) (λ u. stop fourteen)
     (λ u.

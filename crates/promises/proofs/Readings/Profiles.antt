@@ -136,49 +136,49 @@ char_bytes m0 h = same_so _ _ (below (λ (m : ℕ). same (eqb (or30 m) 254) (is_
 
 -- what is taken stands in the table
 module _ (k m0 m1 : ℕ) (u : Bool) (h : k < 256) (h₀ : m0 < 256) (h₁ : m1 < 256) (d : k ≡ 10 → ⊥) where
-  in-table : (f : Family) → family_of k ≡ f → is_taken (shape_in f m0 m1 u) ≡ true → Accepted k m0 m1
+  in_table : (f : Family) → family_of k ≡ f → is_taken (shape_in f m0 m1 u) ≡ true → Accepted k m0 m1
   unfolding shape_in is_taken family_of is_among
-  in-table (Integer w) e t = zeros k m0 m1 (in_line 0 nones k tt h d (ap line e)) (given_so _ _ t)
-  in-table Float e t =
+  in_table (Integer w) e t = zeros k m0 m1 (in_line 0 nones k tt h d (ap line e)) (given_so _ _ t)
+  in_table Float e t =
       let g = both_true _ _ (given_so (eqb m0 4 && eqb m1 0) _ t) in
       rw (the_one 1 4 k tt h (ap line e), eqb-true m0 4 g.0, eqb-true m1 0 g.1) float
-  in-table Double e t =
+  in_table Double e t =
       let g = both_true _ _ (given_so (eqb m0 8 && eqb m1 0) _ t) in
       rw (the_one 2 5 k tt h (ap line e), eqb-true m0 8 g.0, eqb-true m1 0 g.1) double
-  in-table Year e t = zeros k m0 m1 (in_line 0 nones k tt h d (ap line e)) (given_so _ _ t)
-  in-table Timestamp e t = zeros k m0 m1 (in_line 0 nones k tt h d (ap line e)) (given_so _ _ t)
-  in-table Date e t = zeros k m0 m1 (in_line 0 nones k tt h d (ap line e)) (given_so _ _ t)
-  in-table Time e t = zeros k m0 m1 (in_line 0 nones k tt h d (ap line e)) (given_so _ _ t)
-  in-table Datetime e t = zeros k m0 m1 (in_line 0 nones k tt h d (ap line e)) (given_so _ _ t)
-  in-table Timestamp2 e t = parts k m0 m1 (in_line 3 fractions k tt h d (ap line e)) (given_so _ _ t)
-  in-table Datetime2 e t = parts k m0 m1 (in_line 3 fractions k tt h d (ap line e)) (given_so _ _ t)
-  in-table Time2 e t = parts k m0 m1 (in_line 3 fractions k tt h d (ap line e)) (given_so _ _ t)
-  in-table Varchar e t = text k m0 m1 (in_line 6 (15 ∷ 253 ∷ []) k tt h d (ap line e))
-  in-table Char e t =
+  in_table Year e t = zeros k m0 m1 (in_line 0 nones k tt h d (ap line e)) (given_so _ _ t)
+  in_table Timestamp e t = zeros k m0 m1 (in_line 0 nones k tt h d (ap line e)) (given_so _ _ t)
+  in_table Date e t = zeros k m0 m1 (in_line 0 nones k tt h d (ap line e)) (given_so _ _ t)
+  in_table Time e t = zeros k m0 m1 (in_line 0 nones k tt h d (ap line e)) (given_so _ _ t)
+  in_table Datetime e t = zeros k m0 m1 (in_line 0 nones k tt h d (ap line e)) (given_so _ _ t)
+  in_table Timestamp2 e t = parts k m0 m1 (in_line 3 fractions k tt h d (ap line e)) (given_so _ _ t)
+  in_table Datetime2 e t = parts k m0 m1 (in_line 3 fractions k tt h d (ap line e)) (given_so _ _ t)
+  in_table Time2 e t = parts k m0 m1 (in_line 3 fractions k tt h d (ap line e)) (given_so _ _ t)
+  in_table Varchar e t = text k m0 m1 (in_line 6 (15 ∷ 253 ∷ []) k tt h d (ap line e))
+  in_table Char e t =
       rw (the_one 11 254 k tt h (ap line e)) (char m0 m1 (sym (char_bytes m0 h₀) ∙ given_so (eqb (or30 m0) 254) _ t))
-  in-table Blob e t =
+  in_table Blob e t =
       let g = both_true _ _ (given_so (leb 1 m0 && (leb m0 4 && eqb m1 0)) _ t) in
       let f = both_true _ _ g.1 in
       rw (eqb-true m1 0 f.1) (blob k m0 (in_line 4 blobs k tt h d (ap line e)) (leb-true 1 m0 g.0) (leb-true m0 4 f.0))
-  in-table Json e t =
+  in_table Json e t =
       let g = both_true _ _ (given_so (eqb m0 4 && eqb m1 0) _ t) in
       rw (the_one 5 245 k tt h (ap line e), eqb-true m0 4 g.0, eqb-true m1 0 g.1) json
-  in-table Bit e t =
+  in_table Bit e t =
       let g = both_true _ _ (given_so (leb m0 7 && (leb 1 (8 * m1 + m0) && leb (8 * m1 + m0) 64)) _ t) in
       let f = both_true _ _ g.1 in
       rw (the_one 7 16 k tt h (ap line e)) (bit m0 m1 (leb-true m0 7 g.0) (leb-true 1 _ f.0) (leb-true _ 64 f.1))
-  in-table Decimal e t =
+  in_table Decimal e t =
       let g = both_true _ _ (given_so (leb 1 m0 && (leb m0 65 && (leb m1 30 && leb m1 m0))) _ t) in
       let f = both_true _ _ g.1 in
       let i = both_true _ _ f.1 in
       rw (the_one 8 246 k tt h (ap line e))
       (decimal m0 m1 (leb-true 1 m0 g.0) (leb-true m0 65 f.0) (leb-true m1 30 i.0) (leb-true m1 m0 i.1))
-  in-table Enum e t =
+  in_table Enum e t =
       let g = both_true _ _ (given_so (leb 1 m1 && leb m1 2) _ t) in
       rw (the_one 9 247 k tt h (ap line e)) (enum m0 m1 (leb-true 1 m1 g.0) (leb-true m1 2 g.1))
-  in-table Set e t =
+  in_table Set e t =
       rw (the_one 10 248 k tt h (ap line e)) (set m0 m1 (sym (set_bytes m1 h₁) ∙ given_so (leb 1 m1 && (leb m1 4 || eqb m1 8)) _ t))
-  in-table Unknown e t = absurd (false≢true t)
+  in_table Unknown e t = absurd (false≢true t)
 
 -- a column of these bytes
 abbrev column_with_lem : ℕ → ℕ → ℕ → Bool → Column
@@ -189,7 +189,7 @@ unfolding shape_of is_taken
 taken_in k m0 m1 u h h₀ h₁ t =
     whether (eqb k 10)
     (λ d. absurd (false≢true (rw d at t)))
-    (λ d. in-table k m0 m1 u h h₀ h₁ (eqb-false k 10 d) (family_of k) refl
+    (λ d. in_table k m0 m1 u h h₀ h₁ (eqb-false k 10 d) (family_of k) refl
     (ap (λ (x : Bool). is_taken (cond x (NotTaken 4) (shape_in (family_of k) m0 m1 u))) (sym d) ∙ t))
 
 -- and what stands in the table is taken: both ways of flags, computed for each type of a line
@@ -268,9 +268,9 @@ abbrev entry_with_lem : ℕ → ℕ → ℕ → ℕ → ℕ → Entry
 entry_with_lem k f m0 m1 c = record { real = k; flags = f; m0 = m0; m1 = m1; charset = c }
 
 module _ (k f m0 m1 c : ℕ) (h : k < 256) (h₀ : m0 < 256) (h₁ : m1 < 256) where
-  column-so : entry_holds (entry_with_lem k f m0 m1 c) ≡ true → ValidColumn k f m0 m1 c
+  column_so : entry_holds (entry_with_lem k f m0 m1 c) ≡ true → ValidColumn k f m0 m1 c
   unfolding entry_holds flags_hold charset_holds
-  column-so t =
+  column_so t =
       let e = entry_with_lem k f m0 m1 c in
       let a = both_true (is_taken (shape_of (column_of e))) (flags_hold e && charset_holds e) t in
       let b = both_true (flags_hold e) (charset_holds e) a.1 in
@@ -284,9 +284,9 @@ module _ (k f m0 m1 c : ℕ) (h : k < 256) (h₀ : m0 < 256) (h₁ : m1 < 256) w
         no_charset = λ e. charset_so (is_character k) (is_enum_or_set k) c b.1 (charset_is k h ∙ e);
       }
 
-  so-column : ValidColumn k f m0 m1 c → entry_holds (entry_with_lem k f m0 m1 c) ≡ true
+  so_column : ValidColumn k f m0 m1 c → entry_holds (entry_with_lem k f m0 m1 c) ≡ true
   unfolding entry_holds flags_hold charset_holds
-  so-column v =
+  so_column v =
       let t = taken_of k m0 m1 (unsigned_flag f) h h₀ h₁ v.metadata in
       let g = so_flags (is_numeric (family_of k)) f v.unsigned (λ e. numeric_is k h ∙ v.known e) in
       let x = so_charset (is_character k) (is_enum_or_set k) c (λ e. v.no_charset (sym (charset_is k h) ∙ e)) in
@@ -340,7 +340,7 @@ valid_so r h v =
           (subst (λ (k : ℕ). KindOf k (count_of r)) (sym t.kind ∙ two_from r 2) (kind_so (count_of r) t.few));
       whole = t.whole ∙ ap entry_at n;
       columns = λ j l.
-          column-so _ _ _ _ _ (h (6 + 6 * j)) (h (8 + 6 * j)) (h (9 + 6 * j))
+          column_so _ _ _ _ _ (h (6 + 6 * j)) (h (8 + 6 * j)) (h (9 + 6 * j))
           (subst (λ (x : Entry). entry_holds x ≡ true) (entry_is r j) (valid_entry r j v (omega (arith, n, l))));
     }
 
@@ -364,7 +364,7 @@ so_valid r h v =
     let a = all_hold (count_of r) r 0 (λ i g.
     let z : 0 + i ≡ i = omega arith in
     rw z (subst (λ (e : Entry). entry_holds e ≡ true) (sym (entry_is r i))
-    (so-column _ _ _ _ _ (h (6 + 6 * i)) (h (8 + 6 * i)) (h (9 + 6 * i)) (v.columns i (omega (arith, n, g)))))) in
+    (so_column _ _ _ _ _ (h (6 + 6 * i)) (h (8 + 6 * i)) (h (9 + 6 * i)) (v.columns i (omega (arith, n, g)))))) in
     rw (le-leb 6 (length r) (omega arith), eq-eqb _ _ (two r ∙ v.said), eq-eqb _ _ k, le-leb _ _ m, eq-eqb _ _ l, a)
 
 -- ---- the check's table

@@ -5,15 +5,15 @@ use native.Mathlib.Omega.{arith}
 use Rattle.wire.specs.Outcome.{refused}
 use Rattle.record.specs.Entries.{column_of}
 use Rattle.image.proofs.PutLaws.Sorts.{null_anywhere}
-use Rattle.image.proofs.StepLaws.Steps.{column-below}
-use Rattle.image.proofs.PutLaws.Puts.{put-end, put-unmarked, put-marked, put-null-full, put-null-goes, put-done, put-bad}
+use Rattle.image.proofs.StepLaws.Steps.{column_below}
+use Rattle.image.proofs.PutLaws.Puts.{put_end, put_unmarked, put_marked, put_null_full, put_null_goes, put_done, put_bad}
 use Rattle.image.proofs.PutLaws.Puts.{put_refused, put_next}
 use Rattle.image.proofs.put.put_inner.Goals as goal
 
 pub returns-then-column-columns : goal.returns-then-column-columns
 returns-then-column-columns c = let a = c.args in
     let p = put_refused a.buf.now
-    (put-end a.nulls.now a.lent.now a.buf.now a.value
+    (put_end a.nulls.now a.lent.now a.buf.now a.value
     c.requires c.first_set-column.ensures
     c.if-column-columns.true ∙ ap refused (sym c.refuse.ensures)) in record { result_value = p.0; buf_after = p.1 }
 
@@ -21,7 +21,7 @@ pub overflow_add-behind : goal.overflow_add-behind
 overflow_add-behind c =
     omega (
       arith,
-      column-below c.requires c.first_set-column.ensures
+      column_below c.requires c.first_set-column.ensures
           c.if-column-columns.false,
       c.requires.few,
     )
@@ -31,7 +31,7 @@ returns-then-not-is_marked c = let a = c.args in
     let i =
     null_anywhere a.lent.now [] a.value ∙ sym c.is_null.ensures ∙ c.if-is_null.true in
     let p = put_refused a.buf.now
-    (put-unmarked a.nulls.now a.lent.now a.buf.now a.value
+    (put_unmarked a.nulls.now a.lent.now a.buf.now a.value
     c.requires
     c.first_set-column.ensures c.if-column-columns.false i
     (sym c.bit_lsb0-is_marked.ensures ∙ c.if-not-is_marked.true)
@@ -43,7 +43,7 @@ returns-then-buf-offset c = let a = c.args in
     null_anywhere a.lent.now [] a.value ∙ sym c.is_null.ensures
     ∙ c.if-is_null.true in
     let p = put_refused a.buf.now
-    (put-null-full a.nulls.now a.lent.now a.buf.now a.value
+    (put_null_full a.nulls.now a.lent.now a.buf.now a.value
     c.requires
     c.first_set-column.ensures
     c.if-column-columns.false i
@@ -56,7 +56,7 @@ returns-then-is_null c = let a = c.args in
     let i =
     null_anywhere a.lent.now [] a.value ∙ sym c.is_null.ensures ∙ c.if-is_null.true in
     let p = put_next a.buf.now
-    (put-null-goes a.nulls.now a.lent.now a.buf.now a.value
+    (put_null_goes a.nulls.now a.lent.now a.buf.now a.value
     c.requires
     c.first_set-column.ensures c.if-column-columns.false i
     (sym c.bit_lsb0-is_marked.ensures ∙ c.if-not-is_marked.false) c.if-buf-offset.false) in record { result_value = p.0; buf_after = p.1 }
@@ -65,7 +65,7 @@ pub returns-then-is_marked : goal.returns-then-is_marked
 returns-then-is_marked c = let a = c.args in
     let i = null_anywhere a.lent.now [] a.value ∙ sym c.is_null.ensures ∙ c.if-is_null.false in
     let p = put_refused a.buf.now
-    (put-marked a.nulls.now a.lent.now a.buf.now a.value
+    (put_marked a.nulls.now a.lent.now a.buf.now a.value
     c.requires
     c.first_set-column.ensures c.if-column-columns.false i
     (sym c.bit_lsb0-is_marked.ensures ∙ c.if-is_marked.true)
@@ -82,7 +82,7 @@ returns-in-Done c =
     let g =
     c.column_of-stored.ensures
     ∙ ap column_of c.entry_in.ensures in
-    let p = put-done a.nulls.now a.lent.now a.buf.now a.value
+    let p = put_done a.nulls.now a.lent.now a.buf.now a.value
     c.requires
     c.first_set-column.ensures c.if-column-columns.false i
     (sym c.bit_lsb0-is_marked.ensures
@@ -100,7 +100,7 @@ returns-in-Refused c =
     let g =
     c.column_of-stored.ensures
     ∙ ap column_of c.entry_in.ensures in
-    let p = put-bad a.nulls.now a.lent.now a.buf.now a.value
+    let p = put_bad a.nulls.now a.lent.now a.buf.now a.value
     c.requires
     c.first_set-column.ensures c.if-column-columns.false i
     (sym c.bit_lsb0-is_marked.ensures

@@ -3,7 +3,7 @@ use mathlib.Core.Path.{refl, sym, ap, ◌∙◌}
 use Rattle.wire.specs.Outcome.{refused}
 use Rattle.image.specs.Split.{head_told}
 use Rattle.image.specs.Puts.{start_image}
-use Rattle.image.proofs.PutLaws.Puts.{nulls-size, nulls-fit, start-full, start-done, put_refused}
+use Rattle.image.proofs.PutLaws.Puts.{nulls_size, nulls_fit, start_full, start_done, put_refused}
 use Rattle.image.proofs.put.start.Goals as goal
 
 pub returns-in-Refused : goal.returns-in-Refused
@@ -16,7 +16,7 @@ returns-then-buf-offset c = let a = c.args in
     sym c.read_head_nulls.ensures
     ∙ ap head_told c.in-Read.is in
     let p = put_refused a.buf.now
-    (start-full a.profile.now a.presence.now a.nulls.now a.buf.now q c.if-buf-offset.true
+    (start_full a.profile.now a.presence.now a.nulls.now a.buf.now q c.if-buf-offset.true
     ∙ ap refused (sym c.refuse.ensures)) in record { result_value = p.0; buf_after = p.1 }
 
 pub put_nulls-requires : goal.put_nulls-requires
@@ -24,13 +24,13 @@ put_nulls-requires c = let a = c.args in
     let q =
     sym c.read_head_nulls.ensures
     ∙ ap head_told c.in-Read.is in (
-      nulls-size a.profile.now a.presence.now a.nulls.now a.buf.now q,
-      nulls-fit a.profile.now a.presence.now a.nulls.now a.buf.now q c.if-buf-offset.false,
+      nulls_size a.profile.now a.presence.now a.nulls.now a.buf.now q,
+      nulls_fit a.profile.now a.presence.now a.nulls.now a.buf.now q c.if-buf-offset.false,
     )
 
 pub returns : goal.returns
 returns c = let a = c.args in
-    let p = start-done a.profile.now a.presence.now a.nulls.now a.buf.now
+    let p = start_done a.profile.now a.presence.now a.nulls.now a.buf.now
     (sym c.read_head_nulls.ensures
     ∙ ap head_told c.in-Read.is) _ c.put_nulls.ensures
     c.if-buf-offset.false in record { result_value = p.0; buf_after = p.1 }

@@ -6,7 +6,7 @@ use lib.ListN.{length}
 use Rattle.wire.proofs.Stores.{room, no_room}
 use Rattle.temporal.specs.declared.storage.Storage.TheVariants.{Datetime2}
 use Rattle.temporal.specs.Inner.Ranged.{ranged_signed}
-use Rattle.temporal.proofs.DirectLaws.{big-told, big-short, datetime2_big, datetime2_judged}
+use Rattle.temporal.proofs.DirectLaws.{big_told, big_short, datetime2_big, datetime2_judged}
 use Rattle.temporal.proofs.direct.read_datetime2.Goals as goal
 
 pub returns-then-not-has_room : goal.returns-then-not-has_room
@@ -14,7 +14,7 @@ returns-then-not-has_room c =
     let a = c.args in
     let l = no_room _ _ _ _ c.has_room.ensures (c.if-not-has_room.true) in
     let b = datetime2_big a.m0 _ c.fraction_bytes-w.ensures in
-    c.short.ensures ∙ sym (big-short (Datetime2 a.m0) a.place a.s.now a.at 5 _ b l)
+    c.short.ensures ∙ sym (big_short (Datetime2 a.m0) a.place a.s.now a.at 5 _ b l)
 
 pub overflow_add-middle : goal.overflow_add-middle
 overflow_add-middle c =
@@ -40,5 +40,5 @@ returns c =
     ∙ ap ranged_signed c.my_datetime_packed_from_binary.ensures
     ∙ datetime2_judged a.m0 _ c.fraction_bytes-w.ensures _ _ in
     c.answer.ensures
-    ∙ big-told (Datetime2 a.m0) a.place a.s.now a.at 5 _ (datetime2_big a.m0 _ c.fraction_bytes-w.ensures) _ _ l
+    ∙ big_told (Datetime2 a.m0) a.place a.s.now a.at 5 _ (datetime2_big a.m0 _ c.fraction_bytes-w.ensures) _ _ l
     (c.read_be-whole.ensures.value, c.read_be-whole.ensures.upper_bound) c.units_at-units.ensures _ j

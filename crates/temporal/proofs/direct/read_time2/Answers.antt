@@ -5,7 +5,7 @@ use Prim.Native.Nat.{◌+◌, ◌≤◌}
 use lib.ListN.{length}
 use Rattle.wire.proofs.Stores.{room, no_room}
 use Rattle.temporal.specs.declared.storage.Storage.TheVariants.{Time2}
-use Rattle.temporal.proofs.DirectLaws.{big-told, big-short, time2_big, time2_judged}
+use Rattle.temporal.proofs.DirectLaws.{big_told, big_short, time2_big, time2_judged}
 use Rattle.temporal.proofs.direct.read_time2.Goals as goal
 
 pub returns-then-not-has_room : goal.returns-then-not-has_room
@@ -13,7 +13,7 @@ returns-then-not-has_room c =
     let a = c.args in
     let l = no_room _ _ _ _ c.has_room.ensures (c.if-not-has_room.true) in
     let b = time2_big a.m0 _ c.fraction_bytes-w.ensures in
-    c.short.ensures ∙ sym (big-short (Time2 a.m0) a.place a.s.now a.at 3 _ b l)
+    c.short.ensures ∙ sym (big_short (Time2 a.m0) a.place a.s.now a.at 3 _ b l)
 
 pub overflow_add-middle : goal.overflow_add-middle
 overflow_add-middle c =
@@ -38,5 +38,5 @@ returns c =
     c.time_from_packed.ensures
     ∙ time2_judged a.m0 _ c.fraction_bytes-w.ensures _ _ _ c.my_time_packed_from_binary.ensures in
     c.answer.ensures
-    ∙ big-told (Time2 a.m0) a.place a.s.now a.at 3 _ (time2_big a.m0 _ c.fraction_bytes-w.ensures) _ _ l
+    ∙ big_told (Time2 a.m0) a.place a.s.now a.at 3 _ (time2_big a.m0 _ c.fraction_bytes-w.ensures) _ _ l
     (c.read_be-whole.ensures.value, c.read_be-whole.ensures.upper_bound) c.units_at-units.ensures _ j

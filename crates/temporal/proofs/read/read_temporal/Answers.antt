@@ -7,7 +7,7 @@ use lib.ListN.{length}
 use Rattle.wire.specs.Outcome.{refused}
 use Rattle.wire.proofs.Stores.{room, no_room}
 use Rattle.temporal.specs.Reading.{temporal_size}
-use Rattle.temporal.proofs.Steps.{read-in, read_out, read_short}
+use Rattle.temporal.proofs.Steps.{read_in, read_out, read_short}
 use Rattle.temporal.proofs.read.read_temporal.Goals as goal
 
 pub returns-then-not-has_room : goal.returns-then-not-has_room
@@ -36,7 +36,7 @@ returns-in-In c = let a = c.args in
     (c.if-not-has_room.false) in
     let r : a.at + temporal_size a.storage ≤ length a.s.now = rw (← c.temporal_size-size.ensures) l in
     let j = sym c.judge.ensures ∙ c.in-In.is in
-    rw c.temporal_size-size.ensures (sym (read-in a.storage a.place a.s.now a.at _ _ r c.whole_at-whole.ensures.0
+    rw c.temporal_size-size.ensures (sym (read_in a.storage a.place a.s.now a.at _ _ r c.whole_at-whole.ensures.0
     c.fraction_at-fraction.ensures.0 _ j))
 
 pub returns-in-Out : goal.returns-in-Out

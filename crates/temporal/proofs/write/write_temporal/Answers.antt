@@ -2,13 +2,13 @@
 -- nothing.
 use mathlib.Core.Path.{refl, sym, ap, ◌∙◌}
 use Rattle.wire.specs.Outcome.{refused}
-use Rattle.temporal.proofs.Steps.{write-big, write-little, write-none}
+use Rattle.temporal.proofs.Steps.{write_big, write_little, write_none}
 use Rattle.temporal.proofs.write.write_temporal.Goals as goal
 
 pub returns-then-not-in_domain : goal.returns-then-not-in_domain
 returns-then-not-in_domain c = let a = c.args in
     let d = sym c.in_domain.ensures ∙ c.if-not-in_domain.true in
-    let z = write-none a.storage a.place a.buf.now a.at a.temporal d in
+    let z = write_none a.storage a.place a.buf.now a.at a.temporal d in
     rw z (record { result_value = ap refused c.refuse.ensures; buf_after = refl })
 
 pub whole_of-whole-requires : goal.whole_of-whole-requires
@@ -28,7 +28,7 @@ returns-then-is_big c = let a = c.args in
     let b =
     sym c.is_big.ensures
     ∙ c.if-is_big.true in
-    let p = write-big a.storage a.place a.buf.now a.at a.temporal c.write_two.result _ _ _ _ _ d b
+    let p = write_big a.storage a.place a.buf.now a.at a.temporal c.write_two.result _ _ _ _ _ d b
     c.whole_bytes-k.ensures.0
     c.fraction_size-w.ensures.0
     c.whole_of-whole.ensures
@@ -41,5 +41,5 @@ returns c = let a = c.args in
     sym c.in_domain.ensures
     ∙ c.if-not-in_domain.false in
     let b = sym c.is_big.ensures ∙ c.if-is_big.false in
-    let p = write-little a.storage a.place a.buf.now a.at a.temporal c.write_le.result _ _ _ d b c.whole_bytes-k.ensures.0 c.whole_bytes-k.ensures.1
+    let p = write_little a.storage a.place a.buf.now a.at a.temporal c.write_le.result _ _ _ d b c.whole_bytes-k.ensures.0 c.whole_bytes-k.ensures.1
     c.whole_of-whole.ensures (c.write_le.ensures.result_value, c.write_le.ensures.buf_after) in record { result_value = p.0; buf_after = p.1 }

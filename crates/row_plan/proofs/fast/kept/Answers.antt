@@ -1,0 +1,17 @@
+-- `row_plan::fast::kept` meets its contract. Assumes nothing.
+use native.Mathlib.Omega.{arith}
+use mathlib.Core.Path.{◌≡◌}
+use Rattle.row_plan.proofs.fast.kept.Goals as goal
+
+pub returns-in-0 : goal.returns-in-0
+returns-in-0 c = rw c.in-0.is (omega arith)
+
+pub returns-in-1 : goal.returns-in-1
+returns-in-1 c = rw c.in-1.is (omega arith)
+
+pub returns-in-2 : goal.returns-in-2
+returns-in-2 c = rw c.in-2.is (omega arith)
+
+pub returns-in_default : goal.returns-in_default
+returns-in_default c = let e : c.args.w ≡ 3 = omega (arith, c.in_default.in_default-own.rest) in
+    rw e (omega arith)

@@ -1,0 +1,56 @@
+use Prim.Native.Nat.{ℕ}
+use mathlib.Core.Path.{sym, ap, ◌∙◌}
+use mathlib.Core.List.{List}
+use native.Mathlib.Omega.{arith}
+use Rattle.wire.specs.Outcome.{Outcome, refused}
+use Rattle.wire.specs.Stored.{answer_of, left_of}
+use Rattle.image.specs.Split.{head_told}
+use Rattle.row_plan.proofs.Makes.{make_refused, columns_are, items_are, few_items, make_full, make_done}
+use Rattle.row_plan.proofs.make.make_plan.Goals as goal
+
+-- src/make.rt:63:33
+pub returns-in-Refused : goal.returns-in-Refused
+returns-in-Refused c =
+    let a = c.args in
+    let m = make_refused a.profile.now a.presence.now a.plan.now _ (sym c.read_head.ensures
+    ∙ ap head_told c.in-Refused.is) in
+    record { result_value = sym (ap answer_of m); plan_after = sym (ap (λ (o : Outcome ((ℕ × ℕ) × List ℕ)). left_of o a.plan.now) m) }
+
+-- src/make.rt:66:15
+pub overflow_mul-len : goal.overflow_mul-len
+overflow_mul-len c =
+    let a = c.args in
+    let e = sym c.read_head.ensures ∙ ap head_told c.in-Read.is in
+    omega (arith, few_items a.profile.now a.presence.now _ e)
+
+-- src/make.rt:68:9
+pub returns-then-plan-len : goal.returns-then-plan-len
+returns-then-plan-len c =
+    let a = c.args in
+    let m = make_full a.profile.now a.presence.now a.plan.now _ (sym
+    c.read_head.ensures
+    ∙ ap head_told c.in-Read.is) (omega arith) in
+    record { result_value = ap refused c.refuse.ensures ∙ sym (ap answer_of m); plan_after = sym (ap (λ (o : Outcome ((ℕ × ℕ) × List ℕ)). left_of o a.plan.now) m) }
+
+-- src/make.rt:70:5
+pub put_plan-requires : goal.put_plan-requires
+put_plan-requires c =
+    let a = c.args in
+    let h = sym c.read_head.ensures
+    ∙ ap head_told c.in-Read.is in (
+      columns_are a.profile.now a.presence.now a.plan.now _ h,
+      omega (
+        arith,
+        items_are a.profile.now a.presence.now
+            a.plan.now _ h,
+      ),
+    )
+
+-- src/make.rt:56:1
+pub returns : goal.returns
+returns c =
+    let a = c.args in
+    let m = make_done a.profile.now a.presence.now a.plan.now _ (sym
+    c.read_head.ensures
+    ∙ ap head_told c.in-Read.is) (omega arith) in
+    record { result_value = sym (ap answer_of m); plan_after = c.put_plan.ensures ∙ sym (ap (λ (o : Outcome ((ℕ × ℕ) × List ℕ)). left_of o a.plan.now) m) }

@@ -1,0 +1,136 @@
+use Prim.Native.Nat.{ℕ, ◌-◌}
+use mathlib.Core.Path.{refl, sym, ap, subst, ◌∙◌}
+use mathlib.Core.List.{List}
+use native.Mathlib.Omega.{arith}
+use Rattle.wire.specs.Outcome.{Outcome, refused}
+use Rattle.wire.specs.Stored.{answer_of, left_of}
+use Rattle.row_plan.specs.declared.row.RowCursor.{RowCursor}
+use Rattle.row_plan.specs.Inner.Paused.{gate_told, paused_run, Further}
+use Rattle.row_plan.proofs.ReadLaws.{read_begin, read_full, read_over, read_refused, read_end, read_stands, read_enter}
+use Rattle.row_plan.proofs.ReadLaws.{told_ran, told_stopped, left_stopped, told_full}
+use Rattle.row_plan.proofs.row.RowCursor.read.Goals as goal
+
+-- src/run.rt:218:13
+pub returns-then-out-lt-VALUE_NUMBERS : goal.returns-then-out-lt-VALUE_NUMBERS
+returns-then-out-lt-VALUE_NUMBERS c =
+    let a = c.args in
+    let m = told_full a.plan.now a.images.now a.self a.out.now c.if-out-lt-VALUE_NUMBERS.true in
+    record { result_value = ap refused c.refuse.ensures ∙ sym (ap answer_of m); out_after = sym (ap (λ (x : Outcome ((ℕ × RowCursor) × List ℕ)). left_of x a.out.now) m) }
+
+-- src/run.rt:224:9
+pub loop-values-init : goal.loop-values-init
+loop-values-init c = let a = c.args in read_begin a.plan.now a.images.now _ a.out.now a.self
+
+-- src/run.rt:227:17
+pub shape_of-out-then-is_over : goal.shape_of-out-then-is_over
+shape_of-out-then-is_over c = c.loop-values.invariant.same
+
+-- src/run.rt:227:17
+pub returns-then-is_over : goal.returns-then-is_over
+returns-then-is_over c =
+    let a = c.args in
+    let o = sym c.is_over.ensures ∙ c.if-is_over.true in
+    let g = read_over a.plan.now a.images.now _ a.out.now a.self c.loop-values.out c.loop-values.at c.loop-values.values c.loop-values.invariant
+    c.loop-values-test.true c.turned-here.ensures o in
+    let m = told_ran a.plan.now a.images.now a.self a.out.now _ refl (omega arith) _ _ _ g in
+    record { result_value = sym (ap answer_of m); out_after = sym (ap (λ (x : Outcome ((ℕ × RowCursor) × List ℕ)). left_of x a.out.now) m) }
+
+-- src/run.rt:231:39
+pub shape_of-out-in-Refused : goal.shape_of-out-in-Refused
+shape_of-out-in-Refused c = c.loop-values.invariant.same
+
+-- src/run.rt:231:39
+pub returns-in-Refused : goal.returns-in-Refused
+returns-in-Refused c =
+    let a = c.args in
+    let o = sym c.is_over.ensures
+    ∙ c.if-is_over.false in
+    let t = sym c.test_image.ensures ∙ ap gate_told c.in-Refused.is in
+    let g = read_refused a.plan.now a.images.now _ a.out.now a.self c.loop-values.out c.loop-values.at c.loop-values.values c.loop-values.invariant
+    c.loop-values-test.true
+    c.turned-here.ensures o _ t in record { result_value = c.stopped.ensures ∙ told_stopped a.plan.now a.images.now a.self a.out.now _ refl
+          (omega arith) _ _ _ _ g; out_after = left_stopped a.plan.now a.images.now a.self a.out.now _ refl (omega arith) _ _ _ _ g }
+
+-- src/run.rt:234:17
+pub shape_of-out-then-here-items : goal.shape_of-out-then-here-items
+shape_of-out-then-here-items c = c.loop-values.invariant.same
+
+-- src/run.rt:234:17
+pub returns-then-here-items : goal.returns-then-here-items
+returns-then-here-items c =
+    let a = c.args in
+    let o = sym c.is_over.ensures
+    ∙ c.if-is_over.false in
+    let t = sym c.test_image.ensures ∙ ap gate_told c.in-Open.is in
+    let g = read_end a.plan.now a.images.now _ a.out.now a.self c.loop-values.out c.loop-values.at c.loop-values.values c.loop-values.invariant
+    c.loop-values-test.true
+    c.turned-here.ensures o t c.if-here-items.true in
+    let m = told_ran a.plan.now a.images.now a.self a.out.now _ refl (omega arith) _ _ _ g in
+    record { result_value = sym (ap answer_of m); out_after = sym (ap (λ (x : Outcome ((ℕ × RowCursor) × List ℕ)). left_of x a.out.now) m) }
+
+-- src/run.rt:236:19
+pub run_image-requires : goal.run_image-requires
+run_image-requires c =
+    let a = c.args
+    in
+    let o = sym c.is_over.ensures
+    ∙ c.if-is_over.false in
+    let t = sym c.test_image.ensures
+    ∙ ap gate_told c.in-Open.is in record { stands = read_stands a.plan.now a.images.now _ a.out.now a.self c.loop-values.out c.loop-values.at c.loop-values.values c.loop-values.invariant
+          c.loop-values-test.true
+          c.turned-here.ensures o t _ refl c.if-here-items.false; had_lt_room = (c.loop-values-test.true, omega (arith, c.loop-values.invariant.same)) }
+
+-- src/run.rt:224:9
+pub loop-values-smaller : goal.loop-values-smaller
+loop-values-smaller c =
+    let f = subst (Further _ _) c.in-On.is c.run_image.ensures.further in
+    omega (arith, f.0, f.1)
+
+-- src/run.rt:224:9
+pub loop-values-preserved : goal.loop-values-preserved
+loop-values-preserved c =
+    let a = c.args in
+    let o = sym c.is_over.ensures ∙ c.if-is_over.false in
+    let t = sym c.test_image.ensures
+    ∙ ap gate_told c.in-Open.is in
+    let f = subst (Further _ _) c.in-On.is c.run_image.ensures.further in
+    let p = sym (ap (paused_run _ a.plan.now a.images.now _) c.in-On.is)
+    ∙ c.run_image.ensures.result_after in
+    record {
+      most = f.1;
+      same = c.run_image.auto.out ∙ c.loop-values.invariant.same;
+      goes = p
+          ∙ read_enter a.plan.now a.images.now _ a.out.now a.self c.loop-values.out c.loop-values.at c.loop-values.values c.loop-values.invariant
+          c.loop-values-test.true c.turned-here.ensures o t c.if-here-items.false;
+    }
+
+-- src/run.rt:241:58
+pub shape_of-out-in-Stopped : goal.shape_of-out-in-Stopped
+shape_of-out-in-Stopped c = c.run_image.auto.out
+    ∙ c.loop-values.invariant.same
+
+-- src/run.rt:241:58
+pub returns-in-Stopped : goal.returns-in-Stopped
+returns-in-Stopped c =
+    let a = c.args in
+    let o = sym c.is_over.ensures ∙ c.if-is_over.false in
+    let t = sym c.test_image.ensures
+    ∙ ap gate_told c.in-Open.is in
+    let p = sym c.run_image.ensures.result_after
+    ∙ ap (paused_run _ a.plan.now a.images.now _) c.in-Stopped.is in
+    let g = sym (read_enter a.plan.now a.images.now _ a.out.now a.self c.loop-values.out c.loop-values.at c.loop-values.values c.loop-values.invariant
+    c.loop-values-test.true c.turned-here.ensures o t c.if-here-items.false) ∙ p in record { result_value = c.stopped-in-Stopped.ensures ∙ told_stopped a.plan.now a.images.now a.self a.out.now _ refl
+          (omega arith) _ _ _ _ g; out_after = left_stopped a.plan.now a.images.now a.self a.out.now _ refl (omega arith) _ _ _ _ g }
+
+-- src/run.rt:212:5
+pub shape_of-out : goal.shape_of-out
+shape_of-out c = c.loop-values.invariant.same
+
+-- src/run.rt:212:5
+pub returns : goal.returns
+returns c =
+    let a = c.args in
+    let g = read_full a.plan.now a.images.now _ a.out.now a.self c.loop-values.out c.loop-values.at c.loop-values.values c.loop-values.invariant
+    c.loop-values-test.false in
+    let m = told_ran a.plan.now a.images.now a.self a.out.now _ refl (omega arith) _ _ _ g in
+    record { result_value = sym (ap answer_of m); out_after = sym (ap (λ (x : Outcome ((ℕ × RowCursor) × List ℕ)). left_of x a.out.now) m) }

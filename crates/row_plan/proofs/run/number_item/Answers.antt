@@ -1,0 +1,20 @@
+use mathlib.Core.Path.{refl, sym, ◌∙◌}
+use Rattle.row_plan.specs.Runs.{moved_by, value_numbers}
+use Rattle.value_parts.specs.Parts.{sort_of, parts_of, padded}
+use Rattle.row_plan.proofs.RunLaws.{item_null, item_read}
+use Rattle.row_plan.proofs.run.number_item.Goals as goal
+
+-- src/run.rt:72:9
+pub returns-then-bit_lsb0 : goal.returns-then-bit_lsb0
+unfolding value_numbers moved_by sort_of parts_of padded
+returns-then-bit_lsb0 c =
+    let a = c.args in
+    rw c.one.ensures (sym (item_null a.plan.now a.image.now a.by a.item a.offset (sym
+    c.bit_lsb0.ensures ∙ c.if-bit_lsb0.true)))
+
+-- src/run.rt:67:1
+pub returns : goal.returns
+returns c =
+    let a = c.args in
+    c.number_op.ensures ∙ sym (item_read a.plan.now a.image.now a.by a.item a.offset _ _ (sym
+    c.bit_lsb0.ensures ∙ c.if-bit_lsb0.false) refl c.column_at.ensures)
