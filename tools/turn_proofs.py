@@ -14,6 +14,7 @@ import sys
 
 START = re.compile(r"^(?:(?:pub|abbrev|unfoldable|opaque)\s+)*([^\s(){}:]+)(?:\s*\{[^}]*\})?\s*:(?=\s)")
 RULESET = re.compile(r"^(?:pub\s+)?ruleset\s+(\S+)")
+NESTED = "--nested" in sys.argv
 PATH = re.compile(r"(?<![\w.'\-])([A-Za-z_][\w'\-₀₁₂₃]*)((?:\.[\w'\-₀₁₂₃]+)+|(?=[\s,()]|$))")
 
 
@@ -75,7 +76,7 @@ def labels():
                     if not clause and line.endswith("{"):
                         break
                 head = "\n".join(head)
-                kinds = {"lent": re.findall(r"(\w+): &mut \[", head)}
+                kinds = {"public": text[: m.start()].endswith("pub "), "lent": re.findall(r"(\w+): &mut \[", head)}
                 for k in ("requires", "ensures"):
                     names = re.findall(r"^\s+" + k + r"\*? (\w+) \{", head, re.M)
                     if names:
@@ -109,7 +110,7 @@ class Function:
         """The names of a function's clauses of a kind, by the module that it stands in."""
         words = callee.split("::")
         known = self.known.get((words[0], words[-1]), [])
-        here = [k for stem, k in known if stem == words[1 : 1 + len(stem)]] or ([k for _, k in known] if len(known) == 1 else [k for stem, k in known if stem == ["lib"]])
+        here = [k for stem, k in known if stem == words[1 : 1 + len(stem)]] or [k for _, k in known if k["public"]] or [k for _, k in known]
         return here[0].get(kind) if here else None
 
     def lent(self, callee):
@@ -325,7 +326,9 @@ def clauses(body, names, say):
         return before + "record { " + "; ".join(f"{n} = {x}" for n, x in zip(names, tuple_)) + " }"
     if tuple_ and len(tuple_) > len(names):
         say("more parts than clauses")
-    return before + f"let p = {end} in record {{ " + "; ".join(f"{n} = p.{i}" for i, n in enumerate(names)) + " }"
+    # the third clause came later, and stands in a pair with the second
+    at = ["0", "1.0", "1.1"] if NESTED and len(names) == 3 else [str(i) for i in range(len(names))]
+    return before + f"let p = {end} in record {{ " + "; ".join(f"{n} = p.{i}" for i, n in zip(at, names)) + " }"
 
 
 def invariant(fn, lines, k, say):
@@ -461,6 +464,7 @@ def turn(folder, fn, say):
 
 
 def main(argv):
+    argv = [a for a in argv if a != "--nested"]
     with open(argv[0], encoding="utf-8") as f:
         names = json.load(f)
     by, known = {}, labels()

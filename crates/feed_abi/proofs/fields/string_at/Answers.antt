@@ -1,0 +1,13 @@
+-- `feed_abi::fields::string_at` meets its contract. Assumes nothing.
+use mathlib.Core.Path.{sym, ap, ◌∙◌}
+use Rattle.table_map.specs.Lists.{string_told}
+use Rattle.feed_abi.proofs.fields.string_at.Goals as goal
+
+pub returns-in-Item : goal.returns-in-Item
+returns-in-Item c = rw (sym c.next.ensures ∙ ap string_told c.in-Item.is)
+
+pub returns-in-End : goal.returns-in-End
+returns-in-End c = rw (sym c.next.ensures ∙ ap string_told c.in-End.is)
+
+pub returns-in-Refused : goal.returns-in-Refused
+returns-in-Refused c = rw (sym c.next.ensures ∙ ap string_told c.in-Refused.is)
