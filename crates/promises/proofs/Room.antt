@@ -28,8 +28,8 @@ told r p v b = let u : Over r p = record { valid = v; bits = b } in rw (head_is 
 
 reached : (r p : List ℕ) → record_valid r ≡ true → length p ≡ bytes_for (count_of r) → Reached r p
 reached r p v b =
-    let ds = rooms-of.fullestRow (present r p) in
-    let given = (relied r v).every_row p ds b (rooms-of.fullest-row (present r p) (good_present r p v)) in
+    let ds = rooms-of.fullest_row (present r p) in
+    let given = (relied r v).every_row p ds b (rooms-of.fullest_row_lem (present r p) (good_present r p v)) in
     let nulls = given.0 in
     let gs = given.1 in
     let fit = given.2 in
@@ -59,7 +59,7 @@ pub rooms : Rooms
 rooms = record {
   told = told;
   no_more = rooms-of.no_more;
-  read_no_more = rooms-of.walked-most;
+  read_no_more = rooms-of.walked_most;
   reached = reached;
   never_for_room = rooms-of.never_for_room;
   most = room_small;

@@ -65,7 +65,7 @@ use Rattle.table_map.proofs.nullable_bits.Statement.{statement as of-nullable-bi
 use Rattle.table_map.proofs.optional_metadata.Statement.{statement as of-optional-metadata}
 use Rattle.table_map.proofs.read_event.Statement.{statement as of-read-event}
 use Rattle.table_map.proofs.table_name.Statement.{statement as of-table-name}
-use Rattle.table_map.proofs.cut_field_lem.Statement.{statement as of-cut-field}
+use Rattle.table_map.proofs.cut_field.Statement.{statement as of-cut-field}
 use Rattle.table_map.proofs.default_charset.Statement.{statement as of-default-charset}
 use Rattle.table_map.proofs.flag.Statement.{statement as of-flag}
 use Rattle.table_map.proofs.event_size.Statement.{statement as of-event-size}

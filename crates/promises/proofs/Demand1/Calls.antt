@@ -61,7 +61,7 @@ use Rattle.table_map.proofs.nullable_bits.Met.{met as of-nullable-bits}
 use Rattle.table_map.proofs.optional_metadata.Met.{met as of-optional-metadata}
 use Rattle.table_map.proofs.read_event.Met.{met as of-read-event}
 use Rattle.table_map.proofs.table_name.Met.{met as of-table-name}
-use Rattle.table_map.proofs.cut_field_lem.Met.{met as of-cut-field}
+use Rattle.table_map.proofs.cut_field.Met.{met as of-cut-field}
 use Rattle.table_map.proofs.default_charset.Met.{met as of-default-charset}
 use Rattle.table_map.proofs.flag.Met.{met as of-flag}
 use Rattle.table_map.proofs.event_size.Met.{met as of-event-size}

@@ -2,7 +2,7 @@
 use Prim.Native.Nat.{ℕ}
 use mathlib.Core.Path.{◌≡◌, refl}
 use mathlib.Core.Bool.{Bool, true, false, ◌||◌, or-true}
-use mathlib.Core.List.{List, ◌∷◌}
+use mathlib.Core.List.{[], List, ◌∷◌}
 use native.Mathlib.Omega.{arith}
 use lib.Dec.{eqb}
 use Rattle.wire.specs.declared.refusal.Refusal.{Refusal}
@@ -34,6 +34,7 @@ use Rattle.promises.proofs.Demand1.Plans.{plan_made, plan_stepped, run_read, ite
 -- a refusal that is listed names a part, or has one of the numbers that do not
 parted : (ls : List Line) (w : Refusal) → in_table ls ≡ true → OneOf ls w → Parted w
 unfolding in_table
+parted [] w t x'' = elim x'' [ ]
 parted (n at p ∷ ls) w t just = no_part (both_true (is_among n without_part) (in_table ls) t).0
 parted (n below q ∷ ls) w t (under h) = no_part (both_true (is_among n without_part) (in_table ls) t).0
 parted (n wherever P ∷ ls) w t (such h) = no_part (both_true (is_among n without_part) (in_table ls) t).0

@@ -94,6 +94,7 @@ item_told_lem f (ok (item x n)) a b next e =
 item_told_lem f (refused r) a b next e = absurd (ok_not_refused (sym e))
 
 map_each : {A B : Type 0} (f : A → B) (P : B → Type 0) (l : List A) → Each (λ a. P (f a)) l → Each P (map f l)
+map_each {A = A} {B = B} f P [] h b x'' = elim x'' [ ]
 map_each f P (a ∷ l) h b (here q) = subst P (sym q) (h a (here refl))
 map_each f P (a ∷ l) h b (later m) = map_each f P l (λ c n. h c (later n)) b m
 
