@@ -10,9 +10,12 @@ returns-then-upto-held c =
     c.args.held c.args.upto (omega arith) in record { value = p.0; carry_after = p.1 }
 
 pub returns : goal.returns
-returns c = record { value = refl; carry_after = commit_some c.args.carry.now
+returns c = record {
+  value = refl;
+  carry_after = commit_some c.args.carry.now
       c.args.block.now _
       c.args.held
       c.args.upto (omega arith)
       c.requires.1
-      c.requires.2 c.write_bytes.ensures.buf_after }
+      c.requires.2 c.write_bytes.ensures.buf_after;
+}

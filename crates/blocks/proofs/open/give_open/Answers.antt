@@ -26,16 +26,15 @@ overflow_add-used c =
     )
 
 pub take_to-requires-then-found-columns : goal.take_to-requires-then-found-columns
-take_to-requires-then-found-columns c =
-    (
-      c.requires.fits,
-      omega (arith, c.requires.room),
-      not_short
-          c.requires
-          c.is_short.ensures
-          c.if-is_short.false,
-      c.requires.small,
-    )
+take_to-requires-then-found-columns c = (
+  c.requires.fits,
+  omega (arith, c.requires.room),
+  not_short
+      c.requires
+      c.is_short.ensures
+      c.if-is_short.false,
+  c.requires.small,
+)
 
 pub returns-then-found-columns : goal.returns-then-found-columns
 returns-then-found-columns c =
@@ -61,16 +60,15 @@ overflow_add-found c =
     )
 
 pub take_to-requires-then-bit_at : goal.take_to-requires-then-bit_at
-take_to-requires-then-bit_at c =
-    (
-      c.requires.fits,
-      omega (arith, c.requires.room),
-      not_short
-          c.requires
-          c.is_short.ensures
-          c.if-is_short.false,
-      c.requires.small,
-    )
+take_to-requires-then-bit_at c = (
+  c.requires.fits,
+  omega (arith, c.requires.room),
+  not_short
+      c.requires
+      c.is_short.ensures
+      c.if-is_short.false,
+  c.requires.small,
+)
 
 pub returns-then-bit_at : goal.returns-then-bit_at
 returns-then-bit_at c =

@@ -14,12 +14,11 @@ loop-i-init c = let a = c.args in
     (omega arith, refl, paste-zero a.out.now a.at a.numbers.now)
 
 pub loop-i-preserved : goal.loop-i-preserved
-loop-i-preserved c = let a = c.args in
-    (
-      omega arith,
-      simp length-set c.loop-i.invariant.1,
-      rw (add-one, c.loop-i.invariant.2) (paste-suc a.out.now a.at a.numbers.now c.loop-i.i 0 (omega arith) (search rules)),
-    )
+loop-i-preserved c = let a = c.args in (
+  omega arith,
+  simp length-set c.loop-i.invariant.1,
+  rw (add-one, c.loop-i.invariant.2) (paste-suc a.out.now a.at a.numbers.now c.loop-i.i 0 (omega arith) (search rules)),
+)
 
 pub returns : goal.returns
 returns c = let a = c.args in

@@ -7,5 +7,8 @@ use Rattle.feed_abi.proofs.arrivals.tell_bytes.Goals as goal
 
 pub returns : goal.returns
 unfolding padded
-returns c = record { value = refl; out_after = head_then 8 _ _ _ _ _ refl (omega arith) c.put_arrival.ensures
-      c.put_numbers.ensures }
+returns c = record {
+  value = refl;
+  out_after = head_then 8 _ _ _ _ _ refl (omega arith) c.put_arrival.ensures
+      c.put_numbers.ensures;
+}

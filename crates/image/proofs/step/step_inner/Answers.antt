@@ -20,24 +20,33 @@ pub overflow_add-rank : goal.overflow_add-rank
 overflow_add-rank c = omega (arith, rank_small c.requires c.first_set-column.ensures)
 
 pub returns-then-bit_lsb0 : goal.returns-then-bit_lsb0
-returns-then-bit_lsb0 c = record { result_value = sym (step_null c.requires c.first_set-column.ensures _ _ c.if-column-columns.false
-          (sym c.bit_lsb0.ensures ∙ c.if-bit_lsb0.true)); ranked = rank_next c.requires c.first_set-column.ensures c.if-column-columns.false }
+returns-then-bit_lsb0 c = record {
+  result_value = sym (step_null c.requires c.first_set-column.ensures _ _ c.if-column-columns.false
+      (sym c.bit_lsb0.ensures ∙ c.if-bit_lsb0.true));
+  ranked = rank_next c.requires c.first_set-column.ensures c.if-column-columns.false;
+}
 
 pub returns-in-Got : goal.returns-in-Got
 returns-in-Got c = let g =
     c.column_of-stored.ensures
-    ∙ ap column_of c.entry_in.ensures in record { result_value = sym (step_got c.requires
+    ∙ ap column_of c.entry_in.ensures in record {
+      result_value = sym (step_got c.requires
           c.first_set-column.ensures _ _ c.if-column-columns.false (sym c.bit_lsb0.ensures
           ∙ c.if-bit_lsb0.false) g c.read_value.result
-          c.read_value.ensures _ _ c.in-Got.is); ranked = rank_next c.requires c.first_set-column.ensures
-          c.if-column-columns.false }
+          c.read_value.ensures _ _ c.in-Got.is);
+      ranked = rank_next c.requires c.first_set-column.ensures
+          c.if-column-columns.false;
+    }
 
 pub returns-in-Refused : goal.returns-in-Refused
 returns-in-Refused c =
     let g =
-    c.column_of-stored.ensures ∙ ap column_of c.entry_in.ensures in record { result_value = sym (step_bad c.requires
+    c.column_of-stored.ensures ∙ ap column_of c.entry_in.ensures in record {
+      result_value = sym (step_bad c.requires
           c.first_set-column.ensures _ _
           c.if-column-columns.false
           (sym c.bit_lsb0.ensures
           ∙ c.if-bit_lsb0.false) g c.read_value.result
-          c.read_value.ensures _ c.in-Refused.is); ranked = tt }
+          c.read_value.ensures _ c.in-Refused.is);
+      ranked = tt;
+    }

@@ -32,26 +32,29 @@ returns-then-at-items c = let a = c.args in
 
 pub take_items-far-requires : goal.take_items-far-requires
 take_items-far-requires c = let a = c.args in
-    record { stands = along_stands a.plan.now a.images.now a.items a.room a.had a.out.now a.here c.loop-values.out c.loop-values.at c.loop-values.values c.loop-values.invariant c.requires.stands (omega (
+    record {
+      stands = along_stands a.plan.now a.images.now a.items a.room a.had a.out.now a.here c.loop-values.out c.loop-values.at c.loop-values.values c.loop-values.invariant c.requires.stands (omega (
         arith,
         c.loop-values.invariant.run.counted,
         c.if-at-items.false,
-      )); had_lt_room = (
+      ));
+      had_lt_room = (
         c.loop-values-test.true,
         omega (
           arith,
           c.loop-values.invariant.run.same,
           c.requires.had_lt_room.1,
         ),
-      ) }
+      );
+    }
 
 pub loop-values-smaller-then-far-items : goal.loop-values-smaller-then-far-items
 loop-values-smaller-then-far-items c = omega (
-      arith,
-      above_had _ _ _ _ c.take_items-far.ensures.more c.take_items-far.ensures.first c.if-far-items.true,
-      c.take_items-far.ensures.most,
-      c.loop-values-test.true,
-    )
+  arith,
+  above_had _ _ _ _ c.take_items-far.ensures.more c.take_items-far.ensures.first c.if-far-items.true,
+  c.take_items-far.ensures.most,
+  c.loop-values-test.true,
+)
 
 pub loop-values-preserved-then-far-items : goal.loop-values-preserved-then-far-items
 loop-values-preserved-then-far-items c = let a = c.args in
@@ -73,13 +76,16 @@ number_item-requires c = let a = c.args in
     let t = c.requires.stands in
     let j = along_join a.plan.now a.images.now a.items a.room a.had a.out.now a.here c.loop-values.out c.loop-values.at c.loop-values.values
     c.loop-values.invariant _ _ _ _ c.take_items-far.ensures in
-    let s : a.here.start ≤ length a.images.now = omega (arith, t.nulls, t.item) in record { item_in_bounds = (
+    let s : a.here.start ≤ length a.images.now = omega (arith, t.nulls, t.item) in record {
+      item_in_bounds = (
         item_fits a.plan.now a.items _ t.count (omega (arith, j.run.counted, c.if-far-items.false)),
         part_holds a.images.now a.here.start _ s j.run.inside,
-      ); image_bound = part_fits a.images.now a.here.start s (omega (
+      );
+      image_bound = part_fits a.images.now a.here.start s (omega (
         arith,
         c.well_formed,
-      )) }
+      ));
+    }
 
 pub overflow_mul-far : goal.overflow_mul-far
 overflow_mul-far c = omega (
@@ -116,7 +122,8 @@ returns-in-Refused c = let a = c.args in
     let j = along_join a.plan.now a.images.now a.items a.room a.had a.out.now a.here c.loop-values.out c.loop-values.at c.loop-values.values
     c.loop-values.invariant _ _ _ _ c.take_items-far.ensures in
     let is = rest_is a.images.now a.here.start a.here.start (omega (arith, t.nulls, t.item)) in
-    let e = sym c.number_item.ensures ∙ ap numbers_told c.in-Refused.is in record { result_after = run_stop a.plan.now a.images.now a.items a.room a.had a.out.now a.here t _ _ _ _ j.run (omega (
+    let e = sym c.number_item.ensures ∙ ap numbers_told c.in-Refused.is in record {
+      result_after = run_stop a.plan.now a.images.now a.items a.room a.had a.out.now a.here t _ _ _ _ j.run (omega (
         arith,
         j.run.most,
         c.if-far-room.false,
@@ -124,7 +131,9 @@ returns-in-Refused c = let a = c.args in
         arith,
         j.run.counted,
         c.if-far-items.false,
-      )) is _ e; further = j.run.most }
+      )) is _ e;
+      further = j.run.most;
+    }
 
 pub overflow_add-values : goal.overflow_add-values
 overflow_add-values c = omega (

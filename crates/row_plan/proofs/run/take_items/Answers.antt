@@ -52,7 +52,9 @@ take_item-n-requires c = let a = c.args in
     let t = c.requires.stands in
     let is = rest_is a.images.now a.here.start a.here.start (omega (arith, t.nulls, t.item)) in
     let n = im_length a.plan.now a.images.now a.items a.here t is in
-    let i : c.loop-item.item < a.items = omega (arith, c.loop-item.invariant.most, c.loop-item-test.true) in record { item_in_bounds = (item_fits a.plan.now a.items c.loop-item.item t.count i, omega (arith, i, t.nulls, n)); offset_in_bounds = (
+    let i : c.loop-item.item < a.items = omega (arith, c.loop-item.invariant.most, c.loop-item-test.true) in record {
+      item_in_bounds = (item_fits a.plan.now a.items c.loop-item.item t.count i, omega (arith, i, t.nulls, n));
+      offset_in_bounds = (
         omega (arith, c.loop-item.invariant.bytes, c.loop-item-test.true, n),
         omega (
           arith,
@@ -61,7 +63,8 @@ take_item-n-requires c = let a = c.args in
           c.requires.had_lt_room.1,
           c.loop-item-test.true,
         ),
-      ) }
+      );
+    }
 
 pub shape_of-out-then-n-eq0 : goal.shape_of-out-then-n-eq0
 shape_of-out-then-n-eq0 c = c.take_item-n.auto.out ∙ c.loop-item.invariant.run.same

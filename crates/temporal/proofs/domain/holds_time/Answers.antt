@@ -22,20 +22,20 @@ returns-then-not-in_clock c =
 pub returns-then-negative_zero : goal.returns-then-negative_zero
 unfolding time_domain temporal_tag time_in
 returns-then-negative_zero c = rw (
-      c.in-Time.is,
-      ← c.in_clock.ensures,
-      c.if-not-in_clock.false,
-      ← c.negative_zero.ensures,
-      c.if-negative_zero.true,
-    ) (sym (and-false (in_units c.args.w c.in-Time.t.micros)))
+  c.in-Time.is,
+  ← c.in_clock.ensures,
+  c.if-not-in_clock.false,
+  ← c.negative_zero.ensures,
+  c.if-negative_zero.true,
+) (sym (and-false (in_units c.args.w c.in-Time.t.micros)))
 
 pub returns : goal.returns
 unfolding time_domain temporal_tag time_in
 returns c = rw (
-      c.in-Time.is,
-      ← c.in_clock.ensures,
-      c.if-not-in_clock.false,
-      ← c.negative_zero.ensures,
-      c.if-negative_zero.false,
-    ) (c.in_units.ensures ∙ sym
+  c.in-Time.is,
+  ← c.in_clock.ensures,
+  c.if-not-in_clock.false,
+  ← c.negative_zero.ensures,
+  c.if-negative_zero.false,
+) (c.in_units.ensures ∙ sym
     (and-true (in_units c.args.w c.in-Time.t.micros)))

@@ -16,32 +16,47 @@ returns-in-Null c = record { value = rw c.in-Null.is; value_value = rw c.in-Null
 
 pub returns-in-Int : goal.returns-in-Int
 unfolding parts_of
-returns-in-Int c = record { value = rw c.in-Int.is
+returns-in-Int c = record {
+  value = rw c.in-Int.is
       (c.one_part.ensures ∙ ap (λ (n : ℕ). padded 7 (n ∷ []))
       (c.twos_of.ensures
       ∙ ap (twos_of (2 ^ 64)) (to_z-of_z w64 c.in-Int.z
-      (record { sfits = c.in-Int.known_told-1-own.given.0.1 })))); value_value = rw c.in-Int.is
-      (held_int c.in-Int.z (record { sfits = c.in-Int.known_told-1-own.given.0.1 })) }
+      (record { sfits = c.in-Int.known_told-1-own.given.0.1 }))));
+  value_value = rw c.in-Int.is
+      (held_int c.in-Int.z (record { sfits = c.in-Int.known_told-1-own.given.0.1 }));
+}
 
 pub returns-in-Uint : goal.returns-in-Uint
 unfolding parts_of
-returns-in-Uint c = record { value = rw c.in-Uint.is c.one_part-in-Uint.ensures; value_value = rw c.in-Uint.is
-      (held_uint c.in-Uint.n (omega (arith, c.in-Uint.known_told-in-Uint-1-own.given))) }
+returns-in-Uint c = record {
+  value = rw c.in-Uint.is c.one_part-in-Uint.ensures;
+  value_value = rw c.in-Uint.is
+      (held_uint c.in-Uint.n (omega (arith, c.in-Uint.known_told-in-Uint-1-own.given)));
+}
 
 pub returns-in-Float : goal.returns-in-Float
 unfolding parts_of
-returns-in-Float c = record { value = rw c.in-Float.is c.one_part-in-Float.ensures; value_value = rw c.in-Float.is
-      (held_float c.in-Float.bits (omega (arith, c.in-Float.known_told-in-Float-1-own.given))) }
+returns-in-Float c = record {
+  value = rw c.in-Float.is c.one_part-in-Float.ensures;
+  value_value = rw c.in-Float.is
+      (held_float c.in-Float.bits (omega (arith, c.in-Float.known_told-in-Float-1-own.given)));
+}
 
 pub returns-in-Double : goal.returns-in-Double
 unfolding parts_of
-returns-in-Double c = record { value = rw c.in-Double.is c.one_part-in-Double.ensures; value_value = rw c.in-Double.is
-      (held_double c.in-Double.bits (omega (arith, c.in-Double.known_told-in-Double-1-own.given))) }
+returns-in-Double c = record {
+  value = rw c.in-Double.is c.one_part-in-Double.ensures;
+  value_value = rw c.in-Double.is
+      (held_double c.in-Double.bits (omega (arith, c.in-Double.known_told-in-Double-1-own.given)));
+}
 
 pub returns-in-Year : goal.returns-in-Year
 unfolding parts_of
-returns-in-Year c = record { value = rw c.in-Year.is c.one_part-in-Year.ensures; value_value = rw c.in-Year.is
-      (held_year c.in-Year.y (omega (arith, c.in-Year.known_told-in-Year-1-own.given))) }
+returns-in-Year c = record {
+  value = rw c.in-Year.is c.one_part-in-Year.ensures;
+  value_value = rw c.in-Year.is
+      (held_year c.in-Year.y (omega (arith, c.in-Year.known_told-in-Year-1-own.given)));
+}
 
 pub returns-in-Temporal : goal.returns-in-Temporal
 unfolding parts_of
@@ -49,5 +64,8 @@ returns-in-Temporal c = rw c.in-Temporal.is (record { value = c.temporal_parts.e
 
 pub returns-in-Bytes : goal.returns-in-Bytes
 unfolding padded parts_of
-returns-in-Bytes c = record { value = rw c.in-Bytes.is; value_value = rw c.in-Bytes.is
-      (held_bytes c.in-Bytes.part (omega (arith, c.in-Bytes.known_told-in-Bytes-1-own.given)) (omega (arith, c.in-Bytes.known_told-in-Bytes-1-own.given))) }
+returns-in-Bytes c = record {
+  value = rw c.in-Bytes.is;
+  value_value = rw c.in-Bytes.is
+      (held_bytes c.in-Bytes.part (omega (arith, c.in-Bytes.known_told-in-Bytes-1-own.given)) (omega (arith, c.in-Bytes.known_told-in-Bytes-1-own.given)));
+}

@@ -78,5 +78,8 @@ returns-in-8 c = rw c.in-8.is (record { value = c.be8.ensures.0; upper_bound = c
 
 pub returns : goal.returns
 returns c = let a = c.args in
-    record { value = c.be.ensures.0 ∙ ap be_value (rw c.there.ensures (take_there (min a.k 8) (length a.s.now - a.at) (drop a.at a.s.now)
-          (length-drop a.at a.s.now))); upper_bound = wider c.there.result (min a.k 8) c.be.result (omega arith) c.be.ensures.1 }
+    record {
+      value = c.be.ensures.0 ∙ ap be_value (rw c.there.ensures (take_there (min a.k 8) (length a.s.now - a.at) (drop a.at a.s.now)
+          (length-drop a.at a.s.now)));
+      upper_bound = wider c.there.result (min a.k 8) c.be.result (omega arith) c.be.ensures.1;
+    }

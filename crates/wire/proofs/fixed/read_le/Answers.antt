@@ -54,5 +54,8 @@ returns-in-8 c = rw c.in-8.is (record { value = c.le8.ensures.0; upper_bound = c
 
 pub returns : goal.returns
 returns c = let a = c.args in
-    record { value = c.le.ensures.0 ∙ ap le_value (rw c.there.ensures (take_there (min a.k 8) (length a.s.now - a.at) (drop a.at a.s.now)
-          (length-drop a.at a.s.now))); upper_bound = wider c.there.result (min a.k 8) c.le.result (omega arith) c.le.ensures.1 }
+    record {
+      value = c.le.ensures.0 ∙ ap le_value (rw c.there.ensures (take_there (min a.k 8) (length a.s.now - a.at) (drop a.at a.s.now)
+          (length-drop a.at a.s.now)));
+      upper_bound = wider c.there.result (min a.k 8) c.le.result (omega arith) c.le.ensures.1;
+    }

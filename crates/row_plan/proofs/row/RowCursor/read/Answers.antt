@@ -48,8 +48,11 @@ returns-in-Refused c =
     let t = sym c.test_image.ensures ∙ ap gate_told c.in-Refused.is in
     let g = read_refused a.plan.now a.images.now _ a.out.now a.self c.loop-values.out c.loop-values.at c.loop-values.values c.loop-values.invariant
     c.loop-values-test.true
-    c.turned-here.ensures o _ t in record { result_value = c.stopped.ensures ∙ told_stopped a.plan.now a.images.now a.self a.out.now _ refl
-          (omega arith) _ _ _ _ g; out_after = left_stopped a.plan.now a.images.now a.self a.out.now _ refl (omega arith) _ _ _ _ g }
+    c.turned-here.ensures o _ t in record {
+      result_value = c.stopped.ensures ∙ told_stopped a.plan.now a.images.now a.self a.out.now _ refl
+          (omega arith) _ _ _ _ g;
+      out_after = left_stopped a.plan.now a.images.now a.self a.out.now _ refl (omega arith) _ _ _ _ g;
+    }
 
 -- src/run.rt:234:17
 pub shape_of-out-then-here-items : goal.shape_of-out-then-here-items
@@ -76,9 +79,12 @@ run_image-requires c =
     let o = sym c.is_over.ensures
     ∙ c.if-is_over.false in
     let t = sym c.test_image.ensures
-    ∙ ap gate_told c.in-Open.is in record { stands = read_stands a.plan.now a.images.now _ a.out.now a.self c.loop-values.out c.loop-values.at c.loop-values.values c.loop-values.invariant
+    ∙ ap gate_told c.in-Open.is in record {
+      stands = read_stands a.plan.now a.images.now _ a.out.now a.self c.loop-values.out c.loop-values.at c.loop-values.values c.loop-values.invariant
           c.loop-values-test.true
-          c.turned-here.ensures o t _ refl c.if-here-items.false; had_lt_room = (c.loop-values-test.true, omega (arith, c.loop-values.invariant.same)) }
+          c.turned-here.ensures o t _ refl c.if-here-items.false;
+      had_lt_room = (c.loop-values-test.true, omega (arith, c.loop-values.invariant.same));
+    }
 
 -- src/run.rt:224:9
 pub loop-values-smaller : goal.loop-values-smaller
@@ -119,8 +125,11 @@ returns-in-Stopped c =
     let p = sym c.run_image.ensures.result_after
     ∙ ap (paused_run _ a.plan.now a.images.now _) c.in-Stopped.is in
     let g = sym (read_enter a.plan.now a.images.now _ a.out.now a.self c.loop-values.out c.loop-values.at c.loop-values.values c.loop-values.invariant
-    c.loop-values-test.true c.turned-here.ensures o t c.if-here-items.false) ∙ p in record { result_value = c.stopped-in-Stopped.ensures ∙ told_stopped a.plan.now a.images.now a.self a.out.now _ refl
-          (omega arith) _ _ _ _ g; out_after = left_stopped a.plan.now a.images.now a.self a.out.now _ refl (omega arith) _ _ _ _ g }
+    c.loop-values-test.true c.turned-here.ensures o t c.if-here-items.false) ∙ p in record {
+      result_value = c.stopped-in-Stopped.ensures ∙ told_stopped a.plan.now a.images.now a.self a.out.now _ refl
+          (omega arith) _ _ _ _ g;
+      out_after = left_stopped a.plan.now a.images.now a.self a.out.now _ refl (omega arith) _ _ _ _ g;
+    }
 
 -- src/run.rt:212:5
 pub shape_of-out : goal.shape_of-out
