@@ -16,7 +16,7 @@ SIGNED = re.compile(r"^\s*(?:(?:pub|abbrev|unfoldable)\s+)*([^\s(){}:]+)\s*:(?=\
 
 def is_answers(root, p):
     """Whether a file is of a function's proof: below proofs/, with a folder of its own."""
-    return names.is_function_proof(p) and os.path.basename(os.path.dirname(p)) != "proofs"
+    return names.is_function_proof(p) and os.path.basename(os.path.dirname(p)) not in ("proofs", "specs")
 
 
 def main():

@@ -43,7 +43,7 @@ use Rattle.blocks.specs.declared.state.Arrival.TheVariants.{End, Refused}
 use Rattle.blocks.specs.declared.state.Given.{Given}
 use Rattle.blocks.specs.declared.turn.Turn.{Turn}
 use Rattle.blocks.specs.declared.turn.Turn.TheVariants.{Wait, Long as Long₁, Whole}
-use Rattle.blocks.specs.contracts.turn.Turn.{the_type as turn-type}
+use Rattle.blocks.specs.contracts.turn.Turn.{the_type as turn_type}
 use Rattle.blocks.specs.States.{opened, longed, more, part, shut_with, given_of, ended_of}
 use Rattle.blocks.specs.Turns.{turn_of}
 use Rattle.blocks.specs.Fits.{is_long, fits_in, is_counted, is_fit}
@@ -146,12 +146,12 @@ module _ (r p carry : List ℕ) (n : ℕ) (at : Arriving) where
       ∙ ap (λ (s : Shape). turn_of (length carry - nb) s (drop nb y)) e
 
 -- ---- the Open phase
-pub other_turn : (t : Turn) → OneOf (1 ∷ 2 ∷ []) (tag_of turn-type t) → is_wait (turn_told t) ≡ false
+pub other_turn : (t : Turn) → OneOf (1 ∷ 2 ∷ []) (tag_of turn_type t) → is_wait (turn_told t) ≡ false
 other_turn Wait o = absurd (miss (1 ∷ 2 ∷ []) 0 tt o)
 other_turn (Long₁ n) o = refl
 other_turn (Whole n) o = refl
 
-pub other_long : (t : Turn) (left : ℕ) → OneOf (0 ∷ 2 ∷ []) (tag_of turn-type t) → is_long_of left (turn_told t) ≡ false
+pub other_long : (t : Turn) (left : ℕ) → OneOf (0 ∷ 2 ∷ []) (tag_of turn_type t) → is_long_of left (turn_told t) ≡ false
 other_long Wait left o = refl
 other_long (Long₁ n) left o = absurd (miss (0 ∷ 2 ∷ []) 1 tt o)
 other_long (Whole n) left o = refl

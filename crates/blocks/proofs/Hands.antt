@@ -18,7 +18,7 @@ use Rattle.wire.specs.Number.{le_value}
 use Rattle.value.specs.declared.shape.Shape.TheVariants.{Unsigned, Signed, FloatBits, DoubleBits, YearByte, Timed, Fixed, Counted}
 use Rattle.value.specs.declared.shape.Shape.TheVariants.{NotTaken}
 use Rattle.value.specs.declared.shape.Shape.{Shape}
-use Rattle.value.specs.contracts.shape.Shape.{the_type as shape-type}
+use Rattle.value.specs.contracts.shape.Shape.{the_type as shape_type}
 use Rattle.value.specs.Shapes.{need, prefix}
 use Rattle.value.specs.Inner.Shapes.{Sized}
 use Rattle.wire.specs.Stored.{stored, store, left_of}
@@ -80,7 +80,7 @@ unfolding need
 count_is k s h = let m : min k 8 ≡ k = omega arith in rw m
 
 -- the shapes that have no length bytes, by the tags that the last arm of a match serves
-pub no_prefix : (sh : Shape) → OneOf (0 ∷ 1 ∷ 2 ∷ 3 ∷ 4 ∷ 5 ∷ 6 ∷ 8 ∷ []) (tag_of shape-type sh) → prefix sh ≡ 0
+pub no_prefix : (sh : Shape) → OneOf (0 ∷ 1 ∷ 2 ∷ 3 ∷ 4 ∷ 5 ∷ 6 ∷ 8 ∷ []) (tag_of shape_type sh) → prefix sh ≡ 0
 unfolding prefix
 no_prefix (Unsigned k) o = refl
 no_prefix (Signed k) o = refl

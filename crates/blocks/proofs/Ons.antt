@@ -14,7 +14,7 @@ use lib.Dec.{ltb}
 use Rattle.wire.specs.Outcome.{Outcome, ok, refused, refuse, after, why}
 use Rattle.wire.specs.Bits.{bit_lsb0}
 use Rattle.value.specs.declared.shape.Shape.{Shape}
-use Rattle.value.specs.Data.{Datum, null as nullDatum}
+use Rattle.value.specs.Data.{Datum, null as null_datum}
 use Rattle.value.specs.Shapes.{need, prefix}
 use Rattle.value.specs.Reading.{judged, placed, short}
 use Rattle.value.proofs.Laws.{fails_back}
@@ -425,7 +425,7 @@ module _ (K : Type 0) (r p : List ℕ) (column held used : ℕ) (carry block t :
           let w : Within carry block held nulls = record { low = h; high = omega (arith, hand_length); fits = omega (arith, q.room) } in
           let a = rest_on (f + 1) 0 nulls (sym (add-zero nulls)) w (omega arith) in
           rw (le-ltb (length y) nulls l, slots_are, n)
-          (goes ∙ rw (slots_are, n) (ap (with (datum f nullDatum ∷ [])) (sym (rw (add-zero (used + nulls - held)) at a))), tt)
+          (goes ∙ rw (slots_are, n) (ap (with (datum f null_datum ∷ [])) (sym (rw (add-zero (used + nulls - held)) at a))), tt)
 
       null_left : bit_lsb0 y (count_bits p f) ≡ true → leaves (give_open r p nulls st carry block)
       unfolding give_open give_over commit

@@ -13,7 +13,7 @@ use Rattle.wire.specs.Number.{Bytes}
 use Rattle.wire.proofs.Inverse.{bytes_drop}
 use Rattle.record.specs.Records.{count_of}
 use Rattle.image.specs.Room.{image_room}
-use Rattle.value.specs.Data.{null as nullDatum}
+use Rattle.value.specs.Data.{null as null_datum}
 use Rattle.value.specs.Reading.{datum_of}
 use Rattle.image.specs.Present.{Present, present}
 use Rattle.image.specs.Split.{slots}
@@ -191,7 +191,7 @@ told_less r p b t c g w e o = go g.arrival e o
 
     go : (a : Arrived) → goes_on a ≡ true → (w ≡ told c b a v) × Still a b g.taken f → length v.pieces < length w.pieces
     go more e o = absurd (true≢false (sym e))
-    go (null j) e o = less (datum j nullDatum ∷ []) (omega arith) o.0
+    go (null j) e o = less (datum j null_datum ∷ []) (omega arith) o.0
     go (value j x) e o = less (datum j (datum_of c x) ∷ []) (omega arith) o.0
     go (long j n) e o = less (size j n ∷ []) (omega arith) o.0
     go (part j n) e o = less (byte_pieces j (take n b)) (omega (arith, o.1, length-map (take n b) (byte j))) o.0

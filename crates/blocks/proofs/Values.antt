@@ -26,7 +26,7 @@ use Rattle.value.specs.declared.shape.Shape.TheVariants.{Unsigned, Signed, Float
 use Rattle.value.specs.declared.shape.Shape.TheVariants.{NotTaken}
 use Rattle.value.specs.declared.column.Column.{Column}
 use Rattle.value.specs.declared.datum.Value.{Value}
-use Rattle.value.specs.contracts.shape.Shape.{the_type as shape-type}
+use Rattle.value.specs.contracts.shape.Shape.{the_type as shape_type}
 use Rattle.value.specs.Data.{Datum, temporal}
 use Rattle.value.specs.Columns.{shape_of}
 use Rattle.value.specs.Shapes.{need, decode, fault, prefix}
@@ -102,7 +102,7 @@ part_of : (m n : ℕ) (s : List ℕ) → m ≤ length s → take n (drop m s) �
 part_of m n s h = sym (ap (drop m) (take-add m n s) ∙ drop_at (take m s) (take n (drop m s)) m (length-take-le m s h))
 
 -- the shapes whose values are never refused, by the tags that the last arm of a match serves
-pub no_fault : (sh : Shape) → OneOf (0 ∷ 1 ∷ 2 ∷ 3 ∷ 4 ∷ 6 ∷ 7 ∷ 8 ∷ []) (tag_of shape-type sh) → (b : List ℕ) → fault sh b ≡ 0
+pub no_fault : (sh : Shape) → OneOf (0 ∷ 1 ∷ 2 ∷ 3 ∷ 4 ∷ 6 ∷ 7 ∷ 8 ∷ []) (tag_of shape_type sh) → (b : List ℕ) → fault sh b ≡ 0
 unfolding fault
 no_fault (Unsigned k) o b = refl
 no_fault (Signed k) o b = refl

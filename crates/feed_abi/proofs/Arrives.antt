@@ -16,7 +16,7 @@ use Rattle.blocks.specs.Gives.{give_block}
 use Rattle.blocks.specs.Ends.{end_blocks}
 use Rattle.feed_abi.specs.declared.arrivals.Noted.{Noted}
 use Rattle.feed_abi.specs.declared.arrivals.Noted.TheVariants.{Value as Value₂, Bytes, Refused as Refused₁}
-use Rattle.feed_abi.specs.Answers.{answerNumber, answerNumbers}
+use Rattle.feed_abi.specs.Answers.{answer_number, answer_numbers}
 use Rattle.feed_abi.specs.Calls.{said}
 use Rattle.feed_abi.specs.Blocks.{phase_number, phase_asked, state_asked, arrival_numbers, told_block, arrived_numbers, ended}
 use Rattle.feed_abi.specs.Inner.Blocks.{begun_told, block_given, arrival_told, given_told, noted_of}
@@ -39,9 +39,9 @@ noted_told (End used) taken next = refl
 noted_told (Refused r) taken next = refl
 
 pub tells_noted : (out : List ℕ) (a : Arrival) (taken : ℕ) (next : Arriving) (n m : Noted) (s : ℕ) (x : List ℕ) → n ≡ noted_of a → n ≡ m
-    → s ≡ answerNumber (noted_numbers m taken next) → x ≡ stored (answerNumbers (noted_numbers m taken next)) out 0
-    → (s ≡ answerNumber (said arrived_numbers (arrival_told a taken next)))
-    × (x ≡ stored (answerNumbers (said arrived_numbers (arrival_told a taken next))) out 0)
+    → s ≡ answer_number (noted_numbers m taken next) → x ≡ stored (answer_numbers (noted_numbers m taken next)) out 0
+    → (s ≡ answer_number (said arrived_numbers (arrival_told a taken next)))
+    × (x ≡ stored (answer_numbers (said arrived_numbers (arrival_told a taken next))) out 0)
 tells_noted out a taken next n m s x e d p q =
     let t : said arrived_numbers (arrival_told a taken next) ≡ noted_numbers m taken next =
     noted_told a taken next ∙ ap (λ (k : Noted). noted_numbers k taken next) (sym e ∙ d) in

@@ -24,7 +24,7 @@ use Rattle.rows_event.specs.declared.parts.Second.{Second}
 use Rattle.rows_event.specs.declared.event.Rows.{Rows}
 use Rattle.rows_event.specs.declared.images.Images.{Images}
 use Rattle.rows_event.specs.Images.{ImageStepped as Told₁, next_image}
-use Rattle.feed_abi.specs.Answers.{answerNumber, answerNumbers, statusOf, numbersLeft, bytesLeft}
+use Rattle.feed_abi.specs.Answers.{answer_number, answer_numbers, status_of, numbers_left, bytes_left}
 use Rattle.image.specs.Split.{ColumnStepped}
 use Rattle.feed_abi.specs.Calls.{said, said_with, entry_numbers, names_given, given_numbers, told_numbers, Held, sets_asked, dialect_of}
 use Rattle.feed_abi.specs.Calls.{feed_column, feed_names}
@@ -32,31 +32,31 @@ use Rattle.feed_abi.specs.Fields.{fields_numbers, feed_fields}
 
 -- the status s and the numbers x that a call leaves
 abbrev pub Tells : ℕ → List ℕ → Outcome (List ℕ) → ℕ → List ℕ → Type 0
-Tells k out o s x = (s ≡ statusOf k o out) × (x ≡ numbersLeft k o out)
+Tells k out o s x = (s ≡ status_of k o out) × (x ≡ numbers_left k o out)
 
 -- and the bytes b that a writer leaves
 abbrev pub Leaves : ℕ → List ℕ → List ℕ → Outcome (List ℕ × List ℕ) → ℕ → List ℕ → List ℕ → Type 0
-Leaves k out buf o s x b = (s ≡ statusOf k (answer_of o) out) × ((x ≡ numbersLeft k (answer_of o) out) × (b ≡ bytesLeft k o out buf))
+Leaves k out buf o s x b = (s ≡ status_of k (answer_of o) out) × ((x ≡ numbers_left k (answer_of o) out) × (b ≡ bytes_left k o out buf))
 
 -- ---- without room for the numbers
 pub no_numbers : (k : ℕ) (out : List ℕ) (o : Outcome (List ℕ)) → length out < k → Tells k out o 8 out
-unfolding statusOf numbersLeft
+unfolding status_of numbers_left
 no_numbers k out o h = rw (lt-leb k (length out) h) (refl, refl)
 
 pub no_bytes : (k : ℕ) (out buf : List ℕ) (o : Outcome (List ℕ × List ℕ)) → length out < k → Leaves k out buf o 8 out buf
-unfolding statusOf numbersLeft bytesLeft
+unfolding status_of numbers_left bytes_left
 no_bytes k out buf o h = rw (lt-leb k (length out) h) (refl, (refl, refl))
 
 -- ---- with room: an answer, or a refusal
 pub tells_ok : (k : ℕ) (out : List ℕ) (o : Outcome (List ℕ)) (ns : List ℕ) (s : ℕ) (x : List ℕ) → k ≤ length out → o ≡ ok ns → s ≡ 0
     → x ≡ stored ns out 0 → Tells k out o s x
-unfolding statusOf numbersLeft
+unfolding status_of numbers_left
 tells_ok k out o ns s x h e p q = rw (le-leb k (length out) h, e) (p, q)
 
 pub tells_refused : (k : ℕ) (out : List ℕ) (o : Outcome (List ℕ)) (r : Refusal) (s : ℕ) (x : List ℕ) → k ≤ length out → o ≡ refused r
     → s ≡ r.number
     → x ≡ stored (r.place ∷ r.part ∷ []) out 0 → Tells k out o s x
-unfolding statusOf numbersLeft
+unfolding status_of numbers_left
 tells_refused k out o r s x h e p q = rw (le-leb k (length out) h, e) (p, q)
 
 -- of a call whose answer is said in numbers
@@ -71,17 +71,17 @@ pub said_refused : {A : Type 0} (k : ℕ) (out : List ℕ) (f : A → List ℕ) 
 said_refused k out f o r s x h e p q = tells_refused k out (said f o) r s x h (rw e) p q
 
 -- of a call that tells what another answered
-pub tells_told : (k : ℕ) (out : List ℕ) (o a : Outcome (List ℕ)) (s : ℕ) (x : List ℕ) → k ≤ length out → a ≡ o → s ≡ answerNumber a
-    → x ≡ stored (answerNumbers a) out 0
+pub tells_told : (k : ℕ) (out : List ℕ) (o a : Outcome (List ℕ)) (s : ℕ) (x : List ℕ) → k ≤ length out → a ≡ o → s ≡ answer_number a
+    → x ≡ stored (answer_numbers a) out 0
     → Tells k out o s x
-unfolding statusOf numbersLeft
+unfolding status_of numbers_left
 tells_told k out o a s x h e p q = rw (le-leb k (length out) h, sym e) (p, q)
 
 -- ---- a writer w, whose answer is said in numbers
 pub wrote_ok : {A : Type 0} (k : ℕ) (out buf : List ℕ) (f : A → List ℕ) (w : Outcome (A × List ℕ)) (o : Outcome (List ℕ × List ℕ)) (a : A)
     (s : ℕ) (x b : List ℕ) → k ≤ length out
     → o ≡ said_with f w → answer_of w ≡ ok a → s ≡ 0 → x ≡ stored (f a) out 0 → b ≡ left_of w buf → Leaves k out buf o s x b
-unfolding statusOf numbersLeft bytesLeft
+unfolding status_of numbers_left bytes_left
 wrote_ok k out buf f (ok y) o a s x b h d e p q u =
     let z : y.0 ≡ a = same_ok e in
     rw (le-leb k (length out) h, d, z) (p, (q, u))
@@ -91,7 +91,7 @@ pub wrote_refused : {A : Type 0} (k : ℕ) (out buf : List ℕ) (f : A → List 
     (r : Refusal) (s : ℕ) (x b : List ℕ)
     → k ≤ length out → o ≡ said_with f w → answer_of w ≡ refused r → s ≡ r.number → x ≡ stored (r.place ∷ r.part ∷ []) out 0
     → b ≡ left_of w buf → Leaves k out buf o s x b
-unfolding statusOf numbersLeft bytesLeft
+unfolding status_of numbers_left bytes_left
 wrote_refused k out buf f (ok y) o r s x b h d e p q u = absurd (ok_not_refused e)
 wrote_refused k out buf f (refused v) o r s x b h d e p q u =
     let z : v ≡ r = same_refused e in
@@ -100,7 +100,7 @@ wrote_refused k out buf f (refused v) o r s x b h d e p q u =
 -- either way
 pub wrote_told : {A : Type 0} (k : ℕ) (out buf : List ℕ) (f : A → List ℕ) (w : Outcome (A × List ℕ)) (o : Outcome (List ℕ × List ℕ))
     (a : Outcome A) (s : ℕ) (x b : List ℕ)
-    → k ≤ length out → o ≡ said_with f w → a ≡ answer_of w → s ≡ answerNumber (said f a) → x ≡ stored (answerNumbers (said f a)) out 0
+    → k ≤ length out → o ≡ said_with f w → a ≡ answer_of w → s ≡ answer_number (said f a) → x ≡ stored (answer_numbers (said f a)) out 0
     → b ≡ left_of w buf → Leaves k out buf o s x b
 wrote_told k out buf f w o (ok y) s x b h d e p q u = wrote_ok k out buf f w o y s x b h d (sym e) p q u
 wrote_told k out buf f w o (refused r) s x b h d e p q u = wrote_refused k out buf f w o r s x b h d (sym e) p q u
@@ -109,7 +109,7 @@ wrote_told k out buf f w o (refused r) s x b h d e p q u = wrote_refused k out b
 pub not_called : (k : ℕ) (out buf : List ℕ) (o : Outcome (List ℕ × List ℕ)) (r : Refusal) (s : ℕ) (x : List ℕ) → k ≤ length out
     → o ≡ refused r → s ≡ r.number
     → x ≡ stored (r.place ∷ r.part ∷ []) out 0 → Leaves k out buf o s x buf
-unfolding statusOf numbersLeft bytesLeft
+unfolding status_of numbers_left bytes_left
 not_called k out buf o r s x h e p q = rw (le-leb k (length out) h, e) (p, (q, refl))
 
 -- ---- a column of a record
@@ -158,7 +158,7 @@ fields_no_dialect event post_header n r e = rw e
 
 -- ---- a step, which says too that a value told is one that the machine can hold
 abbrev Steps : List ℕ → Outcome ColumnStepped → ℕ → List ℕ → Type 0
-Steps out o s x = (s ≡ statusOf 11 (said told_numbers o) out) × ((x ≡ numbersLeft 11 (said told_numbers o) out) × (s ≡ 0 → Held o))
+Steps out o s x = (s ≡ status_of 11 (said told_numbers o) out) × ((x ≡ numbers_left 11 (said told_numbers o) out) × (s ≡ 0 → Held o))
 
 pub no_step : (out : List ℕ) (o : Outcome ColumnStepped) → length out < 11 → Steps out o 8 out
 no_step out o h =

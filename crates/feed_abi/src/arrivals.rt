@@ -2,7 +2,7 @@
 ghost use Rattle.std.specs.Prelude.{◌≡◌, ◌∷◌, [], ◌≤◌, length};
 ghost use Rattle.wire.specs.Stored.{stored, answer_of};
 ghost use Rattle.value_parts.specs.Parts.{sort_of, parts_of};
-ghost use Rattle.feed_abi.specs.Answers.{answerNumber, answerNumbers, statusOf, numbersLeft, bytesLeft};
+ghost use Rattle.feed_abi.specs.Answers.{answer_number, answer_numbers, status_of, numbers_left, bytes_left};
 ghost use Rattle.feed_abi.specs.Calls.{said};
 ghost use Rattle.feed_abi.specs.Blocks.{phase_number, phase_asked, state_numbers, state_asked};
 ghost use Rattle.feed_abi.specs.Blocks.{arrival_head, arrival_numbers, arrived_numbers, feed_begin, feed_give, feed_end};
@@ -175,8 +175,8 @@ fn tell_bytes(
 // What a call answered.
 fn tell_given(given: Given, out: &mut [u64]) -> u64
     requires { 15 ≤ length out.old }
-    ensures value { result ≡ answerNumber (said arrived_numbers (given_told given)) }
-    ensures out_after { out.new ≡ stored (answerNumbers (said arrived_numbers (given_told given))) out.old 0 }
+    ensures value { result ≡ answer_number (said arrived_numbers (given_told given)) }
+    ensures out_after { out.new ≡ stored (answer_numbers (said arrived_numbers (given_told given))) out.old 0 }
 {
     let arrival = given.arrival;
     let taken = given.taken;
@@ -193,11 +193,10 @@ fn tell_given(given: Given, out: &mut [u64]) -> u64
 }
 
 // The state that an image begins with: phase, column, held, left, used.
-#[unsafe(no_mangle)]
-pub extern "C" fn feed_begin(profile: &[u8], presence: &[u8], carry: &[u8], out: &mut [u64]) -> u64
-    ensures value { result ≡ statusOf 5 (feed_begin profile.now presence.now carry.now) out.old }
+pub fn feed_begin(profile: &[u8], presence: &[u8], carry: &[u8], out: &mut [u64]) -> u64
+    ensures value { result ≡ status_of 5 (feed_begin profile.now presence.now carry.now) out.old }
     ensures out_after { out.new
-        ≡ numbersLeft 5 (feed_begin profile.now presence.now carry.now) out.old }
+        ≡ numbers_left 5 (feed_begin profile.now presence.now carry.now) out.old }
 {
     if out.len() < 5 {
         return NO_NUMBERS;
@@ -210,8 +209,7 @@ pub extern "C" fn feed_begin(profile: &[u8], presence: &[u8], carry: &[u8], out:
 
 // Takes bytes from the front of the block, as many as one answer needs, to any state: the next state, sort, column, bytes taken, and seven
 // parts.
-#[unsafe(no_mangle)]
-pub extern "C" fn feed_give(
+pub fn feed_give(
     profile: &[u8],
     presence: &[u8],
     carry: &mut [u8],
@@ -224,13 +222,13 @@ pub extern "C" fn feed_give(
     out: &mut [u64],
 ) -> u64
     ensures value { result
-        ≡ statusOf 15 (answer_of (feed_give profile.now presence.now carry.old block.now phase
+        ≡ status_of 15 (answer_of (feed_give profile.now presence.now carry.old block.now phase
         column held left used)) out.old }
     ensures out_after { out.new
-        ≡ numbersLeft 15 (answer_of (feed_give profile.now presence.now carry.old block.now phase
+        ≡ numbers_left 15 (answer_of (feed_give profile.now presence.now carry.old block.now phase
         column held left used)) out.old }
     ensures carry_after { carry.new
-        ≡ bytesLeft 15 (feed_give profile.now presence.now carry.old block.now phase column held
+        ≡ bytes_left 15 (feed_give profile.now presence.now carry.old block.now phase column held
         left used) out.old carry.old }
 {
     if out.len() < 15 {
@@ -241,8 +239,7 @@ pub extern "C" fn feed_give(
 }
 
 // No more bytes come: the end, with the bytes used, in the layout of `feed_give`. The next state is the closed one.
-#[unsafe(no_mangle)]
-pub extern "C" fn feed_end(
+pub fn feed_end(
     profile: &[u8],
     presence: &[u8],
     carry: &[u8],
@@ -254,10 +251,10 @@ pub extern "C" fn feed_end(
     out: &mut [u64],
 ) -> u64
     ensures value { result
-        ≡ statusOf 15 (feed_end profile.now presence.now carry.now phase column held left used)
+        ≡ status_of 15 (feed_end profile.now presence.now carry.now phase column held left used)
         out.old }
     ensures out_after { out.new
-        ≡ numbersLeft 15 (feed_end profile.now presence.now carry.now phase column held left used)
+        ≡ numbers_left 15 (feed_end profile.now presence.now carry.now phase column held left used)
         out.old }
 {
     if out.len() < 15 {

@@ -2,7 +2,7 @@
 ghost use Rattle.std.specs.Prelude.{◌≡◌, ◌≤◌, length};
 ghost use Rattle.wire.specs.Stored.{stored};
 ghost use Rattle.rows_event.specs.Images.{image_met, end};
-ghost use Rattle.feed_abi.specs.Answers.{statusOf, numbersLeft};
+ghost use Rattle.feed_abi.specs.Answers.{status_of, numbers_left};
 ghost use Rattle.feed_abi.specs.Calls.{extra_given, second_given, rows_numbers, second_asked, sets_asked, image_numbers, feed_rows};
 ghost use Rattle.feed_abi.specs.Calls.{feed_image};
 
@@ -127,17 +127,10 @@ fn sets_asked(before: Part, after: Second) -> Rows
 
 // The parts of a rows event of the code `code`, under the record and the table id of its map: flags; whether it has extra data, start,
 // length; start and length of its presence bits; whether it has a second set, start, length; and where its images begin.
-#[unsafe(no_mangle)]
-pub extern "C" fn feed_rows(
-    code: u64,
-    profile: &[u8],
-    table: u64,
-    event: &[u8],
-    out: &mut [u64],
-) -> u64
-    ensures value { result ≡ statusOf 10 (feed_rows code profile.now table event.now) out.old }
+pub fn feed_rows(code: u64, profile: &[u8], table: u64, event: &[u8], out: &mut [u64]) -> u64
+    ensures value { result ≡ status_of 10 (feed_rows code profile.now table event.now) out.old }
     ensures out_after { out.new
-        ≡ numbersLeft 10 (feed_rows code profile.now table event.now) out.old }
+        ≡ numbers_left 10 (feed_rows code profile.now table event.now) out.old }
 {
     if out.len() < 10 {
         return NO_NUMBERS;
@@ -150,8 +143,7 @@ pub extern "C" fn feed_rows(
 
 // One step over the images of a rows event, from any cursor, under any sets: 1, start, length, under which set it stands, and the next
 // cursor; or zeros for the end.
-#[unsafe(no_mangle)]
-pub extern "C" fn feed_image(
+pub fn feed_image(
     profile: &[u8],
     event: &[u8],
     first_start: usize,
@@ -164,10 +156,10 @@ pub extern "C" fn feed_image(
     out: &mut [u64],
 ) -> u64
     ensures value { result
-        ≡ statusOf 6 (feed_image profile.now event.now first_start first_length has_second second_start
+        ≡ status_of 6 (feed_image profile.now event.now first_start first_length has_second second_start
         second_length offset second) out.old }
     ensures out_after { out.new
-        ≡ numbersLeft 6 (feed_image profile.now event.now first_start first_length has_second second_start
+        ≡ numbers_left 6 (feed_image profile.now event.now first_start first_length has_second second_start
         second_length offset second) out.old }
 {
     if out.len() < 6 {

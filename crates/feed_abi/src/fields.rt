@@ -2,7 +2,7 @@
 ghost use Rattle.std.specs.Prelude.{◌≡◌, ◌≤◌, length};
 ghost use Rattle.wire.specs.Stored.{stored};
 ghost use Rattle.table_map.specs.Lists.{end, item, step, integer_item, pair_item, string_item, group_item};
-ghost use Rattle.feed_abi.specs.Answers.{answerNumber, answerNumbers, statusOf, numbersLeft};
+ghost use Rattle.feed_abi.specs.Answers.{answer_number, answer_numbers, status_of, numbers_left};
 ghost use Rattle.feed_abi.specs.Calls.{said};
 ghost use Rattle.feed_abi.specs.Fields.{parts_numbers, fields_numbers, field_numbers, in_two, item_at, item_numbers, feed_parts, feed_fields};
 ghost use Rattle.feed_abi.specs.Fields.{feed_field, feed_item};
@@ -95,8 +95,8 @@ fn tell_no_field(out: &mut [u64]) -> u64
 
 fn tell_item(met: ItemStep, out: &mut [u64]) -> u64
     requires { 4 ≤ length out.old }
-    ensures value { result ≡ answerNumber (said item_numbers (item_told met)) }
-    ensures out_after { out.new ≡ stored (answerNumbers (said item_numbers (item_told met))) out.old 0 }
+    ensures value { result ≡ answer_number (said item_numbers (item_told met)) }
+    ensures out_after { out.new ≡ stored (answer_numbers (said item_numbers (item_told met))) out.old 0 }
 {
     match met {
         ItemStep::Item {
@@ -199,10 +199,9 @@ fn item_at(list: u64, value: &[u8], offset: usize) -> ItemStep
 }
 
 // The parts of a map that are bytes for its columns, start and length each: types, metadata, nullable bits, optional fields.
-#[unsafe(no_mangle)]
-pub extern "C" fn feed_parts(event: &[u8], post_header: u8, out: &mut [u64]) -> u64
-    ensures value { result ≡ statusOf 8 (feed_parts event.now post_header) out.old }
-    ensures out_after { out.new ≡ numbersLeft 8 (feed_parts event.now post_header) out.old }
+pub fn feed_parts(event: &[u8], post_header: u8, out: &mut [u64]) -> u64
+    ensures value { result ≡ status_of 8 (feed_parts event.now post_header) out.old }
+    ensures out_after { out.new ≡ numbers_left 8 (feed_parts event.now post_header) out.old }
 {
     if out.len() < 8 {
         return NO_NUMBERS;
@@ -215,10 +214,9 @@ pub extern "C" fn feed_parts(event: &[u8], post_header: u8, out: &mut [u64]) -> 
 
 // The cursor that a walk over the optional fields begins with: where the first stands, how many columns have a signedness bit, and how many
 // columns there are.
-#[unsafe(no_mangle)]
-pub extern "C" fn feed_fields(event: &[u8], post_header: u8, dialect: u8, out: &mut [u64]) -> u64
-    ensures value { result ≡ statusOf 3 (feed_fields event.now post_header dialect) out.old }
-    ensures out_after { out.new ≡ numbersLeft 3 (feed_fields event.now post_header dialect) out.old }
+pub fn feed_fields(event: &[u8], post_header: u8, dialect: u8, out: &mut [u64]) -> u64
+    ensures value { result ≡ status_of 3 (feed_fields event.now post_header dialect) out.old }
+    ensures out_after { out.new ≡ numbers_left 3 (feed_fields event.now post_header dialect) out.old }
 {
     if out.len() < 3 {
         return NO_NUMBERS;
@@ -239,16 +237,15 @@ pub extern "C" fn feed_fields(event: &[u8], post_header: u8, dialect: u8, out: &
 
 // One step over the optional fields, from any cursor: 1, the field's type, start and length of its value, and where the next stands; or
 // zeros for the end. The counts of the next cursor are the same.
-#[unsafe(no_mangle)]
-pub extern "C" fn feed_field(
+pub fn feed_field(
     event: &[u8],
     offset: usize,
     numeric: usize,
     columns: usize,
     out: &mut [u64],
 ) -> u64
-    ensures value { result ≡ statusOf 5 (feed_field event.now offset numeric columns) out.old }
-    ensures out_after { out.new ≡ numbersLeft 5 (feed_field event.now offset numeric columns) out.old }
+    ensures value { result ≡ status_of 5 (feed_field event.now offset numeric columns) out.old }
+    ensures out_after { out.new ≡ numbers_left 5 (feed_field event.now offset numeric columns) out.old }
 {
     if out.len() < 5 {
         return NO_NUMBERS;
@@ -267,10 +264,9 @@ pub extern "C" fn feed_field(
 
 // One step over a list in the value of an optional field, from any offset: 1, two numbers for the item, and where the next stands; or zeros
 // for the end. 13 for a list that there is not.
-#[unsafe(no_mangle)]
-pub extern "C" fn feed_item(list: u64, value: &[u8], offset: usize, out: &mut [u64]) -> u64
-    ensures value { result ≡ statusOf 4 (feed_item list value.now offset) out.old }
-    ensures out_after { out.new ≡ numbersLeft 4 (feed_item list value.now offset) out.old }
+pub fn feed_item(list: u64, value: &[u8], offset: usize, out: &mut [u64]) -> u64
+    ensures value { result ≡ status_of 4 (feed_item list value.now offset) out.old }
+    ensures out_after { out.new ≡ numbers_left 4 (feed_item list value.now offset) out.old }
 {
     if out.len() < 4 {
         return NO_NUMBERS;

@@ -4,7 +4,7 @@ ghost use Rattle.wire.specs.Stored.{stored, answer_of};
 ghost use Rattle.row_plan.specs.Plan.{planned_told};
 ghost use Rattle.row_plan.specs.Runs.{ran_told};
 ghost use Rattle.row_plan.specs.Puts.{item_put_told};
-ghost use Rattle.feed_abi.specs.Answers.{answerNumber, answerNumbers, statusOf, numbersLeft, bytesLeft};
+ghost use Rattle.feed_abi.specs.Answers.{answer_number, answer_numbers, status_of, numbers_left, bytes_left};
 ghost use Rattle.feed_abi.specs.Calls.{said, plan_numbers, run_numbers, put_numbers, feed_plan, feed_run, feed_put_item};
 
 use crate::answer::{NO_NUMBERS, tell, tell_refusal};
@@ -23,8 +23,8 @@ fn tell_made(len: usize, items: usize, out: &mut [u64]) -> u64
 // What the maker of plans answered.
 fn tell_planned(planned: Planned, out: &mut [u64]) -> u64
     requires { 2 ≤ length out.old }
-    ensures value { result ≡ answerNumber (said plan_numbers (planned_told planned)) }
-    ensures out_after { out.new ≡ stored (answerNumbers (said plan_numbers (planned_told planned))) out.old 0 }
+    ensures value { result ≡ answer_number (said plan_numbers (planned_told planned)) }
+    ensures out_after { out.new ≡ stored (answer_numbers (said plan_numbers (planned_told planned))) out.old 0 }
 {
     match planned {
         Planned::Made { len, items } => tell_made(len, items, out),
@@ -49,8 +49,8 @@ fn tell_ran(values: usize, next: RowCursor, out: &mut [u64]) -> u64
 // What a run answered.
 fn tell_run(run: Run, out: &mut [u64]) -> u64
     requires { 4 ≤ length out.old }
-    ensures value { result ≡ answerNumber (said run_numbers (ran_told run)) }
-    ensures out_after { out.new ≡ stored (answerNumbers (said run_numbers (ran_told run))) out.old 0 }
+    ensures value { result ≡ answer_number (said run_numbers (ran_told run)) }
+    ensures out_after { out.new ≡ stored (answer_numbers (said run_numbers (ran_told run))) out.old 0 }
 {
     match run {
         Run::Ran { values, next } => tell_ran(values, next, out),
@@ -70,8 +70,8 @@ fn tell_item(at: ItemCursor, out: &mut [u64]) -> u64
 // What the writer of a value answered.
 fn tell_item_put(put: ItemPut, out: &mut [u64]) -> u64
     requires { 2 ≤ length out.old }
-    ensures value { result ≡ answerNumber (said put_numbers (item_put_told put)) }
-    ensures out_after { out.new ≡ stored (answerNumbers (said put_numbers (item_put_told put))) out.old 0 }
+    ensures value { result ≡ answer_number (said put_numbers (item_put_told put)) }
+    ensures out_after { out.new ≡ stored (answer_numbers (said put_numbers (item_put_told put))) out.old 0 }
 {
     match put {
         ItemPut::Next(next) => tell_item(next, out),
@@ -80,19 +80,13 @@ fn tell_item_put(put: ItemPut, out: &mut [u64]) -> u64
 }
 
 // Makes the plan of a record and presence bits at the start of plan: its length, and how many items it has, one for each present column.
-#[unsafe(no_mangle)]
-pub extern "C" fn feed_plan(
-    profile: &[u8],
-    presence: &[u8],
-    plan: &mut [u8],
-    out: &mut [u64],
-) -> u64
-    ensures value { result ≡ statusOf 2 (answer_of (feed_plan profile.now presence.now plan.old))
+pub fn feed_plan(profile: &[u8], presence: &[u8], plan: &mut [u8], out: &mut [u64]) -> u64
+    ensures value { result ≡ status_of 2 (answer_of (feed_plan profile.now presence.now plan.old))
         out.old }
     ensures out_after { out.new
-        ≡ numbersLeft 2 (answer_of (feed_plan profile.now presence.now plan.old)) out.old }
+        ≡ numbers_left 2 (answer_of (feed_plan profile.now presence.now plan.old)) out.old }
     ensures plan_after { plan.new
-        ≡ bytesLeft 2 (feed_plan profile.now presence.now plan.old) out.old
+        ≡ bytes_left 2 (feed_plan profile.now presence.now plan.old) out.old
         plan.old }
 {
     if out.len() < 2 {
@@ -103,8 +97,7 @@ pub extern "C" fn feed_plan(
 
 // Many values at once, by any plan, from any cursor, through images laid end to end: how many were stored in values, eight numbers each,
 // and the cursor of the next, start, item and offset.
-#[unsafe(no_mangle)]
-pub extern "C" fn feed_run(
+pub fn feed_run(
     plan: &[u8],
     images: &[u8],
     start: usize,
@@ -114,13 +107,13 @@ pub extern "C" fn feed_run(
     out: &mut [u64],
 ) -> u64
     ensures value { result
-        ≡ statusOf 4 (answer_of (feed_run plan.now images.now start item offset values.old))
+        ≡ status_of 4 (answer_of (feed_run plan.now images.now start item offset values.old))
         out.old }
     ensures out_after { out.new
-        ≡ numbersLeft 4 (answer_of (feed_run plan.now images.now start item offset values.old))
+        ≡ numbers_left 4 (answer_of (feed_run plan.now images.now start item offset values.old))
         out.old }
     ensures values_after { values.new
-        ≡ bytesLeft 4 (feed_run plan.now images.now start item offset values.old)
+        ≡ bytes_left 4 (feed_run plan.now images.now start item offset values.old)
         out.old values.old }
 {
     if out.len() < 4 {
@@ -135,8 +128,7 @@ pub extern "C" fn feed_run(
 }
 
 // Stores one value, or nothing for NULL, for an item of any plan: the next item, and where its value goes.
-#[unsafe(no_mangle)]
-pub extern "C" fn feed_put_item(
+pub fn feed_put_item(
     plan: &[u8],
     nulls: &[u8],
     item: usize,
@@ -148,13 +140,13 @@ pub extern "C" fn feed_put_item(
     out: &mut [u64],
 ) -> u64
     ensures value { result
-        ≡ statusOf 2 (answer_of (feed_put_item plan.now nulls.now item offset sort parts.now
+        ≡ status_of 2 (answer_of (feed_put_item plan.now nulls.now item offset sort parts.now
         lent.now image.old)) out.old }
     ensures out_after { out.new
-        ≡ numbersLeft 2 (answer_of (feed_put_item plan.now nulls.now item offset sort parts.now
+        ≡ numbers_left 2 (answer_of (feed_put_item plan.now nulls.now item offset sort parts.now
         lent.now image.old)) out.old }
     ensures image_after { image.new
-        ≡ bytesLeft 2 (feed_put_item plan.now nulls.now item offset sort parts.now
+        ≡ bytes_left 2 (feed_put_item plan.now nulls.now item offset sort parts.now
         lent.now image.old) out.old image.old }
 {
     if out.len() < 2 {

@@ -4,7 +4,7 @@ ghost use Rattle.wire.specs.Stored.{stored, answer_of};
 ghost use Rattle.value_parts.specs.Parts.{sort_of, parts_of, is_held};
 ghost use Rattle.image.specs.Split.{cursor, step_from};
 ghost use Rattle.image.specs.Puts.{put_told};
-ghost use Rattle.feed_abi.specs.Answers.{answerNumber, answerNumbers, statusOf, numbersLeft, bytesLeft};
+ghost use Rattle.feed_abi.specs.Answers.{answer_number, answer_numbers, status_of, numbers_left, bytes_left};
 ghost use Rattle.feed_abi.specs.Calls.{said, cursor_numbers, step_numbers, room_numbers, Held, feed_first, feed_step, feed_start, feed_put};
 ghost use Rattle.feed_abi.specs.Calls.{feed_room};
 
@@ -54,8 +54,8 @@ fn tell_end(used: usize, out: &mut [u64]) -> u64
 // What a writer of images answered.
 fn tell_put(put: Put, out: &mut [u64]) -> u64
     requires { 2 ≤ length out.old }
-    ensures value { result ≡ answerNumber (said cursor_numbers (put_told put)) }
-    ensures out_after { out.new ≡ stored (answerNumbers (said cursor_numbers (put_told put))) out.old 0 }
+    ensures value { result ≡ answer_number (said cursor_numbers (put_told put)) }
+    ensures out_after { out.new ≡ stored (answer_numbers (said cursor_numbers (put_told put))) out.old 0 }
 {
     match put {
         Put::Next(next) => tell_cursor(next, out),
@@ -73,10 +73,9 @@ fn tell_room(bytes: u64, out: &mut [u64]) -> u64
 }
 
 // The cursor that a walk begins with: column and offset.
-#[unsafe(no_mangle)]
-pub extern "C" fn feed_first(profile: &[u8], presence: &[u8], out: &mut [u64]) -> u64
-    ensures value { result ≡ statusOf 2 (feed_first profile.now presence.now) out.old }
-    ensures out_after { out.new ≡ numbersLeft 2 (feed_first profile.now presence.now) out.old }
+pub fn feed_first(profile: &[u8], presence: &[u8], out: &mut [u64]) -> u64
+    ensures value { result ≡ status_of 2 (feed_first profile.now presence.now) out.old }
+    ensures out_after { out.new ≡ numbers_left 2 (feed_first profile.now presence.now) out.old }
 {
     if out.len() < 2 {
         return NO_NUMBERS;
@@ -88,8 +87,7 @@ pub extern "C" fn feed_first(profile: &[u8], presence: &[u8], out: &mut [u64]) -
 }
 
 // One step over an image, from any cursor: sort, column, next column, next offset, and the seven parts of the value.
-#[unsafe(no_mangle)]
-pub extern "C" fn feed_step(
+pub fn feed_step(
     profile: &[u8],
     presence: &[u8],
     image: &[u8],
@@ -97,10 +95,10 @@ pub extern "C" fn feed_step(
     offset: usize,
     out: &mut [u64],
 ) -> u64
-    ensures value { result ≡ statusOf 11 (feed_step profile.now presence.now image.now column offset)
+    ensures value { result ≡ status_of 11 (feed_step profile.now presence.now image.now column offset)
         out.old }
     ensures out_after { out.new
-        ≡ numbersLeft 11 (feed_step profile.now presence.now image.now column offset) out.old }
+        ≡ numbers_left 11 (feed_step profile.now presence.now image.now column offset) out.old }
     ensures held { result ≡ 0
         → Held (step_from profile.now presence.now image.now (cursor column offset)) }
 {
@@ -121,8 +119,7 @@ pub extern "C" fn feed_step(
 }
 
 // Stores the null bits of an image: the cursor of its first value.
-#[unsafe(no_mangle)]
-pub extern "C" fn feed_start(
+pub fn feed_start(
     profile: &[u8],
     presence: &[u8],
     nulls: &[u8],
@@ -130,13 +127,13 @@ pub extern "C" fn feed_start(
     out: &mut [u64],
 ) -> u64
     ensures value { result
-        ≡ statusOf 2 (answer_of (feed_start profile.now presence.now nulls.now image.old))
+        ≡ status_of 2 (answer_of (feed_start profile.now presence.now nulls.now image.old))
         out.old }
     ensures out_after { out.new
-        ≡ numbersLeft 2 (answer_of (feed_start profile.now presence.now nulls.now image.old))
+        ≡ numbers_left 2 (answer_of (feed_start profile.now presence.now nulls.now image.old))
         out.old }
     ensures image_after { image.new
-        ≡ bytesLeft 2 (feed_start profile.now presence.now nulls.now image.old)
+        ≡ bytes_left 2 (feed_start profile.now presence.now nulls.now image.old)
         out.old image.old }
 {
     if out.len() < 2 {
@@ -146,8 +143,7 @@ pub extern "C" fn feed_start(
 }
 
 // Stores one value, or nothing for NULL, at a cursor: the cursor of the next.
-#[unsafe(no_mangle)]
-pub extern "C" fn feed_put(
+pub fn feed_put(
     profile: &[u8],
     presence: &[u8],
     nulls: &[u8],
@@ -160,13 +156,13 @@ pub extern "C" fn feed_put(
     out: &mut [u64],
 ) -> u64
     ensures value { result
-        ≡ statusOf 2 (answer_of (feed_put profile.now presence.now nulls.now column offset sort
+        ≡ status_of 2 (answer_of (feed_put profile.now presence.now nulls.now column offset sort
         parts.now lent.now image.old)) out.old }
     ensures out_after { out.new
-        ≡ numbersLeft 2 (answer_of (feed_put profile.now presence.now nulls.now column offset sort
+        ≡ numbers_left 2 (answer_of (feed_put profile.now presence.now nulls.now column offset sort
         parts.now lent.now image.old)) out.old }
     ensures image_after { image.new
-        ≡ bytesLeft 2 (feed_put profile.now presence.now nulls.now column offset sort
+        ≡ bytes_left 2 (feed_put profile.now presence.now nulls.now column offset sort
         parts.now lent.now image.old) out.old image.old }
 {
     if out.len() < 2 {
@@ -181,10 +177,9 @@ pub extern "C" fn feed_put(
 }
 
 // The most bytes that an image can take, and 0.
-#[unsafe(no_mangle)]
-pub extern "C" fn feed_room(profile: &[u8], presence: &[u8], out: &mut [u64]) -> u64
-    ensures value { result ≡ statusOf 2 (feed_room profile.now presence.now) out.old }
-    ensures out_after { out.new ≡ numbersLeft 2 (feed_room profile.now presence.now) out.old }
+pub fn feed_room(profile: &[u8], presence: &[u8], out: &mut [u64]) -> u64
+    ensures value { result ≡ status_of 2 (feed_room profile.now presence.now) out.old }
+    ensures out_after { out.new ≡ numbers_left 2 (feed_room profile.now presence.now) out.old }
 {
     if out.len() < 2 {
         return NO_NUMBERS;

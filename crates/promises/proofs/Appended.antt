@@ -33,7 +33,7 @@ use Rattle.table_map.proofs.FieldMoves.{cut_moved, field_moved, value_same}
 use Rattle.record.specs.Entries.{flags_hold, charset_holds, entry_holds, entry_of}
 use Rattle.record.specs.Records.{entry_in, entries_hold, head_holds, record_valid, read_record}
 use Rattle.image.specs.Present.{count_bits, shape_at, present_from}
-use Rattle.image.specs.Split.{ColumnStepped, cursor, end as image-end, slots, slots_at, head_of, first_cursor, slots_left, step_over, step_from}
+use Rattle.image.specs.Split.{ColumnStepped, cursor, end as image_end, slots, slots_at, head_of, first_cursor, slots_left, step_over, step_from}
 use Rattle.image.specs.Walk.{read_slot, read_slots, walk_from, walk_image}
 use Rattle.image.specs.Grown.{Later, Grows, same, more}
 use Rattle.image.proofs.AppendLaws.GrownSteps.{step_more, step_filled}
@@ -69,7 +69,7 @@ field_new c s b t e =
 
 -- ---- computed
 past_ends : (step_from worked_record (7 ∷ []) (take 8 worked_image) (cursor 3 9) ≡ refuse 9 3)
-    × (step_from worked_record (7 ∷ []) worked_image (cursor 3 9) ≡ ok (image-end 9))
+    × (step_from worked_record (7 ∷ []) worked_image (cursor 3 9) ≡ ok (image_end 9))
 unfolding le_value digit bit_lsb0 family_of is_numeric is_character is_enum_or_set shape_in shape_of is_taken flags_hold charset_holds entry_holds
     entry_of entry_in entries_hold head_holds record_valid read_record count_bits shape_at present_from slots slots_at head_of slots_left step_over
     step_from

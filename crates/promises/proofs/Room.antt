@@ -17,7 +17,7 @@ use Rattle.image.specs.Room.{image_room, read_room}
 use Rattle.image.proofs.CursorLaws.Heads.{Over, head_is}
 use Rattle.image.proofs.PresenceLaws.Presents.{good_present}
 use Rattle.image.proofs.RoomLaws.Adds.{room_small, room_widest, room_none}
-use Rattle.image.proofs.RoomLaws.Rooms as rooms-of
+use Rattle.image.proofs.RoomLaws.Rooms as rooms_of
 use Rattle.promises.specs.RowPlans.{worked_record}
 use Rattle.promises.specs.Room.{Reached, column_with, Rooms}
 use Rattle.promises.proofs.Demand3.Images.{relied}
@@ -28,14 +28,14 @@ told r p v b = let u : Over r p = record { valid = v; bits = b } in rw (head_is 
 
 reached : (r p : List ℕ) → record_valid r ≡ true → length p ≡ bytes_for (count_of r) → Reached r p
 reached r p v b =
-    let ds = rooms-of.fullest_row (present r p) in
-    let given = (relied r v).every_row p ds b (rooms-of.fullest_row_lem (present r p) (good_present r p v)) in
+    let ds = rooms_of.fullest_row (present r p) in
+    let given = (relied r v).every_row p ds b (rooms_of.fullest_row_lem (present r p) (good_present r p v)) in
     let nulls = given.0 in
     let gs = given.1 in
     let fit = given.2 in
     let e : row_of gs ≡ ds = given.3 in
     let size : image_size r p nulls (row_of gs) ≡ image_room r p =
-    ap (image_size r p nulls) e ∙ rooms-of.reached r p nulls v (fit.size ∙ ap (λ (x : Row). bytes_for (length x)) e) in
+    ap (image_size r p nulls) e ∙ rooms_of.reached r p nulls v (fit.size ∙ ap (λ (x : Row). bytes_for (length x)) e) in
     record {
       nulls = nulls;
       row = gs;
@@ -58,10 +58,10 @@ lengths = (refl, refl)
 pub rooms : Rooms
 rooms = record {
   told = told;
-  no_more = rooms-of.no_more;
-  read_no_more = rooms-of.walked_most;
+  no_more = rooms_of.no_more;
+  read_no_more = rooms_of.walked_most;
   reached = reached;
-  never_for_room = rooms-of.never_for_room;
+  never_for_room = rooms_of.never_for_room;
   most = room_small;
   fits = λ r p v. omega (arith, room_small r p v);
   widest = room_widest;

@@ -1,6 +1,6 @@
 -- Demand 1 for the calls of `feed_abi`, which programs in C make: which refusals each gives and at which places, and what that means to the
--- caller, who sees a status, the numbers and the bytes lent. A call stands here by the answer that its contract hands to `statusOf`,
--- `numbersLeft` and `bytesLeft`, whatever it is lent. `abi` in proofs/Demand1/Abi.antt proves all of it. Assumes nothing.
+-- caller, who sees a status, the numbers and the bytes lent. A call stands here by the answer that its contract hands to `status_of`,
+-- `numbers_left` and `bytes_left`, whatever it is lent. `abi` in proofs/Demand1/Abi.antt proves all of it. Assumes nothing.
 use Rattle.std.specs.Prelude.{ℕ, ◌+◌, ◌≤◌, ◌<◌, ◌≡◌, true, false, List, [], ◌∷◌, ◌++◌, length, get_or, take, drop}
 use Rattle.std.proofs.Math.Option.{none, some}
 use Rattle.wire.specs.declared.refusal.Refusal.{Refusal}
@@ -22,7 +22,7 @@ use Rattle.image.specs.Split.{null, value, step_from}
 use Rattle.blocks.specs.declared.state.Arriving.{Arriving}
 use Rattle.row_plan.specs.Plan.{row_cursor}
 use Rattle.row_plan.specs.Runs.{turned}
-use Rattle.feed_abi.specs.Answers.{statusOf, numbersLeft, bytesLeft}
+use Rattle.feed_abi.specs.Answers.{status_of, numbers_left, bytes_left}
 use Rattle.feed_abi.specs.Calls.{dialect_of, told_numbers, feed_map, feed_check, feed_column, feed_names, feed_name, feed_first, feed_step}
 use Rattle.feed_abi.specs.Calls.{feed_start, feed_put, feed_room, feed_rows, feed_image, feed_plan, feed_run, feed_put_item}
 use Rattle.feed_abi.specs.Fields.{feed_parts, feed_fields, feed_field, feed_item}
@@ -138,28 +138,28 @@ pub record AbiCalls : Type 1 where
   -- ---- all calls: out is the buffer of numbers, and k how many the call's answer has
   -- the status is 0 exactly if the answer is no refusal and there is room for its numbers
   pub status_zero : (k : ℕ) (out : List ℕ) (answer : Outcome (List ℕ)) (ls : List Line) → Only answer ls
-      → (statusOf k answer out ≡ 0 → Answered k out answer) × (Answered k out answer → statusOf k answer out ≡ 0)
+      → (status_of k answer out ≡ 0 → Answered k out answer) × (Answered k out answer → status_of k answer out ≡ 0)
   -- else it is a number of document 01's table
-  pub status_table : (k : ℕ) (out : List ℕ) (answer : Outcome (List ℕ)) (ls : List Line) → Only answer ls → (statusOf k answer out ≡ 0 → ⊥)
-      → is_among (statusOf k answer out) refusal_numbers ≡ true
+  pub status_table : (k : ℕ) (out : List ℕ) (answer : Outcome (List ℕ)) (ls : List Line) → Only answer ls → (status_of k answer out ≡ 0 → ⊥)
+      → is_among (status_of k answer out) refusal_numbers ≡ true
   -- that of the refusal, whose place and part are then the first two numbers; without room for the numbers it is 8, and they are as they
   -- were
   pub status_told : (k : ℕ) (out : List ℕ) (answer : Outcome (List ℕ)) (w : Refusal) → 2 ≤ k → k ≤ length out → answer ≡ refused w
-      → (statusOf k answer out ≡ w.number) × (get_or (numbersLeft k answer out) 0 0 ≡ w.place)
-      × (get_or (numbersLeft k answer out) 1 0 ≡ w.part)
+      → (status_of k answer out ≡ w.number) × (get_or (numbers_left k answer out) 0 0 ≡ w.place)
+      × (get_or (numbers_left k answer out) 1 0 ≡ w.part)
   pub no_numbers : (k : ℕ) (out : List ℕ) (answer : Outcome (List ℕ)) → length out < k
-      → (statusOf k answer out ≡ 8) × (numbersLeft k answer out ≡ out)
+      → (status_of k answer out ≡ 8) × (numbers_left k answer out ≡ out)
   -- and then the numbers are as they were, but for those two
-  pub numbers_kept : (k : ℕ) (out : List ℕ) (answer : Outcome (List ℕ)) → 2 ≤ k → (statusOf k answer out ≡ 0 → ⊥)
-      → Touched out 0 2 (numbersLeft k answer out)
+  pub numbers_kept : (k : ℕ) (out : List ℕ) (answer : Outcome (List ℕ)) → 2 ≤ k → (status_of k answer out ≡ 0 → ⊥)
+      → Touched out 0 2 (numbers_left k answer out)
   -- and the bytes lent to a writer, or the numbers lent for values, are as they were
-  pub bytes_kept : (k : ℕ) (out buf : List ℕ) (rule : Outcome (List ℕ × List ℕ)) → (statusOf k (answer_of rule) out ≡ 0 → ⊥)
-      → bytesLeft k rule out buf ≡ buf
+  pub bytes_kept : (k : ℕ) (out buf : List ℕ) (rule : Outcome (List ℕ × List ℕ)) → (status_of k (answer_of rule) out ≡ 0 → ⊥)
+      → bytes_left k rule out buf ≡ buf
   -- where there is an answer, and room for its numbers, they stand at the start; and the bytes lent to a writer are what its rule leaves
   pub numbers_told : (k : ℕ) (out : List ℕ) (answer : Outcome (List ℕ)) (ns : List ℕ) → k ≤ length out → answer ≡ ok ns
-      → take (length ns) (numbersLeft k answer out) ≡ ns
+      → take (length ns) (numbers_left k answer out) ≡ ns
   pub bytes_told : (k : ℕ) (out buf : List ℕ) (rule : Outcome (List ℕ × List ℕ)) (ns left : List ℕ) → k ≤ length out → rule ≡ ok (ns, left)
-      → bytesLeft k rule out buf ≡ left
+      → bytes_left k rule out buf ≡ left
   -- ---- how many numbers each answer has
   pub map_six : (event : List ℕ) (post_header : ℕ) → Counts 6 (feed_map event post_header)
   pub check_two : (event : List ℕ) (post_header dialect : ℕ) (buf : List ℕ) → Counts 2 (answer_of (feed_check event post_header dialect buf))
@@ -191,7 +191,7 @@ pub record AbiCalls : Type 1 where
       → Counts 15 (feed_end profile presence carry phase column held left used)
   -- so many are touched, and no others
   pub numbers_touched : (k : ℕ) (out : List ℕ) (answer : Outcome (List ℕ)) → Counts k answer → Answered k out answer
-      → Touched out 0 k (numbersLeft k answer out)
+      → Touched out 0 k (numbers_left k answer out)
   -- ---- the five numbers that are told of a state ask for that state
   pub state_back : (st : Arriving) → state_asked (phase_number st.phase) st.column st.held st.left st.used ≡ st
   -- ---- what `feed_step` tells of a value makes that value where it is put, whatever stands behind its numbers

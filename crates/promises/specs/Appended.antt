@@ -18,7 +18,7 @@ use Rattle.table_map.specs.Fields.{cut_field, field_item, field_step}
 use Rattle.record.specs.Records.{count_of}
 use Rattle.image.specs.declared.cursor.Cursor.{Cursor}
 use Rattle.image.specs.Present.{count_bits}
-use Rattle.image.specs.Split.{ColumnStepped, cursor, end as image-end, step_from}
+use Rattle.image.specs.Split.{ColumnStepped, cursor, end as image_end, step_from}
 use Rattle.image.specs.Walk.{walk_image}
 use Rattle.image.specs.Grown.{Later, Filled, Grows}
 use Rattle.rows_event.specs.Events.{read_rows}
@@ -56,7 +56,7 @@ pub record Appended : Type 0 where
       → Grows Filled (step_from profile presence image c) (step_from profile presence (image ++ more) c)
   -- a 9 for an offset past the image is no value's, and may become the end, which stands at no column
   pub past_ends : (step_from worked_record (7 ∷ []) (take 8 worked_image) (cursor 3 9) ≡ refuse 9 3)
-      × (step_from worked_record (7 ∷ []) worked_image (cursor 3 9) ≡ ok (image-end 9))
+      × (step_from worked_record (7 ∷ []) worked_image (cursor 3 9) ≡ ok (image_end 9))
   -- ---- "For the packed integer reader and one optional field likewise: only a refusal 1 may change"
   -- a packed integer, at any place
   pub packed : (s more : List ℕ) (at : ℕ) → Stays 1 (read_packed s at) (read_packed (s ++ more) at)

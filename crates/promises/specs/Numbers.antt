@@ -1,9 +1,9 @@
 -- The numbers of the calls for C (docs/ABI.md, bindings/feed.h): sorts of values and their parts, dialects, statuses, and the order in
 -- which every answer has its numbers. `numbers` in proofs/Readings/Numbers.antt proves all of it. Assumes nothing.
 use Rattle.std.specs.Prelude.{ℕ, suc, ◌≡◌, List, [], ◌∷◌, length, replicate}
-use Rattle.wire.specs.Outcome.{refused as refusedAs, out_of, Outcome, ok, refuse}
+use Rattle.wire.specs.Outcome.{refused as refused_as, out_of, Outcome, ok, refuse}
 use Rattle.value.specs.declared.classes.Dialect.TheVariants.{Document, Mysql, Mariadb}
-use Rattle.feed_abi.specs.Answers.{statusOf, numbersLeft, bytesLeft}
+use Rattle.feed_abi.specs.Answers.{status_of, numbers_left, bytes_left}
 use Rattle.feed_abi.specs.Calls.{dialect_of, feed_map, feed_check, feed_column, feed_names, feed_name, feed_first, feed_step, feed_start, feed_put}
 use Rattle.feed_abi.specs.Calls.{feed_room, feed_rows, feed_image}
 use Rattle.feed_abi.specs.Fields.{feed_parts, feed_fields, feed_field, feed_item}
@@ -132,13 +132,13 @@ pub record Numbers : Type 0 where
   -- ---- every call
   -- status 0 and the numbers, or the refusal's number and its place; 8, and nothing changed, without room for the numbers. Bytes are left
   -- as the writer leaves them
-  pub answered : (statusOf 2 (ok (5 ∷ 6 ∷ [])) (7 ∷ 7 ∷ 7 ∷ []) ≡ 0) × (numbersLeft 2 (ok (5 ∷ 6 ∷ [])) (7 ∷ 7 ∷ 7 ∷ []) ≡ 5 ∷ 6 ∷ 7 ∷ [])
-  pub refused : (statusOf 2 (refuse 14 9) (7 ∷ 7 ∷ 7 ∷ []) ≡ 14) × (numbersLeft 2 (refuse 14 9) (7 ∷ 7 ∷ 7 ∷ []) ≡ 9 ∷ 0 ∷ 7 ∷ [])
-  pub part_told : (statusOf 2 (refusedAs (out_of 9 2)) (7 ∷ 7 ∷ 7 ∷ []) ≡ 10)
-      × (numbersLeft 2 (refusedAs (out_of 9 2)) (7 ∷ 7 ∷ 7 ∷ []) ≡ 9 ∷ 2 ∷ 7 ∷ [])
-  pub no_room : (statusOf 2 (ok (5 ∷ 6 ∷ [])) (7 ∷ []) ≡ 8) × (numbersLeft 2 (ok (5 ∷ 6 ∷ [])) (7 ∷ []) ≡ 7 ∷ [])
-  pub bytes_left_lem : (bytesLeft 1 (ok (5 ∷ [], 2 ∷ [])) (7 ∷ []) (1 ∷ []) ≡ 2 ∷ [])
-      × (bytesLeft 1 (refuse 8 0) (7 ∷ []) (1 ∷ []) ≡ 1 ∷ []) × (bytesLeft 1 (ok (5 ∷ [], 2 ∷ [])) [] (1 ∷ []) ≡ 1 ∷ [])
+  pub answered : (status_of 2 (ok (5 ∷ 6 ∷ [])) (7 ∷ 7 ∷ 7 ∷ []) ≡ 0) × (numbers_left 2 (ok (5 ∷ 6 ∷ [])) (7 ∷ 7 ∷ 7 ∷ []) ≡ 5 ∷ 6 ∷ 7 ∷ [])
+  pub refused : (status_of 2 (refuse 14 9) (7 ∷ 7 ∷ 7 ∷ []) ≡ 14) × (numbers_left 2 (refuse 14 9) (7 ∷ 7 ∷ 7 ∷ []) ≡ 9 ∷ 0 ∷ 7 ∷ [])
+  pub part_told : (status_of 2 (refused_as (out_of 9 2)) (7 ∷ 7 ∷ 7 ∷ []) ≡ 10)
+      × (numbers_left 2 (refused_as (out_of 9 2)) (7 ∷ 7 ∷ 7 ∷ []) ≡ 9 ∷ 2 ∷ 7 ∷ [])
+  pub no_room : (status_of 2 (ok (5 ∷ 6 ∷ [])) (7 ∷ []) ≡ 8) × (numbers_left 2 (ok (5 ∷ 6 ∷ [])) (7 ∷ []) ≡ 7 ∷ [])
+  pub bytes_left_lem : (bytes_left 1 (ok (5 ∷ [], 2 ∷ [])) (7 ∷ []) (1 ∷ []) ≡ 2 ∷ [])
+      × (bytes_left 1 (refuse 8 0) (7 ∷ []) (1 ∷ []) ≡ 1 ∷ []) × (bytes_left 1 (ok (5 ∷ [], 2 ∷ [])) [] (1 ∷ []) ≡ 1 ∷ [])
   -- ---- maps
   -- table id, flags, start and length of the database's name and of the table's
   pub map_numbers : feed_map

@@ -18,7 +18,7 @@ use Rattle.wire.specs.Stored.{stored}
 use Rattle.value.specs.declared.shape.Shape.{Shape}
 use Rattle.value.specs.declared.datum.Value.{Value}
 use Rattle.value.specs.declared.datum.Value.TheVariants.{Null}
-use Rattle.value.specs.Data.{Datum, null as nullDatum}
+use Rattle.value.specs.Data.{Datum, null as null_datum}
 use Rattle.value.specs.Ops.{shape_for}
 use Rattle.value.specs.Reading.{read_datum, read_value, placed, datum_of}
 use Rattle.value.proofs.Laws.{said_read}
@@ -135,12 +135,12 @@ module _ (plan images : List ℕ) (start : ℕ) where
 
     by_bit : (bit : Bool) → bit_lsb0 im item ≡ bit
         → RowRun plan images start item offset
-        (answered (column item) behind (cond bit (ok (nullDatum, 0)) (read_datum (shape item) (column item) (drop offset im))))
+        (answered (column item) behind (cond bit (ok (null_datum, 0)) (read_datum (shape item) (column item) (drop offset im))))
     unfolding datum_of
     by_bit true u =
         let z : offset + 0 ≡ offset = omega arith in
-        subst (λ (w : RowWalked). RowRun plan images start item offset (with_answer (column item, nullDatum) w)) (behind_is 0)
-        (more item offset (offset + 0) Null (column item, nullDatum) _ t (item_null plan im start item offset u ∙ rw z) refl
+        subst (λ (w : RowWalked). RowRun plan images start item offset (with_answer (column item, null_datum) w)) (behind_is 0)
+        (more item offset (offset + 0) Null (column item, null_datum) _ t (item_null plan im start item offset u ∙ rw z) refl
         (ih (offset + 0) (rw z t.offset)))
     by_bit false u = by_read u (read_datum (shape item) (column item) (drop offset im)) refl
 
@@ -152,7 +152,7 @@ module _ (plan images : List ℕ) (start : ℕ) where
   one_slot : (item offset : ℕ)
       → read_slots (record { present = item_at plan item; null = bit_lsb0 im item } ∷ plan_slots plan im (suc item)) (drop offset im) offset
       ≡ answered (column item) (λ n. read_slots (plan_slots plan im (suc item)) (drop n (drop offset im)) (offset + n))
-      (cond (bit_lsb0 im item) (ok (nullDatum, 0)) (read_datum (shape item) (column item) (drop offset im)))
+      (cond (bit_lsb0 im item) (ok (null_datum, 0)) (read_datum (shape item) (column item) (drop offset im)))
   unfolding read_slots read_slot item_at
   one_slot item offset = refl
 

@@ -15,7 +15,7 @@ use Rattle.wire.specs.Bits.{bytes_for}
 use Rattle.wire.specs.Packed.{read_fixed, read_packed}
 use Rattle.wire.specs.Parts.{part, lent_part, within}
 use Rattle.wire.specs.Layouts.{PartForm, integer, sized, Whole, all_bytes, all_sized, Layout, ◌then◌, Starts, count as at_count}
-use Rattle.wire.specs.Layouts.{behind as behind-part}
+use Rattle.wire.specs.Layouts.{behind as behind_part}
 use Rattle.wire.proofs.Outcomes.{same_ok, same_refused, ok_not_refused, after_is_ok, after_refuses, test_is_ok, by_test}
 use Rattle.wire.specs.Number.{Bytes}
 use Rattle.wire.proofs.Inverse.{bytes_drop}
@@ -106,7 +106,7 @@ pub behind_extra : (has : Bool) (s : List ℕ) (l : Layout) (x : Extra × ℕ) �
     → Starts s l x.1 f q
     → Starts s (cond has (sized then l) l) 8 f q
 unfolding extra_at
-behind_extra true s l x e a = behind-part (extra_whole s x e) a
+behind_extra true s l x e a = behind_part (extra_whole s x e) a
 behind_extra false s l x e {f} {q} a =
     let z : 8 ≡ x.1 = ap (λ (y : Extra × ℕ). y.1) (same_ok e) in
     subst (λ (o : ℕ). Starts s l o f q) (sym z) a
@@ -128,8 +128,8 @@ counted_at f s p e =
     let k = sets_sized f.second n.0.0 s n.0.1 y.0 n.2 in
     subst (CountedAt f s) (same_ok y.2) (record {
       starts =
-          behind-part (all_bytes (omega (arith, b.next_is, b.ends)))
-          (behind-part (all_bytes (omega (arith, b.next_is, b.ends)))
+          behind_part (all_bytes (omega (arith, b.next_is, b.ends)))
+          (behind_part (all_bytes (omega (arith, b.next_is, b.ends)))
           (behind_extra f.extra s (sets_layout f.second) x.0 x.1 at_count));
       next = n.0.1;
       read = n.1 ∙ ap (λ (m : ℕ). ok (m, n.0.1)) (sym k.0);

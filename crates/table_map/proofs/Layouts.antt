@@ -14,14 +14,14 @@ use Rattle.wire.specs.Packed.{read_packed}
 use Rattle.wire.specs.Parts.{within}
 use Rattle.wire.specs.Layouts.{named, string, Whole, all_named, all_string, Cut, few_named, few_length, few_string, Unpacked, bad_length}
 use Rattle.wire.proofs.Outcomes.{after_refuses, ok_not_refused}
-use Rattle.wire.proofs.Forms.{Refuses, short, none, read_refuses, cut_told as integer_cut, none_told as integer-none}
+use Rattle.wire.proofs.Forms.{Refuses, short, none, read_refuses, cut_told as integer_cut, none_told as integer_none}
 use Rattle.wire.proofs.Parts.{within_ok, within_refuses}
 use Rattle.table_map.specs.Parts.{short_part, long_part}
-use Rattle.table_map.proofs.Chains.{named as name-read, long_named}
+use Rattle.table_map.proofs.Chains.{named as name_read, long_named}
 
 pub name_whole : (s : List ℕ) (p : ℕ) (x : Part × ℕ) → short_part s p ≡ ok x → Whole s named p x.1
 name_whole s p x e =
-    let n = name-read s p x e in
+    let n = name_read s p x e in
     let q : p + 1 + get_or s p 0 ≡ x.1 = omega (arith, n.start, n.len, n.next_is) in
     subst (λ (y : ℕ). Whole s named p y) q (all_named (omega (arith, q, n.ends)))
 
@@ -73,4 +73,4 @@ cut_told {s} {p} (few_string {n = n} {q = q} e h) = rw (e, lt-leb (q + n) (lengt
 
 pub unpacked_told : {s : List ℕ} {p : ℕ} → Bytes s → Unpacked s string p → long_part s p ≡ refuse 2 p
 unfolding long_part
-unpacked_told {s} {p} b (bad_length c) = rw (integer-none (b p) c)
+unpacked_told {s} {p} b (bad_length c) = rw (integer_none (b p) c)

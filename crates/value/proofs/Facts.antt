@@ -17,7 +17,7 @@ use Rattle.wire.proofs.Outcomes.{ok_not_refused, both_true}
 use Rattle.wire.proofs.Bytes.{le_bytes_length}
 use Rattle.wire.proofs.Inverse.{le_back, le_sound, le_bound, bytes_take, bytes_drop, bytes_are}
 use Rattle.wire.proofs.Signs.{signs_back, signs_sound, bytes_even}
-use Rattle.temporal.proofs.Forms.{sized as timed-sized, back as timed-back, sound as timed-sound}
+use Rattle.temporal.proofs.Forms.{sized as timed_sized, back as timed_back, sound as timed_sound}
 use Rattle.value.specs.declared.shape.Shape.{Shape}
 use Rattle.value.specs.declared.shape.Shape.TheVariants.{Unsigned, Signed, FloatBits, DoubleBits, YearByte, Timed, Fixed, Counted}
 use Rattle.value.specs.declared.shape.Shape.TheVariants.{NotTaken}
@@ -74,7 +74,7 @@ need_bytes (Signed k) d rest h = sym (le_bytes_length k (twos_of (256 ^ k) (int_
 need_bytes FloatBits d rest h = sym (le_bytes_length 4 (number_in d))
 need_bytes DoubleBits d rest h = sym (le_bytes_length 8 (number_in d))
 need_bytes YearByte d rest h = sym (le_bytes_length 1 (byte_of_year (number_in d)))
-need_bytes (Timed k) d rest h = sym (timed-sized k (temporal_in d))
+need_bytes (Timed k) d rest h = sym (timed_sized k (temporal_in d))
 need_bytes (Fixed n) d rest h = sym (eqb-true (length (bytes_in d)) n (both_true (are_bytes (bytes_in d)) _ (sorted d 7 _ h).1).1)
 need_bytes (Counted k) d rest h =
     counted_need k (bytes_in d) rest (ltb-true (length (bytes_in d)) (256 ^ k) (both_true (are_bytes (bytes_in d)) _ (sorted d 7 _ h).1).1)
@@ -106,7 +106,7 @@ decode_bytes (Signed k) d h =
 decode_bytes FloatBits d h = let w = sorted d 3 _ h in ap float (le_back 4 (number_in d) (ltb-true (number_in d) (256 ^ 4) w.1)) ∙ w.0
 decode_bytes DoubleBits d h = let w = sorted d 4 _ h in ap double (le_back 8 (number_in d) (ltb-true (number_in d) (256 ^ 8) w.1)) ∙ w.0
 decode_bytes YearByte d h = let w = sorted d 5 _ h in ap year (year_back (number_in d) w.1) ∙ w.0
-decode_bytes (Timed k) d h = let w = sorted d 6 _ h in ap temporal (timed-back k (temporal_in d) w.1).1 ∙ w.0
+decode_bytes (Timed k) d h = let w = sorted d 6 _ h in ap temporal (timed_back k (temporal_in d) w.1).1 ∙ w.0
 decode_bytes (Fixed n) d h = (sorted d 7 _ h).0
 decode_bytes (Counted k) d h =
     ap bytes (drop_at (le_bytes k (length (bytes_in d))) (bytes_in d) k (le_bytes_length k (length (bytes_in d)))) ∙ (sorted d 7 _ h).0
@@ -119,7 +119,7 @@ fault_bytes (Signed k) d h = refl
 fault_bytes FloatBits d h = refl
 fault_bytes DoubleBits d h = refl
 fault_bytes YearByte d h = refl
-fault_bytes (Timed k) d h = (timed-back k (temporal_in d) (sorted d 6 _ h).1).0
+fault_bytes (Timed k) d h = (timed_back k (temporal_in d) (sorted d 6 _ h).1).0
 fault_bytes (Fixed n) d h = refl
 fault_bytes (Counted k) d h = refl
 fault_bytes (NotTaken n) d h = refl
@@ -180,7 +180,7 @@ whole YearByte b z h n r t =
     let w = number_whole 1 b h n in
     let y = year_whole (le_value b) w.0 in
     (y.0, ap (le_bytes 1) y.1 ∙ w.1)
-whole (Timed k) b z h n r t = timed-sound k b (sym n) h r
+whole (Timed k) b z h n r t = timed_sound k b (sym n) h r
 whole (Fixed n) b z h e r t = (rw (bytes_are b h) (eq-eqb (length b) n (sym e)), refl)
 whole (Counted k) b z h n r t = counted_whole k b h n
 whole (NotTaken n) b z h e r t = absurd (ok_not_refused (sym t))

@@ -28,7 +28,7 @@ use Rattle.value.specs.declared.shape.Shape.{Shape}
 use Rattle.value.specs.declared.shape.Shape.TheVariants.{Unsigned, Signed, FloatBits, DoubleBits, YearByte, Timed, Fixed, Counted}
 use Rattle.value.specs.declared.shape.Shape.TheVariants.{NotTaken}
 use Rattle.value.specs.declared.datum.Value.{Value}
-use Rattle.value.specs.contracts.shape.Shape.{the_type as shape-type}
+use Rattle.value.specs.contracts.shape.Shape.{the_type as shape_type}
 use Rattle.value.specs.Columns.{is_taken}
 use Rattle.value.specs.Data.{Datum, null, int, uint, float, double, year, temporal, bytes, tag, int_in, number_in, temporal_in, bytes_in}
 use Rattle.value.specs.Domains.{domain}
@@ -40,7 +40,7 @@ use Rattle.value.proofs.Facts.{sorted, need_bytes}
 use Rattle.value.proofs.Writers.{size_is, top_narrow}
 
 -- ---- a shape without a length of its own: the bytes tell nothing of how many they are, and its most is all it ever takes
-pub width_fixed : (sh : Shape) → OneOf (0 ∷ 1 ∷ 2 ∷ 3 ∷ 4 ∷ 5 ∷ 6 ∷ 8 ∷ []) (tag_of shape-type sh)
+pub width_fixed : (sh : Shape) → OneOf (0 ∷ 1 ∷ 2 ∷ 3 ∷ 4 ∷ 5 ∷ 6 ∷ 8 ∷ []) (tag_of shape_type sh)
     → ((s : List ℕ) → need sh s ≡ need sh []) × (most_of sh ≡ need sh [])
 unfolding need most_of
 width_fixed (Unsigned k) o = (λ s. refl, refl)
@@ -54,7 +54,7 @@ width_fixed (Counted k) o = absurd (miss (0 ∷ 1 ∷ 2 ∷ 3 ∷ 4 ∷ 5 ∷ 6 
 width_fixed (NotTaken n) o = (λ s. refl, refl)
 
 -- so a value of it takes just that
-pub size_fixed : (sh : Shape) (s : List ℕ) (v : Value) → OneOf (0 ∷ 1 ∷ 2 ∷ 3 ∷ 4 ∷ 5 ∷ 6 ∷ 8 ∷ []) (tag_of shape-type sh)
+pub size_fixed : (sh : Shape) (s : List ℕ) (v : Value) → OneOf (0 ∷ 1 ∷ 2 ∷ 3 ∷ 4 ∷ 5 ∷ 6 ∷ 8 ∷ []) (tag_of shape_type sh)
     → is_in sh s v ≡ true → need sh [] ≡ length (bytes_of sh (datum_of s v))
 size_fixed sh s v o h = sym ((width_fixed sh o).0 (bytes_of sh (datum_of s v))) ∙ size_is sh s v h
 

@@ -8,18 +8,18 @@ use lib.IntN.{pos}
 use Rattle.wire.specs.Parts.{part}
 use Rattle.value.specs.declared.datum.Value.{Value}
 use Rattle.value.specs.declared.datum.Value.TheVariants.{Null, Int, Uint, Float, Double, Year, Bytes}
-use Rattle.value.specs.contracts.datum.Value.{the_type as value-type}
+use Rattle.value.specs.contracts.datum.Value.{the_type as value_type}
 use Rattle.value.specs.declared.shape.Shape.{Shape}
 use Rattle.value.specs.declared.shape.Shape.TheVariants.{Unsigned, Signed, FloatBits, DoubleBits, YearByte, Timed, Fixed, Counted}
 use Rattle.value.specs.declared.shape.Shape.TheVariants.{NotTaken}
-use Rattle.value.specs.contracts.shape.Shape.{the_type as shape-type}
+use Rattle.value.specs.contracts.shape.Shape.{the_type as shape_type}
 use Rattle.value.specs.Data.{int_in, number_in, no_temporal, temporal_in}
 use Rattle.value.specs.Columns.{is_taken, refusal_of}
 use Rattle.value.specs.Reading.{datum_of}
 use Rattle.value.specs.Storing.{bytes_at}
 
 -- ---- a value that is of another sort than the match asks for
-pub not_int : (v : Value) → OneOf (0 ∷ 2 ∷ 3 ∷ 4 ∷ 5 ∷ 6 ∷ 7 ∷ []) (tag_of value-type v) → int_in (datum_of [] v) ≡ pos 0
+pub not_int : (v : Value) → OneOf (0 ∷ 2 ∷ 3 ∷ 4 ∷ 5 ∷ 6 ∷ 7 ∷ []) (tag_of value_type v) → int_in (datum_of [] v) ≡ pos 0
 unfolding int_in datum_of
 not_int Null o = refl
 not_int (Int z) o = absurd (miss (0 ∷ 2 ∷ 3 ∷ 4 ∷ 5 ∷ 6 ∷ 7 ∷ []) 1 tt o)
@@ -30,7 +30,7 @@ not_int (Year n) o = refl
 not_int (Value.Temporal t) o = refl
 not_int (Bytes p) o = refl
 
-pub not_number : (v : Value) → OneOf (0 ∷ 1 ∷ 6 ∷ 7 ∷ []) (tag_of value-type v) → number_in (datum_of [] v) ≡ 0
+pub not_number : (v : Value) → OneOf (0 ∷ 1 ∷ 6 ∷ 7 ∷ []) (tag_of value_type v) → number_in (datum_of [] v) ≡ 0
 unfolding number_in datum_of
 not_number Null o = refl
 not_number (Int z) o = refl
@@ -41,7 +41,7 @@ not_number (Year n) o = absurd (miss (0 ∷ 1 ∷ 6 ∷ 7 ∷ []) 5 tt o)
 not_number (Value.Temporal t) o = refl
 not_number (Bytes p) o = refl
 
-pub not_temporal : (v : Value) → OneOf (0 ∷ 1 ∷ 2 ∷ 3 ∷ 4 ∷ 5 ∷ 7 ∷ []) (tag_of value-type v) → temporal_in (datum_of [] v) ≡ no_temporal
+pub not_temporal : (v : Value) → OneOf (0 ∷ 1 ∷ 2 ∷ 3 ∷ 4 ∷ 5 ∷ 7 ∷ []) (tag_of value_type v) → temporal_in (datum_of [] v) ≡ no_temporal
 unfolding temporal_in datum_of
 not_temporal Null o = refl
 not_temporal (Int z) o = refl
@@ -52,7 +52,7 @@ not_temporal (Year n) o = refl
 not_temporal (Value.Temporal t) o = absurd (miss (0 ∷ 1 ∷ 2 ∷ 3 ∷ 4 ∷ 5 ∷ 7 ∷ []) 6 tt o)
 not_temporal (Bytes p) o = refl
 
-pub not_bytes : (v : Value) → OneOf (0 ∷ 1 ∷ 2 ∷ 3 ∷ 4 ∷ 5 ∷ 6 ∷ []) (tag_of value-type v) → bytes_at v ≡ part 0 0
+pub not_bytes : (v : Value) → OneOf (0 ∷ 1 ∷ 2 ∷ 3 ∷ 4 ∷ 5 ∷ 6 ∷ []) (tag_of value_type v) → bytes_at v ≡ part 0 0
 unfolding bytes_at
 not_bytes Null o = refl
 not_bytes (Int z) o = refl
@@ -64,7 +64,7 @@ not_bytes (Value.Temporal t) o = refl
 not_bytes (Bytes p) o = absurd (miss (0 ∷ 1 ∷ 2 ∷ 3 ∷ 4 ∷ 5 ∷ 6 ∷ []) 7 tt o)
 
 -- ---- a shape that there is
-pub there_is : (sh : Shape) → OneOf (0 ∷ 1 ∷ 2 ∷ 3 ∷ 4 ∷ 5 ∷ 6 ∷ 7 ∷ []) (tag_of shape-type sh) → (is_taken sh ≡ true) × (refusal_of sh ≡ 0)
+pub there_is : (sh : Shape) → OneOf (0 ∷ 1 ∷ 2 ∷ 3 ∷ 4 ∷ 5 ∷ 6 ∷ 7 ∷ []) (tag_of shape_type sh) → (is_taken sh ≡ true) × (refusal_of sh ≡ 0)
 unfolding is_taken refusal_of
 there_is (Unsigned k) o = (refl, refl)
 there_is (Signed k) o = (refl, refl)

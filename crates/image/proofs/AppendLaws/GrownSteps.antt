@@ -16,7 +16,7 @@ use Rattle.wire.specs.Bits.{bytes_for, bit_lsb0}
 use Rattle.value.specs.declared.shape.Shape.{Shape}
 use Rattle.value.specs.declared.datum.Value.{Value}
 use Rattle.value.specs.Data.{Datum}
-use Rattle.value.specs.Reading.{Fails, short, range as out-of, read_datum, read_value, placed}
+use Rattle.value.specs.Reading.{Fails, short, range as out_of, read_datum, read_value, placed}
 use Rattle.value.proofs.Laws.{fails}
 use Rattle.value.proofs.Appends.{datum_more}
 use Rattle.record.specs.Records.{count_of, read_record, record_valid}
@@ -52,7 +52,7 @@ filled_value sh j s o (refused w) f = go (f w refl)
   where
     go : {w : Refusal} → Fails sh s j w → Filled j (refused w)
     go (short l) = still
-    go (out-of l e) = range _
+    go (out_of l e) = range _
 
 later_filled : (j k : ℕ) {o : Outcome ColumnStepped} → j ≤ k → Filled k o → Later j o
 later_filled j k h (told v c) = answer _

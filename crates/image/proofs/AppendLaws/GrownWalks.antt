@@ -22,7 +22,7 @@ use Rattle.record.specs.Records.{count_of, read_record, record_valid}
 use Rattle.image.specs.Present.{Present, present}
 use Rattle.image.specs.Split.{Slot, slots, head_of, first_cursor}
 use Rattle.image.specs.Walk.{RowWalked, row_stopped, with_answer, read_slot, answered, read_slots, walk_image}
-use Rattle.image.specs.Grown.{Later, nine, Grown, same as grown-same, more}
+use Rattle.image.specs.Grown.{Later, nine, Grown, same as grown_same, more}
 use Rattle.image.proofs.CursorLaws.Heads.{Over}
 use Rattle.image.proofs.StepLaws.Slots.{slot_fails}
 use Rattle.image.proofs.StepLaws.Splits.{Each, Good}
@@ -44,13 +44,13 @@ slot_more i s t = go i.null
 
 -- ---- slots one after the other
 grown_with : (a : ℕ × Datum) {w w' : RowWalked} → Grown w w' → Grown (with_answer a w) (with_answer a w')
-grown_with a (grown-same w) = grown-same (with_answer a w)
+grown_with a (grown_same w) = grown_same (with_answer a w)
 grown_with a (more w w' j b h e l) = more (with_answer a w) (with_answer a w') j b h (ap (λ (x : List (ℕ × Datum)). a ∷ x) e) l
 
 pub read_more : (cs : List Present) (k j : ℕ) (nulls s t : List ℕ) (o : ℕ) → Each Good cs → Rising j cs
     → Grown (read_slots (slots cs k nulls) s o) (read_slots (slots cs k nulls) (s ++ t) o)
 unfolding read_slots slots Each Rising
-read_more [] k j nulls s t o g u = grown-same _
+read_more [] k j nulls s t o g u = grown_same _
 read_more (c ∷ cs) k j nulls s t o g u =
     go (λ n. read_more cs (suc k) c.column nulls (drop n s) t (o + n) g.1 u.1)
     (later_read (c ∷ cs) k c.column nulls (s ++ t) o g (omega arith, u.1))
@@ -72,7 +72,7 @@ read_more (c ∷ cs) k j nulls s t o g u =
     go f l (refused w) e =
         let v = (slot_fails i s w g.0.taken e).1 in
         ⊎_elim
-        (λ (y : read_slot i (s ++ t) ≡ refused w). rw y (grown-same (row_stopped (refused w))))
+        (λ (y : read_slot i (s ++ t) ≡ refused w). rw y (grown_same (row_stopped (refused w))))
         (λ y.
         more _ _ c.column (answered c.column (rest (s ++ t)) (read_slot i (s ++ t))).answers (ap refused (fails_nine v y)) refl l)
         (stays_no (slot_more i s t) e)
@@ -105,7 +105,7 @@ over_more r p im t u =
     more _ _ 0 (walk_image r p (im ++ t)).answers (ap (λ (w : RowWalked). w.how) (walk_short r p im u (omega arith)))
     (rw (walk_short r p im u (omega arith)))
     (rw (walk_cut r p (im ++ t) u b) (later_read cs 0 0 (take o (im ++ t)) (drop o (im ++ t)) o g up)))
-    (λ b. rw (walk_short r p im u (omega arith), walk_short r p (im ++ t) u (omega arith)) (grown-same _)))
+    (λ b. rw (walk_short r p im u (omega arith), walk_short r p (im ++ t) u (omega arith)) (grown_same _)))
 
 pub walk_more : (r p im t : List ℕ) → Grown (walk_image r p im) (walk_image r p (im ++ t))
 unfolding walk_image first_cursor head_of read_record
@@ -114,11 +114,11 @@ walk_more r p im t = valid (record_valid r) refl
     bits : record_valid r ≡ true → (b : Bool) → eqb (length p) (bytes_for (count_of r)) ≡ b
         → Grown (walk_image r p im) (walk_image r p (im ++ t))
     bits v true e = over_more r p im t (record { valid = v; bits = eqb-true (length p) (bytes_for (count_of r)) e })
-    bits v false e = rw (v, e) (grown-same _)
+    bits v false e = rw (v, e) (grown_same _)
 
     valid : (b : Bool) → record_valid r ≡ b → Grown (walk_image r p im) (walk_image r p (im ++ t))
     valid true v = bits v (eqb (length p) (bytes_for (count_of r))) refl
-    valid false v = rw v (grown-same _)
+    valid false v = rw v (grown_same _)
 
 -- ---- in the request's words
 -- an image that was read: no answer, no place, and not the count used
@@ -126,7 +126,7 @@ pub read_kept : (r p im t : List ℕ) (n : ℕ) → (walk_image r p im).how ≡ 
 read_kept r p im t n e = go (walk_more r p im t) e
   where
     go : {w w' : RowWalked} → Grown w w' → w.how ≡ ok n → w' ≡ w
-    go (grown-same w) e = refl
+    go (grown_same w) e = refl
     go (more w w' j b h q l) e = absurd (ok_not_refused (sym e ∙ h))
 
 -- refusal 10 stays, at its place, of its part, and with the answers before it; so does every refusal but 9
@@ -135,7 +135,7 @@ pub refusal_kept : (r p im t : List ℕ) (w : Refusal) → (walk_image r p im).h
 refusal_kept r p im t w e n = go (walk_more r p im t) e
   where
     go : {v v' : RowWalked} → Grown v v' → v.how ≡ refused w → v' ≡ v
-    go (grown-same v) e = refl
+    go (grown_same v) e = refl
     go (more v v' j b h q l) e = absurd (n (ap (λ (x : Refusal). x.number) (same_refused (sym e ∙ h))))
 
 -- refusal 9: the answers before it are unchanged, and it becomes an answer, or 9 or 10 at its column or a later one
@@ -146,6 +146,6 @@ nine_grows r p im t j e = go (walk_more r p im t) e
   where
     go : {w w' : RowWalked} → Grown w w' → w.how ≡ refuse 9 j
         → ((b : List (ℕ × Datum)) × (w'.answers ≡ w.answers ++ b)) × Later j w'.how
-    go (grown-same w) e = (([], sym (append-nil w.answers)), subst (Later j) (sym e) (nine j (omega arith)))
+    go (grown_same w) e = (([], sym (append-nil w.answers)), subst (Later j) (sym e) (nine j (omega arith)))
     go (more w w' i b h q l) e =
         ((b, q), subst (λ (x : ℕ). Later x w'.how) (ap (λ (x : Refusal). x.place) (same_refused (sym h ∙ e))) l)

@@ -37,7 +37,7 @@ use Rattle.map_check.specs.Passes.{Member, here, later, Each, Distinct, firsts, 
 use Rattle.map_check.specs.Passes.{a_column, Field, FieldsAre, no_field, a_field, Absent, NotBoth}
 use Rattle.map_check.proofs.ColumnLaws.Declares.{taken_is}
 use Rattle.map_check.proofs.ContentsLaws.Tallies.{item_stepped}
-use Rattle.map_check.proofs.FieldLaws.KeptFields.{Kept, none as none_kept, more as more-kept, kept_fields, kept_walk, fits}
+use Rattle.map_check.proofs.FieldLaws.KeptFields.{Kept, none as none_kept, more as more_kept, kept_fields, kept_walk, fits}
 use Rattle.map_check.proofs.FieldLaws.KeptFields.{same_value, nothing_not_value}
 use Rattle.map_check.proofs.ContentsLaws.Laid.{whole_laid, member_stood, stood_member, once_distinct, distinct_once}
 use Rattle.map_check.proofs.ContentsLaws.Filled.{Held, first_member, pair_member}
@@ -194,40 +194,40 @@ item_at_lem (more f b) (later m) = item_at_lem b m
 kept_full : {sizes : Ranks} {n : ℕ} {s before : List ℕ} {fs : List (ℕ × Part)} → Kept sizes n s before fs
     → Each (λ (f : ℕ × Part). contents_full sizes n f.0 (lent_part s f.1) ≡ true) fs
 kept_full {sizes = sizes} {n = n} {s = s} (none_kept before) f x4 = elim x4 [ ]
-kept_full {sizes} {n} {s} (more-kept before g gs known t rest) f (here q) =
+kept_full {sizes} {n} {s} (more_kept before g gs known t rest) f (here q) =
     subst (λ (x : ℕ × Part). contents_full sizes n x.0 (lent_part s x.1) ≡ true) (sym q) (fits sizes n s before g t).contents
-kept_full (more-kept before g gs known t rest) f (later m) = kept_full rest f m
+kept_full (more_kept before g gs known t rest) f (later m) = kept_full rest f m
 
 -- ---- no type stands twice
 kept_new : {sizes : Ranks} {n : ℕ} {s before : List ℕ} {fs : List (ℕ × Part)} → Kept sizes n s before fs
     → (k : ℕ) → Member k (firsts (bare s fs)) → Member k before → ⊥
 kept_new {sizes = sizes} {n = n} {s = s} (none_kept before) k x7 b = elim x7 [ ]
-kept_new {sizes} {n} {s} (more-kept before g gs known t rest) k (here q) b =
+kept_new {sizes} {n} {s} (more_kept before g gs known t rest) k (here q) b =
     true≢false (sym (member_stood b) ∙ ap (λ (x : ℕ). stood x before) q ∙ (fits sizes n s before g t).first)
-kept_new (more-kept before g gs known t rest) k (later m) b = kept_new rest k m (later b)
+kept_new (more_kept before g gs known t rest) k (later m) b = kept_new rest k m (later b)
 
 pub kept_distinct : {sizes : Ranks} {n : ℕ} {s before : List ℕ} {fs : List (ℕ × Part)} → Kept sizes n s before fs
     → Distinct (firsts (bare s fs))
 unfolding Distinct
 kept_distinct (none_kept before) = tt
-kept_distinct (more-kept before g gs known t rest) = (λ m. kept_new rest g.0 m (here refl), kept_distinct rest)
+kept_distinct (more_kept before g gs known t rest) = (λ m. kept_new rest g.0 m (here refl), kept_distinct rest)
 
 -- and none beside its rival
 kept_alone : {sizes : Ranks} {n : ℕ} {s before : List ℕ} {fs : List (ℕ × Part)} → Kept sizes n s before fs
     → (k : ℕ) → Member k (firsts (bare s fs)) → Member (rival_of k) before → ⊥
 kept_alone {sizes = sizes} {n = n} {s = s} (none_kept before) k x7 b = elim x7 [ ]
-kept_alone {sizes} {n} {s} (more-kept before g gs known t rest) k (here q) b =
+kept_alone {sizes} {n} {s} (more_kept before g gs known t rest) k (here q) b =
     true≢false (sym (member_stood b) ∙ ap (λ (x : ℕ). stood (rival_of x) before) q ∙ (fits sizes n s before g t).alone)
-kept_alone (more-kept before g gs known t rest) k (later m) b = kept_alone rest k m (later b)
+kept_alone (more_kept before g gs known t rest) k (later m) b = kept_alone rest k m (later b)
 
 one_alone : {sizes : Ranks} {n : ℕ} {s before : List ℕ} {fs : List (ℕ × Part)} {one other : ℕ} → Kept sizes n s before fs
     → (one ≡ other → ⊥)
     → rival_of one ≡ other → rival_of other ≡ one → Member one (firsts (bare s fs)) → Member other (firsts (bare s fs)) → ⊥
 one_alone {sizes = sizes} {s = s} {one = one} {other = other} (none_kept before) n r u x16 _ = elim x16 [ ]
-one_alone (more-kept before g gs known t rest) n r u (here p) (here q) = n (p ∙ sym q)
-one_alone {one = one} {other = other} (more-kept before g gs known t rest) n r u (here p) (later m) = kept_alone rest other m (here (u ∙ p))
-one_alone {one = one} {other = other} (more-kept before g gs known t rest) n r u (later m) (here q) = kept_alone rest one m (here (r ∙ q))
-one_alone (more-kept before g gs known t rest) n r u (later m) (later o) = one_alone rest n r u m o
+one_alone (more_kept before g gs known t rest) n r u (here p) (here q) = n (p ∙ sym q)
+one_alone {one = one} {other = other} (more_kept before g gs known t rest) n r u (here p) (later m) = kept_alone rest other m (here (u ∙ p))
+one_alone {one = one} {other = other} (more_kept before g gs known t rest) n r u (later m) (here q) = kept_alone rest one m (here (r ∙ q))
+one_alone (more_kept before g gs known t rest) n r u (later m) (later o) = one_alone rest n r u m o
 
 not_both : {sizes : Ranks} {n : ℕ} {s before : List ℕ} {fs : List (ℕ × Part)} → Kept sizes n s before fs → (one other : ℕ)
     → (one ≡ other → ⊥)

@@ -27,7 +27,7 @@ use Rattle.map_check.specs.declared.found.Found.TheVariants.{Value, Nothing}
 use Rattle.map_check.specs.Ranks.{table_place}
 use Rattle.map_check.specs.Fields.{first_of, fields_at, walk_fields}
 use Rattle.map_check.specs.Names.{list_of, string_at, column_name, or_ended, names_in, names_field}
-use Rattle.map_check.specs.Passes.{Between, none as no_item, more as one-item, ItemsAre}
+use Rattle.map_check.specs.Passes.{Between, none as no_item, more as one_item, ItemsAre}
 use Rattle.map_check.proofs.ContentsLaws.Tallies.{item_stepped, refusal_stepped}
 
 -- ---- a string, `left` strings before the one asked
@@ -67,8 +67,8 @@ pub laid_found : {s : List ℕ} {at to : ℕ} {xs : List Part} → Between strin
     → string_at j asked s at ≡ ok (get_or xs j (part 0 0))
 unfolding string_at
 laid_found no_item j asked h = absurd (omega arith)
-laid_found {s} {at} (one-item {next = next} {a = a} e b) zero asked h = rw (laid_stepped s at a next e)
-laid_found {s} {at} (one-item {next = next} {a = a} e b) (suc j) asked h =
+laid_found {s} {at} (one_item {next = next} {a = a} e b) zero asked h = rw (laid_stepped s at a next e)
+laid_found {s} {at} (one_item {next = next} {a = a} e b) (suc j) asked h =
     rw (laid_stepped s at a next e) (laid_found b j asked (omega arith))
 
 -- one behind them is what is found from their end on, if that is the same for all
@@ -76,8 +76,8 @@ laid_behind : {s : List ℕ} {at to : ℕ} {xs : List Part} → Between string_i
     → ((i : ℕ) → string_at i asked s to ≡ o) → (j : ℕ) → length xs ≤ j → string_at j asked s at ≡ o
 unfolding string_at
 laid_behind no_item o asked f j h = f j
-laid_behind (one-item e b) o asked f zero h = absurd (omega arith)
-laid_behind {s} {at} (one-item {next = next} {a = a} e b) o asked f (suc j) h =
+laid_behind (one_item e b) o asked f zero h = absurd (omega arith)
+laid_behind {s} {at} (one_item {next = next} {a = a} e b) o asked f (suc j) h =
     rw (laid_stepped s at a next e) (laid_behind b o asked f j (omega arith))
 
 pub laid_ended : {s : List ℕ} {xs : List Part} → ItemsAre string_item s xs → (j asked : ℕ) → length xs ≤ j

@@ -41,7 +41,7 @@ use Rattle.row_plan.specs.Runs.{read_run}
 use Rattle.row_plan.specs.Puts.{item_cursor, plan_put}
 use Rattle.rows_event.specs.Events.{read_rows}
 use Rattle.rows_event.specs.Images.{ImageStepped as Told₁, image_met, end as end₁, next_image}
-use Rattle.feed_abi.specs.Answers.{answerNumber, answerNumbers, statusOf, numbersLeft, bytesLeft}
+use Rattle.feed_abi.specs.Answers.{answer_number, answer_numbers, status_of, numbers_left, bytes_left}
 use Rattle.feed_abi.specs.Calls.{said, said_with, record_numbers, part_numbers, map_numbers, names_given, given_numbers, cursor_numbers}
 use Rattle.feed_abi.specs.Calls.{step_numbers, told_numbers, rows_numbers, image_numbers, dialect_of, second_asked, sets_asked, images_at, feed_map}
 use Rattle.feed_abi.specs.Calls.{feed_check, feed_column, feed_names, feed_name, feed_first, feed_step, feed_start, feed_put, feed_rows, feed_image}
@@ -119,24 +119,24 @@ number_not_zero : (n : ℕ) → is_among n refusal_numbers ≡ true → n ≡ 0 
 unfolding is_among
 number_not_zero n h e = true≢false (sym (rw e at h))
 
-no_refusal : (answer : Outcome (List ℕ)) (ls : List Line) → Only answer ls → answerNumber answer ≡ 0 → (ns : List ℕ) × (answer ≡ ok ns)
+no_refusal : (answer : Outcome (List ℕ)) (ls : List Line) → Only answer ls → answer_number answer ≡ 0 → (ns : List ℕ) × (answer ≡ ok ns)
 no_refusal (ok ns) ls h e = (ns, refl)
 no_refusal (refused w) ls h e = absurd (number_not_zero w.number (refusals.numbered (refused w) ls w h refl) e)
 
-zero_answered : (k : ℕ) (out : List ℕ) (answer : Outcome (List ℕ)) (ls : List Line) → Only answer ls → statusOf k answer out ≡ 0
+zero_answered : (k : ℕ) (out : List ℕ) (answer : Outcome (List ℕ)) (ls : List Line) → Only answer ls → status_of k answer out ≡ 0
     → Answered k out answer
-unfolding statusOf
+unfolding status_of
 zero_answered k out answer ls h e =
-    by_test (leb k (length out)) (answerNumber answer) 8 0 e
+    by_test (leb k (length out)) (answer_number answer) 8 0 e
     (λ u f. let n = no_refusal answer ls h f in (n.0, n.1, leb-true k (length out) u))
     (λ u f. absurd (omega arith))
 
-answered_zero : (k : ℕ) (out : List ℕ) (answer : Outcome (List ℕ)) → Answered k out answer → statusOf k answer out ≡ 0
-unfolding statusOf
+answered_zero : (k : ℕ) (out : List ℕ) (answer : Outcome (List ℕ)) → Answered k out answer → status_of k answer out ≡ 0
+unfolding status_of
 answered_zero k out answer (ns, e, l) = rw (le-leb k (length out) l, e)
 
-status_in_table : (t : Bool) (answer : Outcome (List ℕ)) (ls : List Line) → Only answer ls → (cond t (answerNumber answer) 8 ≡ 0 → ⊥)
-    → is_among (cond t (answerNumber answer) 8) refusal_numbers ≡ true
+status_in_table : (t : Bool) (answer : Outcome (List ℕ)) (ls : List Line) → Only answer ls → (cond t (answer_number answer) 8 ≡ 0 → ⊥)
+    → is_among (cond t (answer_number answer) 8) refusal_numbers ≡ true
 unfolding is_among
 status_in_table true (ok ns) ls h z = absurd (z refl)
 status_in_table true (refused w) ls h z = refusals.numbered (refused w) ls w h refl
@@ -152,13 +152,13 @@ all_told k out ns n l =
 
 -- what is left of them and of the bytes after a refusal, t being whether there is room for the numbers
 numbers_left_lem : (t : Bool) (out : List ℕ) (answer : Outcome (List ℕ)) → (t ≡ true → 2 ≤ length out)
-    → (cond t (answerNumber answer) 8 ≡ 0 → ⊥)
-    → Touched out 0 2 (cond t (stored (answerNumbers answer) out 0) out)
+    → (cond t (answer_number answer) 8 ≡ 0 → ⊥)
+    → Touched out 0 2 (cond t (stored (answer_numbers answer) out 0) out)
 numbers_left_lem true out (ok ns) l h = absurd (h refl)
 numbers_left_lem true out (refused w) l h = all_told 2 out (w.place ∷ w.part ∷ []) refl (l refl)
 numbers_left_lem false out answer l h = record { size = refl; before = refl; behind = refl }
 
-bytes_left_lem : (t : Bool) (buf : List ℕ) (rule : Outcome (List ℕ × List ℕ)) → (cond t (answerNumber (answer_of rule)) 8 ≡ 0 → ⊥)
+bytes_left_lem : (t : Bool) (buf : List ℕ) (rule : Outcome (List ℕ × List ℕ)) → (cond t (answer_number (answer_of rule)) 8 ≡ 0 → ⊥)
     → cond t (left_of rule buf) buf ≡ buf
 bytes_left_lem true buf (ok x) h = absurd (h refl)
 bytes_left_lem true buf (refused w) h = refl
@@ -229,14 +229,14 @@ item_counts end₂ = refl
 item_counts (item x next) = refl
 
 told_alone : (k : ℕ) (out : List ℕ) (answer : Outcome (List ℕ)) → Counts k answer → Answered k out answer
-    → Touched out 0 k (numbersLeft k answer out)
-unfolding numbersLeft
+    → Touched out 0 k (numbers_left k answer out)
+unfolding numbers_left
 told_alone k out answer h (ns, e, l) = rw (le-leb k (length out) l, e) (all_told k out ns (h ns e) l)
 
 -- ---- what is told, where there is room for the numbers
 numbers_there : (k : ℕ) (out : List ℕ) (answer : Outcome (List ℕ)) (ns : List ℕ) → k ≤ length out → answer ≡ ok ns
-    → take (length ns) (numbersLeft k answer out) ≡ ns
-unfolding numbersLeft
+    → take (length ns) (numbers_left k answer out) ≡ ns
+unfolding numbers_left
 numbers_there k out answer ns l e = rw (le-leb k (length out) l, e) (stored_part out 0 ns (omega arith))
 
 two_there : (out : List ℕ) (p q : ℕ) → (get_or (stored (p ∷ q ∷ []) out 0) 0 0 ≡ p) × (get_or (stored (p ∷ q ∷ []) out 0) 1 0 ≡ q)
@@ -249,7 +249,7 @@ columns_told n = omega arith
 
 pub abi : AbiCalls
 unfolding feed_map feed_check feed_names feed_name feed_parts feed_fields feed_field feed_item item_at feed_first feed_step feed_start feed_put feed_room
-    feed_rows feed_image feed_plan feed_run feed_put_item feed_begin feed_give feed_end statusOf numbersLeft bytesLeft in_table is_among
+    feed_rows feed_image feed_plan feed_run feed_put_item feed_begin feed_give feed_end status_of numbers_left bytes_left in_table is_among
 abi = record {
   feed_map_lem = λ event post_header. only refl (in_numbers map_numbers (read_event event post_header) (refusals.read_event_lem event post_header));
   feed_check_lem = λ event post_header dialect buf d e.

@@ -24,7 +24,7 @@ use Rattle.temporal.specs.declared.storage.Storage.{Storage}
 use Rattle.temporal.specs.declared.parts.Temporal.{Temporal}
 use Rattle.temporal.specs.Domains.{temporal_domain}
 use Rattle.temporal.specs.Reading.{temporal_size, temporal_fault, temporal_bytes, read_temporal, write_temporal}
-use Rattle.temporal.proofs.Forms.{sized as timed-sized}
+use Rattle.temporal.proofs.Forms.{sized as timed_sized}
 use Rattle.value.specs.declared.column.Column.{Column}
 use Rattle.value.specs.declared.datum.Value.{Value}
 use Rattle.value.specs.declared.datum.Value.TheVariants.{Null, Int, Uint, Float, Double, Year}
@@ -394,7 +394,7 @@ temporal_size_lem : (k : Storage) (p : ℕ) (t : Temporal) (buf : List ℕ) (at 
 unfolding write_temporal
 temporal_size_lem k p t buf at d =
     let b = temporal_bytes k t in
-    let l = timed-sized k t in (
+    let l = timed_sized k t in (
       l,
       λ h. rw d (store_fits buf b at (omega (arith, h, l)) ∙ ap (λ (m : ℕ). ok (at + m, stored b buf at)) l),
       λ h. rw d (store_full buf b at (omega (arith, h, l))),

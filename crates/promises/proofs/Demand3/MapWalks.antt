@@ -45,7 +45,7 @@ use Rattle.feed_abi.specs.Fields.{feed_item}
 use Rattle.feed_abi.proofs.Tells.{fields_asked}
 use Rattle.promises.specs.MapWalks.{ItemsMet, no_item, an_item, FieldsMet, no_field, a_field, of_real, OneEach, MapMet, MapWalks}
 use Rattle.promises.specs.MapWalks.{set_strings as of_sets, enum_strings as of_enums, geometry_types as of_geometry}
-use Rattle.promises.specs.MapWalks.{dimensions as of-vectors}
+use Rattle.promises.specs.MapWalks.{dimensions as of_vectors}
 
 -- ---- a list that the number stands for, by its rule and the two numbers of an item
 record Stands {A : Type 0} (list : ℕ) (rule : Rule A) (f : A → ℕ × ℕ) : Type 0 where
@@ -249,7 +249,7 @@ each_one : {d : Dialect} {cs : List Declared} {kind list real : ℕ} {value : Li
 each_one of_sets (set_strings items b n) = (items, groups_met b, n)
 each_one of_enums (enum_strings items b n) = (items, groups_met b, n)
 each_one of_geometry (geometry_types items b n h) = (_, items_met integers_stand b, length-map items _ ∙ n)
-each_one of-vectors (dimensions items b n) = (_, items_met integers_stand b, length-map items _ ∙ n)
+each_one of_vectors (dimensions items b n) = (_, items_met integers_stand b, length-map items _ ∙ n)
 
 geometry_of : {d : Dialect} {cs : List Declared} {value : List ℕ} → Contents d cs 7 value
     → (items : List (ℕ × ℕ)) × ItemsMet 1 value 0 (length value) items × Each (λ (x : ℕ × ℕ). x.0 ≤ 7) items

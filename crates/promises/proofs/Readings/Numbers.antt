@@ -3,7 +3,7 @@ use mathlib.Core.Path.{refl}
 use Rattle.temporal.specs.Ranges.{clock_fault, day_fault}
 use Rattle.table_map.specs.Fields.{count_sign_bits}
 use Rattle.map_check.specs.Check.{check}
-use Rattle.feed_abi.specs.Answers.{statusOf, numbersLeft, bytesLeft}
+use Rattle.feed_abi.specs.Answers.{status_of, numbers_left, bytes_left}
 use Rattle.feed_abi.specs.Calls.{dialect_of, feed_map, feed_check, feed_column, feed_names, feed_name, feed_first, feed_step, feed_start, feed_put}
 use Rattle.feed_abi.specs.Calls.{feed_room, feed_rows, feed_image}
 use Rattle.feed_abi.specs.Fields.{feed_parts, feed_fields, feed_field, feed_item}
@@ -21,7 +21,7 @@ put_numbers_lem =
     refl and refl and refl and refl and refl and refl and refl and refl and refl and refl and refl and done
 
 pub numbers : Numbers
-unfolding check count_sign_bits statusOf numbersLeft bytesLeft dialect_of feed_map feed_check feed_column feed_names feed_name feed_first feed_step
+unfolding check count_sign_bits status_of numbers_left bytes_left dialect_of feed_map feed_check feed_column feed_names feed_name feed_first feed_step
     feed_start feed_put feed_room feed_rows feed_image feed_parts feed_fields feed_field feed_item
 numbers =
     record {
