@@ -1,7 +1,6 @@
 -- `table_map::field::count_sign_bits` meets its contract. The loop's invariant: what is counted and what is left to count make the whole.
 -- Assumes nothing.
 use mathlib.Core.List.{[]}
-use Prim.Native.Nat.{◌-◌}
 use mathlib.Core.Path.{◌≡◌}
 use native.Mathlib.Omega.{arith}
 use lib.ListN.{drop, drop_of_length-le}

@@ -1,6 +1,5 @@
 -- `table_map::list::skip_strings` meets its contract. The loop's invariant: what is left leads from here to where all
 -- lead from the start. Assumes nothing.
-use Prim.Native.Nat.{◌-◌}
 use mathlib.Core.Path.{sym, ap, ◌∙◌}
 use native.Mathlib.Nat.{sub-zero}
 use native.Mathlib.Omega.{arith}

@@ -1,12 +1,12 @@
 -- `table_map::write::event_size` meets its contract. Assumes nothing.
-use Prim.Native.Nat.{ℕ, ◌+◌, ◌≤◌, ◌<◌, ◌^◌}
+use Prim.Native.Nat.{◌+◌, ◌≤◌, ◌<◌, ◌^◌}
 use native.Mathlib.Omega.{arith}
 use mathlib.Core.Bool.{true}
 use mathlib.Core.Path.{◌≡◌, sym, ◌∙◌}
 use lib.ListN.{length}
 use Rattle.wire.proofs.Stores.{room, no_room}
-use Rattle.table_map.specs.Writes.{EventParts, event_parts, is_event, event_bytes}
-use Rattle.table_map.proofs.Puts.{Taken, taken, any_rest, packed_narrow, size_not_taken, size_over, size_is, event_length}
+use Rattle.table_map.specs.Writes.{event_parts, is_event, event_bytes}
+use Rattle.table_map.proofs.Puts.{taken, any_rest, packed_narrow, size_not_taken, size_over, size_is, event_length}
 use Rattle.table_map.proofs.write.event_size.Goals as goal
 
 pub returns-then-not-is_event : goal.returns-then-not-is_event

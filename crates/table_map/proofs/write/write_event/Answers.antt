@@ -3,7 +3,7 @@ use native.Mathlib.Omega.{arith}
 use mathlib.Core.Path.{◌≡◌, refl, sym, ap, ◌∙◌}
 use Rattle.wire.specs.Outcome.{ok}
 use Rattle.wire.specs.Stored.{size_told}
-use Rattle.table_map.specs.Writes.{EventParts, event_parts, event_size}
+use Rattle.table_map.specs.Writes.{event_parts, event_size}
 use Rattle.table_map.proofs.Puts.{taken, sized, not_sized, no_room_for, event_put, event_length, column_length, head_length}
 use Rattle.table_map.proofs.Puts.{after_put, then}
 use Rattle.table_map.proofs.write.write_event.Goals as goal

@@ -3,7 +3,6 @@ use mathlib.Core.Path.{sym}
 use Rattle.value.specs.Data.{number_in}
 use Rattle.value.specs.Reading.{datum_of}
 use Rattle.value.proofs.Sorts.{not_number}
-use borrow.Enum.Refused.{opened}
 use Rattle.value.proofs.datum.number_in.Goals as goal
 
 pub returns-in-Uint : goal.returns-in-Uint

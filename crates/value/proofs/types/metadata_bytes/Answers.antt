@@ -4,7 +4,6 @@ use mathlib.Core.Path.{sym, refl}
 use Rattle.value.proofs.Arms.{at_arm}
 use mathlib.Core.List.{[], ◌∷◌}
 use lib.Dec.{eqb, eqb→eq}
-use borrow.Enum.Refused.{opened}
 use Rattle.value.proofs.types.metadata_bytes.Goals as goal
 
 pub returns-in-Float : goal.returns-in-Float

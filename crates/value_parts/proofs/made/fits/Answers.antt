@@ -1,5 +1,4 @@
 -- `value_parts::made::fits` meets its contract. Assumes nothing.
-use Prim.Native.Nat.{◌-◌}
 use mathlib.Core.Path.{refl, sym, ◌∙◌}
 use native.Mathlib.Omega.{arith}
 use Rattle.value_parts.proofs.Takes.{fit_short, fit_great, fit_on, fit_end}

@@ -1,6 +1,6 @@
 -- `wire::fixed::be` meets its contract. The loop's invariant: the first i bytes are read, and their number has as many bytes. Assumes
 -- nothing.
-use Prim.Native.Nat.{◌+◌, ◌-◌}
+use Prim.Native.Nat.{◌+◌}
 use mathlib.Core.Path.{◌≡◌}
 use native.Mathlib.Omega.{arith}
 use native.Mathlib.Numerals.{add-one}

@@ -1,6 +1,5 @@
 -- `wire::fixed::put_le` meets its contract. The loop's invariant: what stands before at + i, then the bytes of the rest, then what stands
 -- from at + k on, is what is wanted. Assumes nothing.
-use Prim.Native.Nat.{◌-◌}
 use mathlib.Core.Path.{refl, ◌∙◌}
 use native.Mathlib.Omega.{arith}
 use native.Mathlib.Nat.{add-zero, sub-zero}

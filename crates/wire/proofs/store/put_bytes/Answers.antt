@@ -1,5 +1,4 @@
 -- `wire::store::put_bytes` meets its contract. The loop's invariant: the first i bytes are copied. Assumes nothing.
-use Prim.Native.Nat.{◌-◌}
 use mathlib.Core.Path.{◌≡◌, refl, ◌∙◌}
 use native.Mathlib.Omega.{arith}
 use native.Mathlib.Numerals.{add-one}
