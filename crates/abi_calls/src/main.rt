@@ -7,14 +7,17 @@ mod arrivals;
 mod events;
 mod maps;
 mod rows;
+mod system;
 mod told;
 mod words;
 
 use arrivals::arrival_calls;
 use events::event_calls;
-use libc::{STDERR_FILENO, STDOUT_FILENO};
 use maps::{RECORD, check, map_calls};
 use rows::{row_calls, write_calls};
+use std::rt::Runtime;
+use system::{tell_status, word_count};
+use told::is_put;
 use words::is_word;
 
 // A map with a column for each sort of value, and with lists of each kind among its optional fields. No two
@@ -27,29 +30,25 @@ const MAP: [u8; 144] = *b"\x02\x01\x00\x00\x00\x00\x05\x00\x04shop\x00\x06orders
     \x05\x08\x03\x01x\x02yz\x01w\x06\x07\x02\x01a\x03bcd\
     \x07\x01\x01\x09\x04\x00\x00\x0a\x14\x0a\x01\x08\x0c\x02\xff\xf8";
 
-// Where `./run` reads the status.
-const STATUS_FILENO: i32 = 3;
-
 const FAILED: u64 = 2;
 
-fn put_usage(fd: i32) -> bool {
-    io::write_all(
-        fd,
-        b"usage: abi_calls\n\
-        Calls every function of feed_abi, and prints a line for each call: its name, its status, the numbers\n\
-        that it was lent, `-` for those that it left alone, and what else it was lent to write to.\n\
-        Status: 0 if all of it was printed, else 2.\n",
-    )
-}
+// How the program is used.
+const USAGE: &str = "usage: abi_calls\n\
+    Calls every function of feed_abi, and prints a line for each call: its name, its status, the numbers\n\
+    that it was lent, `-` for those that it left alone, and what else it was lent to write to.\n\
+    Status: 0 if all of it was printed, else 2.\n";
 
 // The calls that read and write under the record of the map.
-fn put_record_calls(record: &mut [u8]) -> bool {
-    check(&MAP, 1, record) && row_calls(record) && write_calls(record) && event_calls(record)
+fn put_record_calls(rt: &impl Runtime, record: &mut [u8]) -> bool {
+    check(rt, &MAP, 1, record)
+        && row_calls(rt, record)
+        && write_calls(rt, record)
+        && event_calls(rt, record)
 }
 
-fn put_calls() -> bool {
+fn put_calls(rt: &impl Runtime) -> bool {
     let mut record = [0u8; RECORD];
-    map_calls(&MAP) && put_record_calls(&mut record) && arrival_calls()
+    map_calls(rt, &MAP) && put_record_calls(rt, &mut record) && arrival_calls(rt)
 }
 
 // The status of a run whose output was printed, all of it or not.
@@ -57,29 +56,28 @@ fn status_if(is_printed: bool) -> u64 {
     if is_printed {
         return 0;
     }
-    os::fail(b"abi_calls: standard output cannot be written");
     FAILED
 }
 
 // Does what the words from this one on ask for.
-fn run(first: usize) -> u64 {
-    let count = os::arg_count();
+fn run(rt: &impl Runtime, first: usize) -> u64 {
+    let count = word_count(rt);
     if count <= first {
-        return status_if(put_calls());
+        return status_if(put_calls(rt));
     }
-    if count - first == 1 && is_word(first, b"--help") {
-        return status_if(put_usage(STDOUT_FILENO));
+    if count - first == 1 && is_word(rt, first, b"--help") {
+        return status_if(is_put(rt, rt.print(USAGE)));
     }
-    io::write_all(STDERR_FILENO, b"abi_calls: no word is taken\n");
-    put_usage(STDERR_FILENO);
+    let _ = rt.eprint("abi_calls: no word is taken\n");
+    let _ = rt.eprint(USAGE);
     FAILED
 }
 
-fn main() {
-    if !is_word(1, b"--tell-status") {
-        run(1);
+fn main(rt: HostRuntime) {
+    if !is_word(&rt, 1, b"--tell-status") {
+        run(&rt, 1);
         return;
     }
-    let status = run(2);
-    io::print_decimal(STATUS_FILENO, status);
+    let status = run(&rt, 2);
+    tell_status(&rt, status);
 }

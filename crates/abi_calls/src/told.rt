@@ -1,22 +1,40 @@
 // A call told: its name, its status, the numbers that it was lent, and what else it was lent to write to. Each
-// function tells whether all of it was printed.
-use libc::STDOUT_FILENO;
+// function tells whether all of it was printed; what failed is said.
+use crate::system::fail;
+use std::fmt::Display;
+use std::io;
+use std::rt::Runtime;
 
 // What a number holds before a call.
 pub(crate) const LEFT: u64 = u64::MAX;
 
-// A number behind a space, `-` where the call left it alone.
-fn put_number(n: u64) -> bool {
-    if n == LEFT {
-        return io::write_all(STDOUT_FILENO, b" -");
+// Whether a text was printed, which is said where it was not.
+pub(crate) fn is_put(rt: &impl Runtime, printed: io::Result<()>) -> bool {
+    match printed {
+        Ok(()) => true,
+        Err(error) => {
+            fail(rt, "abi_calls: standard output cannot be written", error);
+            false
+        }
     }
-    io::write_all(STDOUT_FILENO, b" ") && io::print_decimal(STDOUT_FILENO, n)
 }
 
-fn put_numbers(numbers: &[u64]) -> bool {
+fn put(rt: &impl Runtime, text: impl Display + Drop) -> bool {
+    is_put(rt, rt.print(text))
+}
+
+// A number behind a space, `-` where the call left it alone.
+fn put_number(rt: &impl Runtime, n: u64) -> bool {
+    if n == LEFT {
+        return put(rt, " -");
+    }
+    put(rt, " ") && put(rt, n)
+}
+
+fn put_numbers(rt: &impl Runtime, numbers: &[u64]) -> bool {
     let mut i: usize = 0;
     while i < numbers.len() {
-        if !put_number(numbers[i]) {
+        if !put_number(rt, numbers[i]) {
             return false;
         }
         i += 1;
@@ -24,14 +42,14 @@ fn put_numbers(numbers: &[u64]) -> bool {
     true
 }
 
-fn put_byte(byte: u8) -> bool {
-    io::print_hex(STDOUT_FILENO, byte as u64, 2)
+fn put_byte(rt: &impl Runtime, byte: u8) -> bool {
+    put(rt, format_args!("{byte:02x}"))
 }
 
-fn put_bytes(bytes: &[u8]) -> bool {
+fn put_bytes(rt: &impl Runtime, bytes: &[u8]) -> bool {
     let mut i: usize = 0;
     while i < bytes.len() {
-        if !put_byte(bytes[i]) {
+        if !put_byte(rt, bytes[i]) {
             return false;
         }
         i += 1;
@@ -39,27 +57,33 @@ fn put_bytes(bytes: &[u8]) -> bool {
     true
 }
 
-fn put_call(name: &[u8], status: u64, out: &[u64]) -> bool {
-    io::write_all(STDOUT_FILENO, name) && put_number(status) && put_numbers(out)
+fn put_call(rt: &impl Runtime, name: &[u8], status: u64, out: &[u64]) -> bool {
+    is_put(rt, rt.write_all(name)) && put_number(rt, status) && put_numbers(rt, out)
 }
 
 // A line for a call that answers by numbers alone.
-pub(crate) fn tell(name: &[u8], status: u64, out: &[u64]) -> bool {
-    put_call(name, status, out) && io::write_all(STDOUT_FILENO, b"\n")
+pub(crate) fn tell(rt: &impl Runtime, name: &[u8], status: u64, out: &[u64]) -> bool {
+    put_call(rt, name, status, out) && put(rt, "\n")
 }
 
 // A line for a call that also writes bytes.
-pub(crate) fn tell_bytes(name: &[u8], status: u64, out: &[u64], bytes: &[u8]) -> bool {
-    put_call(name, status, out)
-        && io::write_all(STDOUT_FILENO, b" ")
-        && put_bytes(bytes)
-        && io::write_all(STDOUT_FILENO, b"\n")
+pub(crate) fn tell_bytes(
+    rt: &impl Runtime,
+    name: &[u8],
+    status: u64,
+    out: &[u64],
+    bytes: &[u8],
+) -> bool {
+    put_call(rt, name, status, out) && put(rt, " ") && put_bytes(rt, bytes) && put(rt, "\n")
 }
 
 // A line for a call that also writes numbers.
-pub(crate) fn tell_values(name: &[u8], status: u64, out: &[u64], values: &[u64]) -> bool {
-    put_call(name, status, out)
-        && io::write_all(STDOUT_FILENO, b" |")
-        && put_numbers(values)
-        && io::write_all(STDOUT_FILENO, b"\n")
+pub(crate) fn tell_values(
+    rt: &impl Runtime,
+    name: &[u8],
+    status: u64,
+    out: &[u64],
+    values: &[u64],
+) -> bool {
+    put_call(rt, name, status, out) && put(rt, " |") && put_numbers(rt, values) && put(rt, "\n")
 }

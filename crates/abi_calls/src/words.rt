@@ -1,4 +1,6 @@
 // The words that the program was given.
+use crate::system::word;
+use std::env::Env;
 
 // Whether the two hold the same bytes.
 fn same(a: &[u8], b: &[u8]) -> bool {
@@ -16,8 +18,8 @@ fn same(a: &[u8], b: &[u8]) -> bool {
 }
 
 // Whether a word is this one, which has at most 16 bytes.
-pub(crate) fn is_word(i: usize, text: &[u8]) -> bool {
-    let mut word = [0u8; 16];
-    let length = os::arg(i, &mut word);
-    same(&word[..length], text)
+pub(crate) fn is_word(rt: &impl Env, i: usize, text: &[u8]) -> bool {
+    let mut asked = [0u8; 16];
+    let length = word(rt, i, &mut asked);
+    same(&asked[..length], text)
 }

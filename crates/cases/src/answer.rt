@@ -7,9 +7,11 @@ use crate::room::fill;
 use crate::slices::{find, least, part, plus};
 use crate::tables::{NO_ROW, row_named};
 use crate::words::room_asked;
+use std::rt::Runtime;
 
 // Turn after turn, until one is the last. It counts its turns down as `next_line` does.
 fn put_turns(
+    rt: &impl Runtime,
     kind: usize,
     form: &[u8],
     line: &[u8],
@@ -24,7 +26,7 @@ fn put_turns(
     while turns > 0 {
         turns -= 1;
         let turn = take_turn(kind, line, args, room, state);
-        now = put_turn(form, turn, line, args, room, out, now);
+        now = put_turn(rt, form, turn, line, args, room, out, now);
         if turn.is_last {
             return now;
         }
@@ -36,6 +38,7 @@ fn put_turns(
 
 // The room that the line asks for is lent, filled. It is all there: a line that asks for more is bad.
 fn answer_case(
+    rt: &impl Runtime,
     kind: usize,
     form: &[u8],
     line: &[u8],
@@ -47,8 +50,8 @@ fn answer_case(
     let size = least(room_asked(args), room.len());
     let lent = &mut room[0..size];
     fill(lent);
-    let used = put_turns(kind, form, line, args, lent, out, used);
-    put_byte(b'\n', out, used)
+    let used = put_turns(rt, kind, form, line, args, lent, out, used);
+    put_byte(rt, b'\n', out, used)
 }
 
 // What the table has for a line: the kind's number, where its name ends in the line, and where in the
@@ -89,6 +92,7 @@ fn kind_if(is_good: bool, kind: usize) -> usize {
 // Answers the line that stands in the first bytes of the line buffer, and ends the answer's line. The
 // line is changed: its byte strings are decoded in it.
 pub(crate) fn answer(
+    rt: &impl Runtime,
     kinds: &[u8],
     buffer: &mut [u8],
     length: usize,
@@ -104,5 +108,5 @@ pub(crate) fn answer(
     let is_good = parse(line, case.name_end, words, args);
     let form = part(kinds, case.form, case.form_end);
     let kind = kind_if(is_good, case.kind);
-    answer_case(kind, form, line, args, room, out, used)
+    answer_case(rt, kind, form, line, args, room, out, used)
 }

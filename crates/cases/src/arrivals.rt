@@ -87,13 +87,12 @@ fn greatest(a: u64, b: u64) -> u64 {
 }
 
 // The state behind a call. It may have stored what it took behind what the carry held.
-fn behind(mut state: [u64; 10], given: Given) -> [u64; 10] {
-    let taken = given.taken;
+fn behind(mut state: [u64; 10], taken: usize, next: Arriving) -> [u64; 10] {
     let stored = plus(state[HELD] as usize, taken) as u64;
     state[AT] = plus(state[AT] as usize, taken) as u64;
     state[TAKEN] = plus(state[TAKEN] as usize, taken) as u64;
     state[WRITTEN] = greatest(state[WRITTEN], stored);
-    with_arriving(state, given.next)
+    with_arriving(state, next)
 }
 
 fn with_due(mut state: [u64; 10], due: usize) -> [u64; 10] {
@@ -169,18 +168,17 @@ fn told(args: &[u64], arrival: Arrival, from: u64, state: [u64; 10]) -> Turn {
 }
 
 fn give_told(args: &[u64], state: [u64; 10], given: Given) -> Turn {
-    let arrival = given.arrival;
-    told(args, arrival, rest_at(args, state), behind(state, given))
+    let after = behind(state, given.taken, given.next);
+    told(args, given.arrival, rest_at(args, state), after)
 }
 
 // `end USED TAKEN`
 fn end_told(args: &[u64], state: [u64; 10], given: Given) -> Turn {
-    let arrival = given.arrival;
-    match arrival {
+    match given.arrival {
         Arrival::End { used } => ended(
             args,
             few(USED_TAKEN, used as u64, state[TAKEN], 0, 0),
-            behind(state, given),
+            behind(state, given.taken, given.next),
         ),
         _ => give_told(args, state, given),
     }

@@ -1,9 +1,11 @@
 // Standard input, read in blocks and handed out line by line.
 use crate::slices::part;
-use libc::STDIN_FILENO;
+use crate::system::fail;
+use std::io::Read;
+use std::rt::Runtime;
 
 // How far the block is read: its next byte stands at `at`, and `have` bytes of it are filled.
-#[derive(Drop)]
+#[derive(Clone, Copy)]
 pub(crate) struct Source {
     pub(crate) at: usize,
     pub(crate) have: usize,
@@ -41,19 +43,19 @@ fn byte_at(filled: &[u8], at: usize) -> Byte {
 }
 
 // The next byte of the input.
-fn next_byte(block: &mut [u8], source: Source) -> Byte {
+fn next_byte(rt: &impl Runtime, input: &mut impl Read, block: &mut [u8], source: Source) -> Byte {
     let at = source.at;
     let have = source.have;
     if at < have {
         return byte_at(part(block, 0, have), at);
     }
-    let got = libc::read(STDIN_FILENO, block);
-    if got < 0 {
-        os::fail(b"cases: standard input cannot be read");
-        return Byte::Failed;
+    match input.read(block) {
+        Ok(filled) => byte_at(part(block, 0, filled), 0),
+        Err(error) => {
+            fail(rt, "cases: standard input cannot be read", error);
+            Byte::Failed
+        }
     }
-    let filled = io::count(got, block);
-    byte_at(part(block, 0, filled), 0)
 }
 
 // A line with `length` bytes in the buffer.
@@ -80,14 +82,20 @@ fn stopped(came: Byte, length: usize, is_too_long: bool, source: Source) -> Next
 // Reads the next line into `line`. The last may lack its newline. A proved loop has to end, and
 // nothing says that the input does: so the loop counts its turns down, from a number that no run
 // uses up.
-pub(crate) fn next_line(block: &mut [u8], line: &mut [u8], start: Source) -> Next {
+pub(crate) fn next_line(
+    rt: &impl Runtime,
+    input: &mut impl Read,
+    block: &mut [u8],
+    line: &mut [u8],
+    start: Source,
+) -> Next {
     let mut source = start;
     let mut length: usize = 0;
     let mut is_too_long = false;
     let mut turns = u64::MAX;
     while turns > 0 {
         turns -= 1;
-        let came = next_byte(block, source);
+        let came = next_byte(rt, input, block, source);
         let Byte::Got(byte, after) = came else {
             return stopped(came, length, is_too_long, source);
         };

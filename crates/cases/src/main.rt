@@ -21,6 +21,7 @@ mod printing;
 mod room;
 mod rows;
 mod slices;
+mod system;
 mod tables;
 mod turn;
 mod values;
@@ -29,23 +30,28 @@ mod words;
 use answer::answer;
 use input::{Next, Source, next_line};
 use kinds::KINDS;
-use libc::{STDERR_FILENO, STDOUT_FILENO};
 use output::{LOST, flush};
 use slices::same;
+use std::env::Env;
+use std::io::Read;
+use std::rt::Runtime;
+use system::{fail, tell_status, word, word_count};
 
 // The statuses: every line was answered, or not.
 const ANSWERED: u64 = 0;
 
 const FAILED: u64 = 2;
 
-// Where `./run` reads the status.
-const STATUS_FILENO: i32 = 3;
+// How the program is used.
+const USAGE: &str = "usage: cases < LINES\n\
+    Answers test cases, a line for each line of standard input. docs/CASES.md tells the lines.\n\
+    Status: 0 if every line was answered, refusals and `bad` among the answers, else 2.\n";
 
 // What is left where no line came: the answers that wait, if the input is at its end.
-fn left(next: Next, out: &[u8], used: usize) -> usize {
+fn left(rt: &impl Runtime, next: Next, out: &[u8], used: usize) -> usize {
     match next {
         Next::Failed => {
-            flush(out, used);
+            flush(rt, out, used);
             LOST
         }
         _ => used,
@@ -55,6 +61,8 @@ fn left(next: Next, out: &[u8], used: usize) -> usize {
 // Answers every line; what it returns is how many bytes of `out` wait at the end, or LOST where a line
 // has no answer. It counts its turns down as `next_line` does.
 fn answer_all(
+    rt: &impl Runtime,
+    input: &mut impl Read,
     kinds: &[u8],
     block: &mut [u8],
     line: &mut [u8],
@@ -67,12 +75,12 @@ fn answer_all(
     let mut turns = u64::MAX;
     while turns > 0 && used != LOST {
         turns -= 1;
-        let next = next_line(block, line, source);
+        let next = next_line(rt, input, block, line, source);
         let Next::Line(length, after) = next else {
-            return left(next, out, used);
+            return left(rt, next, out, used);
         };
         source = after;
-        used = answer(kinds, line, length, args, room, out, used);
+        used = answer(rt, kinds, line, length, args, room, out, used);
     }
     LOST
 }
@@ -80,65 +88,58 @@ fn answer_all(
 // The buffers: a block of input; a line; the numbers of its words; the room that a writing case lends;
 // and the output. A row of as many values as the numbers hold has more than any record has columns, and
 // no line has more OPs.
-fn answer_input() -> u64 {
+fn answer_input(rt: &impl Runtime) -> u64 {
+    let mut input = rt.reader();
     let mut block = [0u8; 65536];
     let mut line = [0u8; 262144];
     let mut args = [0u64; 131104];
     let mut room = [0u8; 262144];
     let mut out = [0u8; 65536];
     let used = answer_all(
-        &KINDS, &mut block, &mut line, &mut args, &mut room, &mut out,
+        rt, &mut input, &KINDS, &mut block, &mut line, &mut args, &mut room, &mut out,
     );
-    if flush(&out, used) == LOST {
+    if flush(rt, &out, used) == LOST {
         return FAILED;
     }
     ANSWERED
 }
 
-// How the program is used.
-fn put_usage(fd: i32) -> bool {
-    io::write_all(
-        fd,
-        b"usage: cases < LINES\n\
-        Answers test cases, a line for each line of standard input. docs/CASES.md tells the lines.\n\
-        Status: 0 if every line was answered, refusals and `bad` among the answers, else 2.\n",
-    )
+// Whether a word is this one, which has at most 16 bytes.
+fn is_word(rt: &impl Env, i: usize, text: &[u8]) -> bool {
+    let mut asked = [0u8; 16];
+    let length = word(rt, i, &mut asked);
+    same(&asked[..length], text)
 }
 
-// Whether a word is this one.
-fn is_word(i: usize, text: &[u8]) -> bool {
-    let mut word = [0u8; 16];
-    let length = os::arg(i, &mut word);
-    same(&word[..length], text)
-}
-
-fn help() -> u64 {
-    if put_usage(STDOUT_FILENO) {
-        return ANSWERED;
+fn help(rt: &impl Runtime) -> u64 {
+    match rt.print(USAGE) {
+        Ok(()) => ANSWERED,
+        Err(error) => {
+            fail(rt, "cases: standard output cannot be written", error);
+            FAILED
+        }
     }
-    os::fail(b"cases: standard output cannot be written");
-    FAILED
 }
 
 // Does what the words behind the first `before` ask for.
-fn run(before: usize) -> u64 {
-    let count = os::arg_count();
+fn run(rt: &impl Runtime, before: usize) -> u64 {
+    let count = word_count(rt);
     if count <= before {
-        return answer_input();
+        return answer_input(rt);
     }
-    if count - before == 1 && is_word(before, b"--help") {
-        return help();
+    if count - before == 1 && is_word(rt, before, b"--help") {
+        return help(rt);
     }
-    io::write_all(STDERR_FILENO, b"cases: no word is taken\n");
-    put_usage(STDERR_FILENO);
+    let _ = rt.eprint("cases: no word is taken\n");
+    let _ = rt.eprint(USAGE);
     FAILED
 }
 
-fn main() {
-    if !is_word(1, b"--tell-status") {
-        run(1);
+fn main(rt: HostRuntime) {
+    if !is_word(&rt, 1, b"--tell-status") {
+        run(&rt, 1);
         return;
     }
-    let status = run(2);
-    io::print_decimal(STATUS_FILENO, status);
+    let status = run(&rt, 2);
+    tell_status(&rt, status);
 }

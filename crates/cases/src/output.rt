@@ -3,34 +3,37 @@
 ghost use Rattle.std.specs.Prelude.{◌<◌};
 
 use crate::slices::part;
-use libc::STDOUT_FILENO;
+use crate::system::fail;
+use std::rt::Runtime;
 
 // The count once output was lost, which no buffer has: it stays.
 pub(crate) const LOST: usize = usize::MAX;
 
 // Writes what waits.
-pub(crate) fn flush(out: &[u8], used: usize) -> usize {
+pub(crate) fn flush(rt: &impl Runtime, out: &[u8], used: usize) -> usize {
     if used == LOST {
         return LOST;
     }
-    if io::write_all(STDOUT_FILENO, part(out, 0, used)) {
-        return 0;
+    match rt.write_all(part(out, 0, used)) {
+        Ok(()) => 0,
+        Err(error) => {
+            fail(rt, "cases: standard output cannot be written", error);
+            LOST
+        }
     }
-    os::fail(b"cases: standard output cannot be written");
-    LOST
 }
 
 // Writes what waits where there is no room for one byte more.
-fn with_room(out: &[u8], used: usize) -> usize {
+fn with_room(rt: &impl Runtime, out: &[u8], used: usize) -> usize {
     if used < out.len() {
         return used;
     }
-    flush(out, used)
+    flush(rt, out, used)
 }
 
 // One byte. A buffer of no bytes at all would have no room for it.
-pub(crate) fn put_byte(b: u8, out: &mut [u8], used: usize) -> usize {
-    let at = with_room(out, used);
+pub(crate) fn put_byte(rt: &impl Runtime, b: u8, out: &mut [u8], used: usize) -> usize {
+    let at = with_room(rt, out, used);
     if out.len() <= at {
         return LOST;
     }
@@ -39,21 +42,28 @@ pub(crate) fn put_byte(b: u8, out: &mut [u8], used: usize) -> usize {
 }
 
 // The bytes as they are.
-pub(crate) fn put_text(text: &[u8], out: &mut [u8], used: usize) -> usize {
+pub(crate) fn put_text(rt: &impl Runtime, text: &[u8], out: &mut [u8], used: usize) -> usize {
     let mut now = used;
     let mut i: usize = 0;
     while i < text.len() {
-        now = put_byte(text[i], out, now);
+        now = put_byte(rt, text[i], out, now);
         i += 1;
     }
     now
 }
 
 // A number in decimal.
-pub(crate) fn put_number(n: u64, out: &mut [u8], used: usize) -> usize {
+pub(crate) fn put_number(rt: &impl Runtime, n: u64, out: &mut [u8], used: usize) -> usize {
     let mut digits = [0u8; 20];
-    let count = io::decimal(n, &mut digits);
-    put_text(&digits[..count], out, used)
+    let mut rest = n;
+    for i in (0..20).rev() {
+        digits[i] = b'0' + (rest % 10) as u8;
+        rest /= 10;
+        if rest == 0 {
+            return put_text(rt, &digits[i..], out, used);
+        }
+    }
+    put_text(rt, &digits, out, used)
 }
 
 fn hex_digit(n: u8) -> u8
@@ -65,20 +75,20 @@ fn hex_digit(n: u8) -> u8
     b'a' + (n - 10)
 }
 
-fn put_hex_byte(b: u8, out: &mut [u8], used: usize) -> usize {
-    let used = put_byte(hex_digit(b / 16), out, used);
-    put_byte(hex_digit(b % 16), out, used)
+fn put_hex_byte(rt: &impl Runtime, b: u8, out: &mut [u8], used: usize) -> usize {
+    let used = put_byte(rt, hex_digit(b / 16), out, used);
+    put_byte(rt, hex_digit(b % 16), out, used)
 }
 
 // Bytes in hex, `-` where there are none.
-pub(crate) fn put_hex(s: &[u8], out: &mut [u8], used: usize) -> usize {
+pub(crate) fn put_hex(rt: &impl Runtime, s: &[u8], out: &mut [u8], used: usize) -> usize {
     if s.len() == 0 {
-        return put_byte(b'-', out, used);
+        return put_byte(rt, b'-', out, used);
     }
     let mut now = used;
     let mut i: usize = 0;
     while i < s.len() {
-        now = put_hex_byte(s[i], out, now);
+        now = put_hex_byte(rt, s[i], out, now);
         i += 1;
     }
     now

@@ -11,6 +11,7 @@ use crate::tables::row_text;
 use crate::turn::{OWN, Turn};
 use crate::values::FORMS;
 use crate::words::{nth, place, post_header, shown, text};
+use std::rt::Runtime;
 
 // The forms that all kinds share, by the numbers in `turn`.
 const ANSWERS: [u8; 132] = *b"\n\
@@ -47,12 +48,12 @@ fn taken(letter: u8) -> usize {
     }
 }
 
-fn put_int(n: u64, out: &mut [u8], used: usize) -> usize {
+fn put_int(rt: &impl Runtime, n: u64, out: &mut [u8], used: usize) -> usize {
     if n < FIRST_NEGATIVE {
-        return put_number(n, out, used);
+        return put_number(rt, n, out, used);
     }
-    let used = put_byte(b'-', out, used);
-    put_number(u64::MAX - n + 1, out, used)
+    let used = put_byte(rt, b'-', out, used);
+    put_number(rt, u64::MAX - n + 1, out, used)
 }
 
 // The sign of a number that is 1 where it is negative.
@@ -75,6 +76,7 @@ fn bytes_of<'a>(letter: u8, first: u64, second: u64, line: &'a [u8], args: &[u64
 
 // One letter of a form, with the numbers that it may take.
 fn put_letter(
+    rt: &impl Runtime,
     letter: u8,
     first: u64,
     second: u64,
@@ -85,21 +87,23 @@ fn put_letter(
     used: usize,
 ) -> usize {
     match letter {
-        b'N' => put_number(first, out, used),
-        b'I' => put_int(first, out, used),
-        b'S' => put_byte(sign(first), out, used),
-        b'W' => put_hex(part(room, first as usize, second as usize), out, used),
+        b'N' => put_number(rt, first, out, used),
+        b'I' => put_int(rt, first, out, used),
+        b'S' => put_byte(rt, sign(first), out, used),
+        b'W' => put_hex(rt, part(room, first as usize, second as usize), out, used),
         b'H' | b'X' | b'E' | b'L' => put_hex(
+            rt,
             bytes_of(letter, first, second, line, args),
             out,
             used,
         ),
-        _ => put_byte(letter, out, used),
+        _ => put_byte(rt, letter, out, used),
     }
 }
 
 // A form without a star, and its numbers, the first of which stands at `from`.
 fn put_form(
+    rt: &impl Runtime,
     form: &[u8],
     numbers: &[u64],
     from: usize,
@@ -116,7 +120,7 @@ fn put_form(
         let letter = form[i];
         let first = nth(numbers, at);
         let second = nth(numbers, plus(at, 1));
-        now = put_letter(letter, first, second, line, args, room, out, now);
+        now = put_letter(rt, letter, first, second, line, args, room, out, now);
         at = plus(at, taken(letter));
         i += 1;
     }
@@ -125,6 +129,7 @@ fn put_form(
 
 // A form without a star, and the turn's own numbers from `from` on.
 fn put_own(
+    rt: &impl Runtime,
     form: &[u8],
     turn: Turn,
     from: usize,
@@ -135,11 +140,12 @@ fn put_own(
     used: usize,
 ) -> usize {
     let numbers = turn.numbers;
-    put_form(form, &numbers, from, line, args, room, out, used)
+    put_form(rt, form, &numbers, from, line, args, room, out, used)
 }
 
 // The value or the item of a turn.
 fn put_inner(
+    rt: &impl Runtime,
     turn: Turn,
     line: &[u8],
     args: &[u64],
@@ -149,11 +155,12 @@ fn put_inner(
 ) -> usize {
     let parts = turn.parts;
     let inner = row_text(&FORMS, turn.inner);
-    put_form(inner, &parts, 0, line, args, room, out, used)
+    put_form(rt, inner, &parts, 0, line, args, room, out, used)
 }
 
 // A form that may have a star.
 fn put_around(
+    rt: &impl Runtime,
     form: &[u8],
     turn: Turn,
     line: &[u8],
@@ -163,17 +170,28 @@ fn put_around(
     used: usize,
 ) -> usize {
     let star = find(form, 0, b'*');
-    let used = put_own(part(form, 0, star), turn, 0, line, args, room, out, used);
+    let used = put_own(
+        rt,
+        part(form, 0, star),
+        turn,
+        0,
+        line,
+        args,
+        room,
+        out,
+        used,
+    );
     if star == form.len() {
         return used;
     }
-    let used = put_inner(turn, line, args, room, out, used);
+    let used = put_inner(rt, turn, line, args, room, out, used);
     let behind = part(form, plus(star, 1), form.len());
-    put_own(behind, turn, 1, line, args, room, out, used)
+    put_own(rt, behind, turn, 1, line, args, room, out, used)
 }
 
 // What one turn says; `form` is the kind's own.
 pub(crate) fn put_turn(
+    rt: &impl Runtime,
     form: &[u8],
     turn: Turn,
     line: &[u8],
@@ -183,8 +201,8 @@ pub(crate) fn put_turn(
     used: usize,
 ) -> usize {
     if turn.form == OWN {
-        return put_around(form, turn, line, args, room, out, used);
+        return put_around(rt, form, turn, line, args, room, out, used);
     }
     let shared = row_text(&ANSWERS, turn.form);
-    put_own(shared, turn, 0, line, args, room, out, used)
+    put_own(rt, shared, turn, 0, line, args, room, out, used)
 }

@@ -51,7 +51,7 @@ pub(crate) const WHOLE: usize = 20;
 // The numbers of the form, of which none has more than that of an event: an id, flags, and a start and a
 // length for each of six parts. Where the form holds a value or an item, `inner` is the row of its form
 // in the table of `values`, and `parts` are its numbers.
-#[derive(Drop)]
+#[derive(Clone, Copy)]
 pub(crate) struct Turn {
     pub(crate) form: usize,
     pub(crate) numbers: [u64; 14],

@@ -8,7 +8,7 @@ use wire::Refusal;
 use wire::refusal::BAD_BITS;
 
 // A column, and an offset in the image.
-#[derive(Drop)]
+#[derive(Clone, Copy)]
 pub struct Cursor {
     pub column: usize,
     pub offset: usize,

@@ -1,7 +1,9 @@
 // The input, read to its end or until the buffer is full.
-ghost use Rattle.io.specs.Counts.{IsPrefixLen};
+ghost use Rattle.profile.specs.Counts.{IsPrefixLen};
 
-use libc::STDIN_FILENO;
+use crate::system::fail;
+use std::io::Read;
+use std::rt::Runtime;
 
 // How many bytes came, and whether no read failed.
 #[derive(Drop)]
@@ -10,21 +12,24 @@ pub(crate) struct Input {
     pub(crate) is_read: bool,
 }
 
-pub(crate) fn read_input(buf: &mut [u8]) -> Input
+// A read that failed is said.
+pub(crate) fn read_input(rt: &impl Runtime, buf: &mut [u8]) -> Input
     ensures { IsPrefixLen result.len buf.new }
 {
+    let mut input = rt.reader();
     let mut len: usize = 0;
     while len < buf.len() {
-        let rest = &mut buf[len..];
-        let got = libc::read(STDIN_FILENO, rest);
-        let more = io::count(got, rest);
-        if more == 0 {
-            return Input {
-                len,
-                is_read: got == 0,
-            };
+        match input.read(&mut buf[len..]) {
+            Ok(0) => return Input { len, is_read: true },
+            Ok(more) => len += more,
+            Err(error) => {
+                fail(rt, "profile: standard input cannot be read", error);
+                return Input {
+                    len,
+                    is_read: false,
+                };
+            }
         }
-        len += more;
     }
     Input { len, is_read: true }
 }

@@ -2,6 +2,8 @@
 ghost use Rattle.std.specs.Prelude.{◌≡◌};
 ghost use Rattle.profile.specs.Words.{same_bytes, asked_by};
 
+use crate::system::{word, word_count};
+use std::env::Env;
 use value::Dialect;
 
 // What the words ask for: a map read in a dialect, by its name; by the letter of document 01, as no dialect was named; or how the
@@ -50,22 +52,22 @@ fn asked_by(word: &[u8]) -> Asked
 }
 
 // Whether `./run` has asked for the status.
-pub(crate) fn is_status_asked() -> bool {
-    let mut word = [0u8; 16];
-    let length = os::arg(1, &mut word);
-    same(&word[..length], b"--tell-status")
+pub(crate) fn is_status_asked(rt: &impl Env) -> bool {
+    let mut asked = [0u8; 16];
+    let length = word(rt, 1, &mut asked);
+    same(&asked[..length], b"--tell-status")
 }
 
 // What the words behind the first `before` ask for.
-pub(crate) fn asked_behind(before: usize) -> Asked {
-    let count = os::arg_count();
+pub(crate) fn asked_behind(rt: &impl Env, before: usize) -> Asked {
+    let count = word_count(rt);
     if count <= before {
         return Asked::Letter;
     }
     if 1 < count - before {
         return Asked::Unknown;
     }
-    let mut word = [0u8; 16];
-    let length = os::arg(before, &mut word);
-    asked_by(&word[..length])
+    let mut asked = [0u8; 16];
+    let length = word(rt, before, &mut asked);
+    asked_by(&asked[..length])
 }

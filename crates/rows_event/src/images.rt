@@ -12,7 +12,7 @@ use wire::{Part, Refusal};
 
 // Where the walk over the images stands: an offset of the event, and whether the image there stands under the second set.
 // A walk begins with `Images { at: rows.images, second: false }`.
-#[derive(Drop)]
+#[derive(Clone, Copy)]
 pub struct Images {
     pub at: usize,
     pub second: bool,

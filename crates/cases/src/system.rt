@@ -1,0 +1,57 @@
+// What the program has of the system besides its input and output: its words, the messages on standard
+// error, and its status.
+ghost use Rattle.std.specs.Prelude.{◌≤◌, length};
+
+use std::env::{Env, FillError};
+use std::fs::OpenOptions;
+use std::io::{Error, Write};
+use std::rt::{Files, Runtime};
+
+// Where `./run` reads the status: descriptor 3.
+const STATUS_FILE: &str = "/dev/fd/3";
+
+// Whether there is a word i. Word 0 is the program's own name.
+fn has_word(rt: &impl Env, i: usize) -> bool {
+    let mut word = [0u8; 1];
+    !matches!(rt.arg(i, &mut word), Err(FillError::NotPresent))
+}
+
+// How many words there are.
+pub(crate) fn word_count(rt: &impl Env) -> usize {
+    for i in 0..usize::MAX {
+        if !has_word(rt, i) {
+            return i;
+        }
+    }
+    usize::MAX
+}
+
+// Puts word i at the start of a buffer and returns its length, 0 where there is none or it has more bytes than the buffer.
+pub(crate) fn word(rt: &impl Env, i: usize, buf: &mut [u8]) -> usize
+    ensures { result ≤ length buf.new }
+{
+    match rt.arg(i, buf) {
+        Ok(length) => length,
+        Err(_) => 0,
+    }
+}
+
+// Says on standard error what failed, and why in the system's words. The library puts the error's number behind those; it is left out.
+pub(crate) fn fail(rt: &impl Runtime, what: &str, error: Error) {
+    let _ = match format!(in rt.alloc(); "{error}") {
+        Ok(text) => match text.as_str().split_once(" (os error ") {
+            Some((words, _)) => eprintln!(rt; "{what}: {words}"),
+            None => eprintln!(rt; "{what}: {text}"),
+        },
+        Err(_) => eprintln!(rt; "{what}: {error}"),
+    };
+}
+
+// Tells the status to `./run`.
+pub(crate) fn tell_status(rt: &impl Files, status: u64) {
+    let mut options = OpenOptions::new();
+    options.write(true);
+    if let Ok(mut file) = options.open(rt, STATUS_FILE) {
+        let _ = write!(file, "{status}");
+    }
+}
