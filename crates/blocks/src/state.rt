@@ -25,7 +25,7 @@ pub struct Arriving {
 }
 
 // The bytes of a value stand in the carry, those of a part at the front of the block.
-#[derive(Drop)]
+#[derive(Clone, Copy)]
 pub enum Arrival {
     More,
     Null { column: usize },
@@ -37,14 +37,14 @@ pub enum Arrival {
 }
 
 // One answer, how many bytes were taken from the front of the block, and the state for the next call.
-#[derive(Drop)]
+#[derive(Clone, Copy)]
 pub struct Given {
     pub arrival: Arrival,
     pub taken: usize,
     pub next: Arriving,
 }
 
-#[derive(Drop)]
+#[derive(Clone, Copy)]
 pub enum Begun {
     Begins(Arriving),
     Refused(Refusal),

@@ -7,7 +7,7 @@ ghost use Rattle.blocks.specs.Inner.Hands.{turn_by, turn_told};
 use temporal::temporal_size;
 use value::Shape;
 
-#[derive(Drop)]
+#[derive(Clone, Copy)]
 pub(crate) enum Turn {
     Wait,
     Long(usize),

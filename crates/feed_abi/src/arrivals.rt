@@ -24,7 +24,7 @@ const LONG: u64 = 13;
 const PART: u64 = 14;
 
 // What arrived: a value, NULL too, or what has no more than a number of bytes, or why there is nothing.
-#[derive(Drop)]
+#[derive(Clone, Copy)]
 enum Noted {
     Value {
         column: usize,

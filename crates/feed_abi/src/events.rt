@@ -11,7 +11,7 @@ use rows_event::{Extra, ImageStep, Images, Rows, RowsRead, Second};
 use wire::Part;
 
 // A part that may be absent, as numbers: 1 with its start and length, or zeros.
-#[derive(Drop)]
+#[derive(Clone, Copy)]
 struct Given {
     there: u64,
     start: u64,

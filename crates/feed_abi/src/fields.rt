@@ -27,7 +27,7 @@ const STRINGS: u64 = 3;
 const GROUPS: u64 = 4;
 
 // A step over any of them, its item as two numbers.
-#[derive(Drop)]
+#[derive(Clone, Copy)]
 enum ItemStep {
     Item {
         first: u64,

@@ -16,7 +16,7 @@ use wire::refusal::{NO_COLUMN, NOT_TAKEN};
 use wire::{Part, Refusal, Written};
 
 // The dialect that a number asks for.
-#[derive(Drop)]
+#[derive(Clone, Copy)]
 pub(crate) enum Asked {
     For(Dialect),
     Refused(Refusal),

@@ -14,7 +14,7 @@ pub struct Cursor {
     pub offset: usize,
 }
 
-#[derive(Drop)]
+#[derive(Clone, Copy)]
 pub enum First {
     At(Cursor),
     Refused(Refusal),
@@ -22,14 +22,14 @@ pub enum First {
 
 // What a valid record and presence bits of its length say: how many columns there are, how many of them are present, and how many bytes of
 // null bits these have.
-#[derive(Drop)]
+#[derive(Clone, Copy)]
 pub struct Head {
     pub columns: usize,
     pub present: usize,
     pub nulls: usize,
 }
 
-#[derive(Drop)]
+#[derive(Clone, Copy)]
 pub enum HeadRead {
     Read(Head),
     Refused(Refusal),

@@ -8,7 +8,7 @@ use wire::Refusal;
 use wire::refusal::IMAGE_SHORT;
 
 // The bytes used, or why the walk stopped.
-#[derive(Drop)]
+#[derive(Clone, Copy)]
 pub enum WalkEnd {
     Ends { used: usize },
     Refused(Refusal),

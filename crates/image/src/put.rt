@@ -16,7 +16,7 @@ use wire::refusal::{BAD_BITS, NO_COLUMN, NO_ROOM, NOT_TAKEN};
 use wire::{Refusal, Written};
 
 // Where the next value goes.
-#[derive(Drop)]
+#[derive(Clone, Copy)]
 pub enum Put {
     Next(Cursor),
     Refused(Refusal),

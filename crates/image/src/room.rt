@@ -9,7 +9,7 @@ ghost use Rattle.image.specs.Room.{read_room, room_told};
 use crate::cursor::{HeadRead, read_head};
 use wire::Refusal;
 
-#[derive(Drop)]
+#[derive(Clone, Copy)]
 pub enum Room {
     Bytes(u64),
     Refused(Refusal),

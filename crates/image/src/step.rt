@@ -10,7 +10,7 @@ use wire::Refusal;
 use wire::refusal::{IMAGE_SHORT, NO_COLUMN};
 
 // What stands at a cursor: NULL or a value, with its column and the next cursor; or the end, with the bytes used.
-#[derive(Drop)]
+#[derive(Clone, Copy)]
 pub enum Step {
     Null {
         column: usize,
@@ -28,12 +28,12 @@ pub enum Step {
 }
 
 // Which null bit: as many as present columns stand before the column.
-#[derive(Drop)]
+#[derive(Clone, Copy)]
 pub(crate) struct NullBit(pub usize);
 
 // A cursor that knows its null bit. A loop over the steps of a row need not count present columns again; the public step, which believes no
 // cursor, counts them each time.
-#[derive(Drop)]
+#[derive(Clone, Copy)]
 pub(crate) struct InnerCursor {
     pub column: usize,
     pub bit: NullBit,
@@ -41,7 +41,7 @@ pub(crate) struct InnerCursor {
 }
 
 // The same answers, with such a cursor for the next column.
-#[derive(Drop)]
+#[derive(Clone, Copy)]
 pub(crate) enum InnerStep {
     Null {
         column: usize,

@@ -18,7 +18,7 @@ pub(crate) struct CharsetCursor {
     pub default: u16,
 }
 
-#[derive(Drop)]
+#[derive(Clone, Copy)]
 pub(crate) struct CharsetTurn {
     pub charset: u16,
     pub next: CharsetCursor,

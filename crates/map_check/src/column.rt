@@ -14,14 +14,14 @@ use wire::Refusal;
 use wire::refusal::{BAD_METADATA, TYPE_NOT_TAKEN};
 
 // A column that is accepted.
-#[derive(Drop)]
+#[derive(Clone, Copy)]
 pub(crate) enum ColumnTaken {
     Taken(Declared),
     Refused(Refusal),
 }
 
 // How many columns each class has, if all columns are accepted and no metadata is left.
-#[derive(Drop)]
+#[derive(Clone, Copy)]
 pub(crate) enum Sizes {
     Counted(Ranks),
     Refused(Refusal),

@@ -33,7 +33,7 @@ pub(crate) struct Progress {
 }
 
 // A column's entry, and where the making stands behind it.
-#[derive(Drop)]
+#[derive(Clone, Copy)]
 pub(crate) struct EntryTurn {
     pub entry: Entry,
     pub next: Progress,

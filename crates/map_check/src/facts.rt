@@ -26,7 +26,7 @@ pub(crate) struct Facts {
 }
 
 // What the check goes on with of a map's fields: those of keys, and what the record needs.
-#[derive(Drop)]
+#[derive(Clone, Copy)]
 pub(crate) struct KeptFields {
     // fields 8 and 9
     pub simple: Found,

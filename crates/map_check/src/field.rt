@@ -18,7 +18,7 @@ use wire::refusal::BAD_FIELD;
 use wire::{Part, Refusal};
 
 // The fields of a map that are kept, or why one is not.
-#[derive(Drop)]
+#[derive(Clone, Copy)]
 pub(crate) enum FieldsKept {
     Kept(KeptFields),
     Refused(Refusal),

@@ -11,7 +11,7 @@ use wire::refusal::NO_COLUMN;
 use wire::{Part, Refusal};
 
 // Where a column's name stands in the list that was looked at.
-#[derive(Drop)]
+#[derive(Clone, Copy)]
 pub enum NameRead {
     Name(Part),
     Refused(Refusal),
@@ -19,7 +19,7 @@ pub enum NameRead {
 
 // The names field of a map: where its value stands, which may be empty; that it has none; or the refusal of the event or of a field that
 // comes before it.
-#[derive(Drop)]
+#[derive(Clone, Copy)]
 pub enum NamesRead {
     Names(Part),
     Absent,

@@ -26,7 +26,7 @@ pub const MOST_BYTES: usize = HEAD + ENTRY * MOST_COLUMNS;
 const LAST: usize = (usize::MAX - HEAD) / ENTRY;
 
 // How many columns a valid record has.
-#[derive(Drop)]
+#[derive(Clone, Copy)]
 pub enum RecordRead {
     Valid { columns: usize },
     Refused(Refusal),

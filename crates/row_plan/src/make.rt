@@ -14,7 +14,7 @@ use wire::refusal::NO_ROOM;
 pub(crate) const ITEM_BYTES: usize = 3;
 
 // How many bytes the plan has, and how many items, one for each present column.
-#[derive(Drop)]
+#[derive(Clone, Copy)]
 pub enum Planned {
     Made { len: usize, items: usize },
     Refused(Refusal),

@@ -18,7 +18,7 @@ use wire::Refusal;
 use wire::refusal::IMAGE_SHORT;
 
 // The sort of a value and its seven parts.
-#[derive(Drop)]
+#[derive(Clone, Copy)]
 pub(crate) struct Numbers {
     pub(crate) sort: u64,
     pub(crate) a: u64,
@@ -31,7 +31,7 @@ pub(crate) struct Numbers {
 }
 
 // The numbers of a value and the place after it, or why there is none.
-#[derive(Drop)]
+#[derive(Clone, Copy)]
 pub(crate) enum NumbersRead {
     Got { numbers: Numbers, next: usize },
     Refused(Refusal),

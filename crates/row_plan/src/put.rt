@@ -12,14 +12,14 @@ use wire::refusal::{BAD_BITS, NO_COLUMN, NO_ROOM, NOT_TAKEN};
 use wire::{Refusal, Written};
 
 // Which present column comes next, and where its value goes in the image.
-#[derive(Drop)]
+#[derive(Clone, Copy)]
 pub struct ItemCursor {
     pub item: usize,
     pub offset: usize,
 }
 
 // Where the next value goes.
-#[derive(Drop)]
+#[derive(Clone, Copy)]
 pub enum ItemPut {
     Next(ItemCursor),
     Refused(Refusal),

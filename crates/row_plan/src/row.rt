@@ -16,7 +16,7 @@ pub struct RowCursor {
     pub offset: usize,
 }
 
-#[derive(Drop)]
+#[derive(Clone, Copy)]
 pub enum RowStep {
     Null {
         column: usize,

@@ -19,14 +19,14 @@ use wire::refusal::{IMAGE_SHORT, NO_COLUMN, NO_ROOM};
 pub const VALUE_NUMBERS: usize = 8;
 
 // How many values were stored, and the cursor of the next.
-#[derive(Drop)]
+#[derive(Clone, Copy)]
 pub enum Run {
     Ran { values: usize, next: RowCursor },
     Refused(Refusal),
 }
 
 // Where a run left an image: at its end or at that of the room, or at a value that is refused.
-#[derive(Drop)]
+#[derive(Clone, Copy)]
 pub(crate) enum Paused {
     On {
         values: usize,
@@ -40,7 +40,7 @@ pub(crate) enum Paused {
 }
 
 // How far an image was read fast: how many values are stored, and where the next stands.
-#[derive(Drop)]
+#[derive(Clone, Copy)]
 pub(crate) struct Reached {
     pub(crate) values: usize,
     pub(crate) item: usize,
@@ -48,7 +48,7 @@ pub(crate) struct Reached {
 }
 
 // Whether there may be a value at a cursor.
-#[derive(Drop)]
+#[derive(Clone, Copy)]
 pub(crate) enum Gate {
     Open,
     Refused(Refusal),

@@ -20,7 +20,7 @@ pub struct Rows {
     pub images: usize,
 }
 
-#[derive(Drop)]
+#[derive(Clone, Copy)]
 pub enum RowsRead {
     Read(Rows),
     Refused(Refusal),

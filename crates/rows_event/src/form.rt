@@ -21,13 +21,13 @@ const UPDATE_ROWS: u64 = 31;
 const DELETE_ROWS: u64 = 32;
 
 // The second edition has extra data; updates have a second set of presence bits.
-#[derive(Drop)]
+#[derive(Clone, Copy)]
 pub(crate) struct Form {
     pub extra: bool,
     pub second: bool,
 }
 
-#[derive(Drop)]
+#[derive(Clone, Copy)]
 pub(crate) enum FormRead {
     Read(Form),
     Refused(Refusal),

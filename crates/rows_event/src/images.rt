@@ -19,7 +19,7 @@ pub struct Images {
 }
 
 // An image as a part of the event, and under which set it stands; or the end.
-#[derive(Drop)]
+#[derive(Clone, Copy)]
 pub enum ImageStep {
     Image {
         image: Part,

@@ -30,33 +30,33 @@ pub enum Second {
 }
 
 // The extra data, and the place after it.
-#[derive(Drop)]
+#[derive(Clone, Copy)]
 pub(crate) struct ExtraCut {
     pub extra: Extra,
     pub next: usize,
 }
 
-#[derive(Drop)]
+#[derive(Clone, Copy)]
 pub(crate) enum ExtraRead {
     Read(ExtraCut),
     Refused(Refusal),
 }
 
 // The second set, and the place after it.
-#[derive(Drop)]
+#[derive(Clone, Copy)]
 pub(crate) struct SecondCut {
     pub second: Second,
     pub next: usize,
 }
 
-#[derive(Drop)]
+#[derive(Clone, Copy)]
 pub(crate) enum SecondRead {
     Read(SecondCut),
     Refused(Refusal),
 }
 
 // The column count, the sets of presence bits, and where the images begin.
-#[derive(Drop)]
+#[derive(Clone, Copy)]
 pub(crate) struct Sets {
     pub count: u64,
     pub before: Part,
@@ -64,13 +64,13 @@ pub(crate) struct Sets {
     pub images: usize,
 }
 
-#[derive(Drop)]
+#[derive(Clone, Copy)]
 pub(crate) enum SetsRead {
     Read(Sets),
     Refused(Refusal),
 }
 
-#[derive(Drop)]
+#[derive(Clone, Copy)]
 pub(crate) struct RowsParts {
     pub id: u64,
     pub flags: u16,
@@ -80,7 +80,7 @@ pub(crate) struct RowsParts {
     pub sets: Sets,
 }
 
-#[derive(Drop)]
+#[derive(Clone, Copy)]
 pub(crate) enum RowsPartsRead {
     Read(RowsParts),
     Refused(Refusal),

@@ -10,7 +10,7 @@ use wire::{Part, Reach, Refusal, part_of, within};
 // The post-header length of events whose table id has 4 bytes.
 const SHORT_POST_HEADER: u8 = 6;
 
-#[derive(Drop)]
+#[derive(Clone, Copy)]
 pub struct Event {
     pub id: u64,
     pub flags: u16,
@@ -25,28 +25,28 @@ pub struct Event {
     pub optional: Part,
 }
 
-#[derive(Drop)]
+#[derive(Clone, Copy)]
 pub enum EventRead {
     Read(Event),
     Refused(Refusal),
 }
 
 // The names, and the place after the byte behind the second.
-#[derive(Drop)]
+#[derive(Clone, Copy)]
 struct EventNames {
     database: Part,
     table: Part,
     next: usize,
 }
 
-#[derive(Drop)]
+#[derive(Clone, Copy)]
 enum EventNamesRead {
     Read(EventNames),
     Refused(Refusal),
 }
 
 // What there is of the columns, and the place after it.
-#[derive(Drop)]
+#[derive(Clone, Copy)]
 struct EventColumns {
     types: Part,
     metadata: Part,
@@ -54,7 +54,7 @@ struct EventColumns {
     next: usize,
 }
 
-#[derive(Drop)]
+#[derive(Clone, Copy)]
 enum EventColumnsRead {
     Read(EventColumns),
     Refused(Refusal),

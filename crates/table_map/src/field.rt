@@ -23,7 +23,7 @@ pub struct Fields {
     pub columns: usize,
 }
 
-#[derive(Drop)]
+#[derive(Clone, Copy)]
 pub enum FieldStep {
     Field { kind: u8, value: Part, next: Fields },
     End,
@@ -31,14 +31,14 @@ pub enum FieldStep {
 }
 
 // A field cut out of the bytes: its type byte, its value, and the place after it.
-#[derive(Drop)]
+#[derive(Clone, Copy)]
 pub enum FieldCut {
     Cut { kind: u8, value: Part, next: usize },
     Refused(Refusal),
 }
 
 // Whether something passes, or why not.
-#[derive(Drop)]
+#[derive(Clone, Copy)]
 pub enum Judged {
     Holds,
     Refused(Refusal),

@@ -11,12 +11,12 @@ use crate::part::{PartRead, long_part};
 use wire::{Packed, Part, Reach, Refusal};
 
 // The cursor of a list of integers: fields 3, 7, 8, 11 and 13.
-#[derive(Drop)]
+#[derive(Clone, Copy)]
 pub struct Integers {
     pub at: usize,
 }
 
-#[derive(Drop)]
+#[derive(Clone, Copy)]
 pub enum IntegerStep {
     Item { value: u64, next: Integers },
     End,
@@ -43,12 +43,12 @@ impl Integers {
 
 // The cursor of a list of pairs: in field 9 a column and the length of its prefix; in fields 2 and 10, behind the default, a rank and its
 // charset.
-#[derive(Drop)]
+#[derive(Clone, Copy)]
 pub struct Pairs {
     pub at: usize,
 }
 
-#[derive(Drop)]
+#[derive(Clone, Copy)]
 pub enum PairStep {
     Item {
         first: u64,
@@ -88,12 +88,12 @@ impl Pairs {
 }
 
 // The cursor of a list of strings: field 4.
-#[derive(Drop)]
+#[derive(Clone, Copy)]
 pub struct Strings {
     pub at: usize,
 }
 
-#[derive(Drop)]
+#[derive(Clone, Copy)]
 pub enum StringStep {
     Item { value: Part, next: Strings },
     End,
@@ -122,12 +122,12 @@ impl Strings {
 }
 
 // The cursor of a list of groups of strings: fields 5 and 6. A group is told by how many strings it has and where the first stands.
-#[derive(Drop)]
+#[derive(Clone, Copy)]
 pub struct Groups {
     pub at: usize,
 }
 
-#[derive(Drop)]
+#[derive(Clone, Copy)]
 pub enum GroupStep {
     Item {
         count: u64,
@@ -182,7 +182,7 @@ fn skip_strings(s: &[u8], at: usize, n: u64) -> Reach
 }
 
 // The default charset at the start of fields 2 and 10, and the pairs (rank, charset) that follow it.
-#[derive(Drop)]
+#[derive(Clone, Copy)]
 pub enum DefaultCharset {
     Read { charset: u64, pairs: Pairs },
     Refused(Refusal),

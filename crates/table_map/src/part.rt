@@ -7,20 +7,20 @@ ghost use Rattle.table_map.specs.Inner.Reads.{announced_told, part_told};
 use wire::{Packed, Part, Reach, Refusal, within};
 
 // What a packed length announces: it may run past the bytes.
-#[derive(Drop)]
+#[derive(Clone, Copy)]
 pub(crate) enum Announced {
     Read(Part),
     Refused(Refusal),
 }
 
 // A part, and the place after it.
-#[derive(Drop)]
+#[derive(Clone, Copy)]
 pub(crate) struct CutPart {
     pub part: Part,
     pub next: usize,
 }
 
-#[derive(Drop)]
+#[derive(Clone, Copy)]
 pub(crate) enum PartRead {
     Read(CutPart),
     Refused(Refusal),

@@ -9,7 +9,7 @@ use crate::parts::{Date, Datetime, Temporal, Time};
 use wire::refusal::{DAY, FRACTION, HOUR, MINUTE, MONTH, SECOND, YEAR};
 
 // A temporal, or its first part out of range.
-#[derive(Drop)]
+#[derive(Clone, Copy)]
 pub(crate) enum Ranged {
     In(Temporal),
     Out(u8),

@@ -16,7 +16,7 @@ pub(crate) const TIMEF_INT_OFS: u64 = 1 << 23;
 
 pub(crate) const DATETIMEF_INT_OFS: u64 = 1 << 39;
 
-#[derive(Drop)]
+#[derive(Clone, Copy)]
 pub(crate) struct SignedTime {
     pub(crate) negative: bool,
     pub(crate) whole: u64,

@@ -16,7 +16,7 @@ use wire::refusal::IMAGE_SHORT;
 use wire::{Refusal, refuse, refuse_part};
 
 // The temporal and the place after it, or why there is none.
-#[derive(Drop)]
+#[derive(Clone, Copy)]
 pub enum TemporalRead {
     Read { temporal: Temporal, next: usize },
     Refused(Refusal),

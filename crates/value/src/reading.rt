@@ -12,7 +12,7 @@ use wire::refusal::IMAGE_SHORT;
 use wire::{Part, Refusal};
 
 // The value and the place after it, or why there is none.
-#[derive(Drop)]
+#[derive(Clone, Copy)]
 pub enum Read {
     Got { value: Value, next: usize },
     Refused(Refusal),

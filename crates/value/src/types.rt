@@ -64,7 +64,7 @@ pub const MYSQL_TYPE_STRING: u8 = 254;
 pub const MYSQL_TYPE_GEOMETRY: u8 = 255;
 
 // What a column type is.
-#[derive(Drop)]
+#[derive(Clone, Copy)]
 pub enum Family {
     // 1, 2, 9, 3, 8
     Integer { width: usize },

@@ -21,7 +21,7 @@ const TOP_32: u64 = 4294967295;
 const TOP_64: u64 = 18446744073709551615;
 
 // A value that was made of numbers, or why there is none.
-#[derive(Drop)]
+#[derive(Clone, Copy)]
 pub enum Made {
     Value(Value),
     Refused(Refusal),

@@ -11,7 +11,7 @@ use crate::refusal::{NO_ROOM, NOT_PACKED, Refusal, SHORT, refuse};
 use crate::store::{Written, has_room};
 
 // The value and the place after it, or why there is none.
-#[derive(Drop)]
+#[derive(Clone, Copy)]
 pub enum Packed {
     Value { value: u64, next: usize },
     Refused(Refusal),

@@ -13,7 +13,7 @@ pub struct Part {
 }
 
 // The place after some bytes, or why they are not all there.
-#[derive(Drop)]
+#[derive(Clone, Copy)]
 pub enum Reach {
     At(usize),
     Refused(Refusal),

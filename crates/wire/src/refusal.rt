@@ -74,7 +74,7 @@ pub const FRACTION: u8 = 7;
 pub const BELOW_ZERO: u8 = 8;
 
 // The part is 0 but for refusal 10.
-#[derive(Drop)]
+#[derive(Clone, Copy)]
 pub struct Refusal {
     pub number: u8,
     pub place: usize,

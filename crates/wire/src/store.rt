@@ -5,14 +5,14 @@ ghost use Rattle.wire.specs.Stored.{store, stored, answer_of, left_of, written_t
 use crate::refusal::{NO_ROOM, Refusal, refuse};
 
 // What every writer of bytes answers: the place after what it wrote, or why it wrote nothing.
-#[derive(Drop)]
+#[derive(Clone, Copy)]
 pub enum Written {
     Done { next: usize },
     Refused(Refusal),
 }
 
 // How many bytes something takes, or why it is not taken: what every call for a size answers.
-#[derive(Drop)]
+#[derive(Clone, Copy)]
 pub enum Size {
     Takes(usize),
     Refused(Refusal),
