@@ -10,7 +10,6 @@ use Rattle.row_plan.specs.declared.make.Planned.{Planned}
 use Rattle.row_plan.specs.declared.make.Planned.TheVariants.{Made, Refused as Refused₁}
 use Rattle.row_plan.specs.declared.run.Run.{Run}
 use Rattle.row_plan.specs.declared.run.Run.TheVariants.{Ran, Refused as Refused₂}
-use Rattle.row_plan.specs.declared.put.ItemCursor.{ItemCursor}
 use Rattle.row_plan.specs.declared.put.ItemPut.{ItemPut}
 use Rattle.row_plan.specs.declared.put.ItemPut.TheVariants.{Next, Refused as Refused₃}
 use Rattle.row_plan.specs.Plan.{RowStepped, null, value, end, row_step_told, planned_told}

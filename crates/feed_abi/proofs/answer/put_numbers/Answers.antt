@@ -1,5 +1,4 @@
 -- `feed_abi::answer::put_numbers` meets its contract. The loop's invariant: the first i numbers are copied. Assumes nothing.
-use Prim.Native.Nat.{◌-◌}
 use mathlib.Core.Path.{◌≡◌, refl, ◌∙◌}
 use native.Mathlib.Omega.{arith}
 use native.Mathlib.Numerals.{add-one}

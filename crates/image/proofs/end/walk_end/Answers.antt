@@ -1,5 +1,4 @@
 -- `image::end::walk_end` meets its contract. The loop's invariant: the walk ends as it does from the cursor. Assumes nothing.
-use Prim.Native.Nat.{◌-◌}
 use mathlib.Core.Path.{sym, ap, ◌∙◌}
 use native.Mathlib.Omega.{arith}
 use Rattle.image.specs.Split.{head_told}

@@ -1,5 +1,4 @@
 -- `image::presence::count_bits` meets its contract. Assumes nothing.
-use Prim.Native.Nat.{◌-◌}
 use mathlib.Core.Path.{◌≡◌, sym, ap, ◌∙◌}
 use native.Mathlib.Omega.{arith}
 use Rattle.image.specs.Present.{count_bits}

@@ -1,5 +1,4 @@
 -- `image::presence::first_set` meets its contract. Assumes nothing.
-use Prim.Native.Nat.{◌-◌}
 use mathlib.Core.Path.{refl, sym, ◌∙◌}
 use native.Mathlib.Omega.{arith}
 use Rattle.image.proofs.PresenceLaws.Firsts.{first_stop, first_step, first_done}

@@ -1,6 +1,5 @@
 -- `image::room::image_room` meets its contract. The loop's invariant: the bytes so far and those of the columns that are left are all of
 -- it. Assumes nothing.
-use Prim.Native.Nat.{◌-◌}
 use mathlib.Core.Path.{sym, ap, ◌∙◌}
 use native.Mathlib.Omega.{arith}
 use Rattle.image.specs.Split.{head_told}

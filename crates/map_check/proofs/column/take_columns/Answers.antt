@@ -1,6 +1,5 @@
 -- `map_check::column::take_columns` meets its contract. The loop's invariant: what is to come from this column on, by the ranks reached, is
 -- what was to come from the first. Assumes nothing.
-use Prim.Native.Nat.{◌-◌}
 use mathlib.Core.Path.{sym, ap, ◌∙◌, refl}
 use native.Mathlib.Omega.{arith}
 use lib.ListN.{get_or}

@@ -1,5 +1,4 @@
 -- `map_check::contents::groups_hold` meets its contract. Assumes nothing.
-use Prim.Native.Nat.{◌-◌}
 use mathlib.Core.Path.{sym, ap, ◌∙◌, refl}
 use native.Mathlib.Omega.{arith}
 use Rattle.table_map.proofs.Items.{group_moves}

@@ -1,11 +1,9 @@
 -- `map_check::contents::integers_hold` meets its contract. Assumes nothing.
-use Prim.Native.Nat.{◌-◌}
 use mathlib.Core.Path.{sym, ap, ◌∙◌}
 use native.Mathlib.Omega.{arith}
 use Rattle.table_map.proofs.Items.{integer_moves}
 use Rattle.table_map.proofs.Walks.{item_moves}
 use Rattle.table_map.specs.Lists.{integer_item, integer_told}
-use Rattle.map_check.specs.Contents.{integer_holds}
 use Rattle.map_check.proofs.ContentsLaws.Tallies.{none_met, more_met, no_more, one_fails, none_read}
 use Rattle.map_check.proofs.contents.integers_hold.Goals as goal
 

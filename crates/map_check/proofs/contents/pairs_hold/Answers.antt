@@ -1,6 +1,5 @@
 -- `map_check::contents::pairs_hold` meets its contract. The loop's invariant: what is to come from here, above the last rank, is what was
 -- to come from the start. Assumes nothing.
-use Prim.Native.Nat.{◌-◌}
 use mathlib.Core.Path.{sym, ap, ◌∙◌, refl}
 use native.Mathlib.Omega.{arith}
 use borrow.Author.Tests.{le-leb, lt-leb, lt-ltb, le-ltb}

@@ -1,6 +1,5 @@
 -- `map_check::entries::write_entries` meets its contract. The loop's invariant: what is to be stored from here on is what was to be
 -- stored from the start. Assumes nothing.
-use Prim.Native.Nat.{◌-◌}
 use mathlib.Core.Path.{refl, ap, ◌∙◌}
 use native.Mathlib.Omega.{arith}
 use Rattle.record.proofs.Places.{place_few}

@@ -1,6 +1,5 @@
 -- `map_check::field::keep_fields` meets its contract. The loop's invariant: what it has noted are the fields before this one, and what is
 -- to come decides the rest. Assumes nothing.
-use Prim.Native.Nat.{◌-◌}
 use mathlib.Core.Path.{sym, ap, ◌∙◌}
 use native.Mathlib.Omega.{arith}
 use Rattle.wire.specs.Outcome.{ok}

@@ -1,6 +1,5 @@
 -- `map_check::keys::keys_once` meets its contract. The outer loop's invariant: the keys before `later` repeat none, so those from there on
 -- decide. The inner loop's: no key before `earlier` is the one at `later`. Assumes nothing.
-use Prim.Native.Nat.{◌-◌}
 use mathlib.Core.Path.{refl, sym, ap, ◌∙◌}
 use native.Mathlib.Omega.{arith}
 use Rattle.wire.specs.declared.refusal.Refusal.{Refusal}

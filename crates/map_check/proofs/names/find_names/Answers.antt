@@ -1,6 +1,5 @@
 -- `map_check::names::find_names` meets its contract. The loop's invariant: the names among the fields from here on are those among the
 -- fields from the start. Assumes nothing.
-use Prim.Native.Nat.{◌-◌}
 use mathlib.Core.Path.{refl, sym, ap, ◌∙◌}
 use native.Mathlib.Omega.{arith}
 use Rattle.table_map.specs.Fields.{field_told}

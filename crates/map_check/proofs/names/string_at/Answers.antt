@@ -1,7 +1,6 @@
 -- `map_check::names::string_at` meets its contract. The loop's invariant: the string asked stands as many strings
 -- behind this place as are left. The measure is the bytes left, so that a number asked costs no more than the list is long. Assumes
 -- nothing.
-use Prim.Native.Nat.{◌-◌}
 use mathlib.Core.Path.{refl, sym, ap, ◌∙◌}
 use native.Mathlib.Omega.{arith}
 use Rattle.table_map.specs.Lists.{string_item, string_told}
