@@ -48,7 +48,11 @@ class Function:
 
 def exports(crate):
     """The names that src/lib.rt exports, each with its module, in order."""
-    return {name: module for module, name in re.findall(r"^pub use (\w+)::(\w+);", read("crates", crate, "src", "lib.rt"), re.M)}
+    found = {}
+    for module, names in re.findall(r"^pub use (\w+)::(\w+|\{[^}]*\});", read("crates", crate, "src", "lib.rt"), re.M):
+        for name in re.findall(r"\w+", names):
+            found[name] = module
+    return found
 
 
 def declared(text, pattern):
@@ -77,8 +81,8 @@ def declared(text, pattern):
 
 def function(crate, path, shown, file, comment, lines):
     text = "\n".join(lines)
-    signature = clean(re.split(r"\s(?:requires|ensures) \{", text)[0])
-    clauses = re.findall(r"\s(requires|ensures) \{(?: λ (?:r|_)\.)? ⌜(.*?)⌝ \}", text, re.S)
+    signature = clean(re.split(r"\s(?:requires|ensures)(?: \w+)? \{", text)[0])
+    clauses = re.findall(r"\s(requires|ensures)(?: \w+)? \{(.*?)\}(?=\s+(?:requires|ensures)[ \w]* \{|\s*\Z)", text, re.S)
     told = {"requires": [], "ensures": []}
     for word, clause in clauses:
         told[word].append(re.sub(r"\s+", " ", clause).strip())
@@ -130,7 +134,7 @@ def antt(crate, part):
         inner.sort()
         for file in sorted(files):
             path = os.path.relpath(os.path.join(folder, file), base)
-            if file.endswith(".antt") and file not in ("Lib.antt", "Proof.antt"):
+            if file.endswith(".antt") and file != "Lib.antt" and not (folder != base and file in ("Proof.antt", "Answers.antt", "Invariants.antt")):
                 yield path, read("crates", crate, part, path)
 
 

@@ -1,4 +1,4 @@
-// Tells the linker where libfeed_abi.a is: in the folder FEED_ABI_DIR, or where `rt staticlib feed_abi` writes it.
+// Tells the linker where libfeed_abi.a is: in the folder FEED_ABI_DIR, or where bindings/archive writes it.
 use std::env;
 use std::path::Path;
 use std::process;
@@ -11,7 +11,7 @@ fn main() {
     println!("cargo:rustc-link-search=native={dir}");
     if !Path::new(&dir).join("libfeed_abi.a").is_file() {
         eprintln!("there is no libfeed_abi.a in {dir}");
-        eprintln!("`rt staticlib feed_abi`, called in the repository, proves and builds it there as target/staticlib/libfeed_abi.a;");
+        eprintln!("bindings/archive proves and builds it, as target/staticlib/libfeed_abi.a;");
         eprintln!("FEED_ABI_DIR names another folder that has it");
         process::exit(1);
     }

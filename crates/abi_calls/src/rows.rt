@@ -48,14 +48,12 @@ fn step(
     tell(rt, b"feed_step", status, &out)
 }
 
-// The plan of all columns, the row read by it, and values put by it.
+// The plan of all columns, and the row read by it.
 fn plan(rt: &impl Runtime, record: &[u8], images: &[u8]) -> bool {
     let mut plan = [0u8; 42];
     let mut out = [LEFT; 2];
     let status = feed_abi::feed_plan(record, &PRESENCE, &mut plan, &mut out);
-    tell_bytes(rt, b"feed_plan", status, &out, &plan)
-        && runs(rt, &plan, images)
-        && put_items(rt, &plan)
+    tell_bytes(rt, b"feed_plan", status, &out, &plan) && runs(rt, &plan, images)
 }
 
 fn run(rt: &impl Runtime, plan: &[u8], images: &[u8], item: usize, offset: usize) -> bool {
@@ -67,24 +65,6 @@ fn run(rt: &impl Runtime, plan: &[u8], images: &[u8], item: usize, offset: usize
 
 fn runs(rt: &impl Runtime, plan: &[u8], images: &[u8]) -> bool {
     run(rt, plan, images, 0, 2) && run(rt, plan, images, 15, 2)
-}
-
-// A value put by the plan at an offset of 1; its items are all columns.
-fn put_item(rt: &impl Runtime, plan: &[u8], item: usize, kind: u64, parts: &[u64]) -> bool {
-    let mut image = [0xa5u8; 10];
-    let mut out = [LEFT; 2];
-    let status = feed_abi::feed_put_item(
-        plan, &NULLS, item, 1, kind, parts, b"lent", &mut image, &mut out,
-    );
-    tell_bytes(rt, b"feed_put_item", status, &out, &image)
-}
-
-fn put_items(rt: &impl Runtime, plan: &[u8]) -> bool {
-    put_item(rt, plan, 0, 2, &[18446744073709551614])
-        && put_item(rt, plan, 9, 11, &[1, 3])
-        && put_item(rt, plan, 11, 1, &[])
-        && put_item(rt, plan, 12, 1, &[])
-        && put_item(rt, plan, 14, 1, &[])
 }
 
 fn start(rt: &impl Runtime, record: &[u8], nulls: &[u8]) -> bool {

@@ -1,8 +1,8 @@
 -- Demand 1, sentence by sentence, and the line that says it.
 -- "Every public call ends with an answer for all input, hostile counts and short metadata included": `calls`, a theorem of each public
 -- call's own code. That the answer is one and no other: `results`.
--- "A refusal is a number and a place from document 01's table": `every_call`, with `occurs`; of the calls for C, `abi-calls`.
--- "and lent buffers then hold what they held": `buffer-kept` in `every_call`, and `numbers-kept`, `bytes-kept` in `abi-calls`. 01 adds that
+-- "A refusal is a number and a place from document 01's table": `every_call`, with `occurs`; of the calls for C, `abi_calls`.
+-- "and lent buffers then hold what they held": `buffer_kept` in `every_call`, and `numbers_kept`, `bytes_kept` in `abi_calls`. 01 adds that
 -- "success touches only the bytes reported": `buffers`.
 -- That what stands on paper for a walk is no cut-off of it: `walks`. `demand1` in proofs/Demand1.antt proves all of it. Assumes nothing.
 use Rattle.promises.specs.Calls.{Calls}

@@ -1,11 +1,11 @@
 -- Demand 3, sentence by sentence, and the line that says it.
--- "What the map check passes, a row can rely on": `checks`, `named`, `map-walks` and `relied-on`.
+-- "What the map check passes, a row can rely on": `checks`, `named`, `map_walks` and `relied_on`.
 -- "Under an accepted map's record and presence bits of its length, every image either yields one answer per present column, in order, each
 -- NULL or inside its column's domain, and laid end to end over the bytes reported used, or it is refused exactly where 01's split runs out
 -- of bytes or meets a temporal part out of range, the earlier deciding": `walked` and `exactly`; that the walk is the library's steps,
--- `step-by-step` and `only-step-by-step`; of single steps, `step-sound` and `step-lent`.
--- "No other refusal occurs": `no-other-refusal`.
--- "Every row inside the domains is read back from the image our writer makes of it, given room": `row_written`, `row-refused`, `every-row`.
+-- `step_by_step` and `only_step_by_step`; of single steps, `step_sound` and `step_lent`.
+-- "No other refusal occurs": `no_other_refusal`.
+-- "Every row inside the domains is read back from the image our writer makes of it, given room": `row_written`, `row_refused`, `every_row`.
 --
 -- The definitions that carry it, in the order in which to read them. What a valid record is, and how many columns it has:
 -- record/specs/Records. Which of them an image has: image/specs/Present. How the values of a column are stored: value/specs/Columns. Which

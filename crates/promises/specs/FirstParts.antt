@@ -1,6 +1,6 @@
 -- Request 4: "Each temporal reader shall name the first offending part." What a refusal 10 tells is the first part out of range, exactly
 -- so, and no other fits; and which parts each kind can tell. That all other refusals name none is `parted` in `Refusals`; that the image
--- walk and rows events hand it on is `Says` in demand 3. `first-parts` in proofs/FirstParts.antt proves it. Assumes nothing.
+-- walk and rows events hand it on is `Says` in demand 3. `first_parts` in proofs/FirstParts.antt proves it. Assumes nothing.
 use Rattle.std.specs.Prelude.{ℕ, ◌+◌, ◌≤◌, ◌≡◌, true, List, length, take, drop}
 use Rattle.wire.specs.Number.{Bytes, is_among}
 use Rattle.wire.specs.Outcome.{refused, out_of}

@@ -1,7 +1,7 @@
 -- Walking an accepted map by the calls for C, `feed_fields`, `feed_field` and `feed_item`. "What the map check passes, a row can rely on":
 -- a program that steps from each answer's place to the next meets every optional field of such a map, and in each list every item, comes to
 -- the end of all of them, and has one item for each column of the type that the list is for. And whatever the bytes are, what a step tells
--- as a part lies within them. `map-walks` in proofs/Demand3/MapWalks.antt proves it. Assumes nothing.
+-- as a part lies within them. `map_walks` in proofs/Demand3/MapWalks.antt proves it. Assumes nothing.
 use Rattle.std.specs.Prelude.{ℕ, ◌+◌, ◌≤◌, ◌<◌, ◌≡◌, true, cond, List, [], ◌∷◌, map, length, eqb}
 use Rattle.wire.specs.Bits.{bytes_for}
 use Rattle.wire.specs.Outcome.{ok}

@@ -1,6 +1,6 @@
 -- Request 6: more than 255 columns. "Up to 255 columns the check still writes kind 1, so stored records stay good; above that kind 2. A
 -- kind 2 record with 255 columns or fewer is not valid, so each map keeps one record"; "refusal 3 now begins at 4,097". What an entry
--- means is stated once, in `ValidRecord` of `Profiles` as in `entryIn` of the crate `record`, and demand 3 is over every valid record,
+-- means is stated once, in `ValidRecord` of `Profiles` as in `entry_in` of the crate `record`, and demand 3 is over every valid record,
 -- whatever its kind. That the check gives 3 for no fewer columns is in `Refusals`. `records` in proofs/Records.antt proves it. Assumes
 -- nothing.
 use Rattle.std.specs.Prelude.{ℕ, ◌+◌, ◌*◌, ◌/◌, ◌%◌, ◌≤◌, ◌<◌, ◌≡◌, true, false, List, ◌∷◌, length}

@@ -1,5 +1,5 @@
 -- Request 8: room for one image. "Given a valid record and presence bits, report the most bytes an image under them can take: null bits
--- plus each present column's largest stored size, length bytes included." The definition is `imageRoom` in image/specs/Room, over `most_of`
+-- plus each present column's largest stored size, length bytes included." The definition is `image_room` in image/specs/Room, over `most_of`
 -- in value/specs/Shapes. What `image_room` refuses is in `Refusals`. `rooms` in proofs/Room.antt proves all of it. Assumes nothing.
 use Rattle.std.specs.Prelude.{ℕ, ◌+◌, ◌*◌, ◌^◌, ◌≤◌, ◌<◌, ◌≡◌, true, false, List, [], ◌∷◌, length}
 use Rattle.wire.specs.declared.refusal.Refusal.{Refusal}

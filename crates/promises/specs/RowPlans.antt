@@ -1,8 +1,8 @@
 -- Request 11: faster wide rows. "Reading may be reorganised if every promise stands." A plan is made once of a record and presence bits;
 -- under a valid record its steps are the walk's, value by value, image by image, to the same end or refusal, and so is what a run by it
--- stores; and a row is written by it as under the record. Any other bytes are a plan too, and give what `planStep`, `readRun` and `planPut`
+-- stores; and a row is written by it as under the record. Any other bytes are a plan too, and give what `plan_step`, `read_run` and `plan_put`
 -- say of them. What each call refuses is in `Refusals`.
--- `row-plans` in proofs/RowPlans.antt proves it. Assumes nothing.
+-- `row_plans` in proofs/RowPlans.antt proves it. Assumes nothing.
 use Rattle.std.specs.Prelude.{ℕ, ◌*◌, ◌^◌, ◌-◌, ◌≤◌, ◌<◌, ◌≡◌, true, List, [], ◌∷◌, ◌++◌, negsuc, length, drop, get_or, replicate}
 use Rattle.wire.specs.Outcome.{ok, refuse, after}
 use Rattle.wire.specs.Bits.{bytes_for, bit_lsb0}

@@ -1,5 +1,5 @@
 -- Rows events, request 1: "Demands 2 and 3 then read for each image in turn; an event is accepted only if images cover it exactly." Under a
--- record, which is `profile`, code and id being the event's code and the map's table id, and s the event. `rows-events` in
+-- record, which is `profile`, code and id being the event's code and the map's table id, and s the event. `rows_events` in
 -- proofs/RowsEvents.antt proves all of it. Assumes nothing.
 use Rattle.std.specs.Prelude.{ℕ, ◌≡◌, ◌⊎◌, List, drop}
 use Rattle.wire.specs.declared.refusal.Refusal.{Refusal}

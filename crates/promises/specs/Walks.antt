@@ -1,7 +1,7 @@
 -- A walk is its steps. On paper a walk must end by its form, so it is given a number of steps, and one that runs out of them answers what
 -- it has as if the bytes had ended. That never happens: from any place of any bytes, the walk is what the step there answers, and then the
 -- walk from where that step leads. Nothing that stops early, or leaves out a refusal, is so at every place. Here for the walk by every rule
--- of items that is in use, and for the check's walk over fields; for images it is `step-by-step` in `Demand3`. `walks` in
+-- of items that is in use, and for the check's walk over fields; for images it is `step_by_step` in `Demand3`. `walks` in
 -- proofs/Demand1/Walks.antt proves it. Assumes nothing.
 use Rattle.std.specs.Prelude.{ℕ, ◌≡◌, Bool, List, ◌∷◌}
 use Rattle.table_map.specs.declared.field.Fields.{Fields}

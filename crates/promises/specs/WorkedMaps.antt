@@ -1,5 +1,5 @@
 -- Maps: worked events with every optional field and their records, in each dialect; and worked refusals of the check, one at least for each
--- rule, each with its place. `worked-maps` in proofs/Readings/WorkedMaps.antt proves all of it. Assumes nothing.
+-- rule, each with its place. `worked_maps` in proofs/Readings/WorkedMaps.antt proves all of it. Assumes nothing.
 use Rattle.std.specs.Prelude.{ℕ, zero, suc, ◌+◌, ◌≡◌, List, [], ◌∷◌, ◌++◌, eqb, length, take, replicate}
 use Rattle.wire.specs.Outcome.{ok, refuse}
 use Rattle.wire.specs.Parts.{part}

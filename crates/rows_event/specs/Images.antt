@@ -103,7 +103,7 @@ unfolding next_image
 image_steps zero profile w s c = images_stopped (ok tt)
 image_steps (suc m) profile w s c = images_onward (image_steps m profile w s) profile w s (next_image profile w s c)
 
--- from a cursor on. Of two images one takes a byte at least, so these steps are enough (`image-by-image` in promises)
+-- from a cursor on. Of two images one takes a byte at least, so these steps are enough (`image_by_image` in promises)
 abbrev pub images_from : List ℕ → Rows → List ℕ → Images → ImagesWalked
 images_from profile w s c = image_steps (2 * (length s - c.at) + 2) profile w s c
 

@@ -51,7 +51,7 @@ declared_length t m0 m1 = declared_in (family_of t) m0 m1
 abbrev pub length_bytes : ℕ → ℕ
 length_bytes declared = cond (ltb declared 256) 1 2
 
--- leftover digits take "the half of one more than the digits, rounded down"; for 0 to 8 that is document 01's table (`leftover-table`)
+-- leftover digits take "the half of one more than the digits, rounded down"; for 0 to 8 that is document 01's table (`leftover_table`)
 unfoldable pub leftover_bytes : ℕ → ℕ
 leftover_bytes digits = (digits + 1) / 2
 

@@ -133,7 +133,7 @@ made_told (Value₁ v) = ok v
 made_told (Refused r) = refused r
 
 -- ---- a value that the machine can hold: each part within its bits. A signed integer is judged as it is, as two's complement would cut it;
--- of every other value `intIn` is 0
+-- of every other value `int_in` is 0
 unfoldable pub is_held : Value → Bool
 unfolding in_halves int_in datum_of tops_of sort_of parts_of fit
 is_held v = in_halves (2 ^ 64) (int_in (datum_of [] v)) && fit (tops_of (sort_of v)) (parts_of v)
