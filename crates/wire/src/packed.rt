@@ -32,6 +32,7 @@ pub fn read_fixed(s: &[u8], at: usize, k: usize) -> Packed
 }
 
 // The packed integer at `at`.
+#[tactic(auto, using(crate::proofs::Rules::tests), unfolding(crate::specs::Packed::read_packed, crate::specs::Packed::packed_form))]
 pub fn read_packed(s: &[u8], at: usize) -> Packed
     ensures { packed_told result ≡ read_packed s.now at }
 {
