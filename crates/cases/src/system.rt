@@ -50,7 +50,7 @@ pub(crate) fn fail(rt: &impl Runtime, what: &str, error: Error) {
 // Tells the status to `./run`.
 pub(crate) fn tell_status(rt: &impl Files, status: u64) {
     let mut options = OpenOptions::new();
-    options.write(true);
+    options.append(true);
     if let Ok(mut file) = options.open(rt, STATUS_FILE) {
         let _ = write!(file, "{status}");
     }
