@@ -276,13 +276,6 @@ def main():
             if new in tops:
                 print(f"brought in beside its own: {p}: {sorted(olds)} -> {new} (own {tops[new]})")
     print(f"{sum(len(v) for v in own.values())} names, {changed} files")
-    if dry:
-        with open("/tmp/snake.tsv", "w") as f:
-            for m in sorted(own):
-                for n, w in sorted(own[m].items()):
-                    f.write(f"{m}\t{n}\t{w}\n")
-            for n, w in sorted(fields.items()):
-                f.write(f"FIELD\t{n}\t{w}\n")
 
 
 def clauses_only(text, table):

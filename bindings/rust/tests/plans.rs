@@ -552,8 +552,8 @@ fn presence_bits_may_change_with_every_row() {
     let record = record_of(&[[1, 13, 0, 0]; 20]);
     let image = [&[0; 3][..], &Vec::from_iter(3..23)].concat();
     // more sets than plans are kept, each met again; bits behind the last column are ignored
-    for k in (1..100).chain(1..100) {
-        let presence = (0x0009_a55bu32 * k).to_le_bytes();
+    for k in (0..40).chain(0..40) {
+        let presence = (0x00f0_a55au32.rotate_left(k)).to_le_bytes();
         let (values, used) = same_as_steps(&record, &presence[..3], &image);
         assert_eq!(used, Ok(values.len().div_ceil(8) + values.len()));
     }
@@ -564,6 +564,17 @@ fn presence_bits_may_change_with_every_row() {
     assert_eq!(same_as_steps(&record, &[0; 3], &[]), (vec![], Ok(0)));
     let wrong = record.row(&[0; 2], &image).unwrap_err();
     assert_eq!(wrong, Refusal::BadBits);
+}
+
+#[test]
+fn a_hundred_sets_are_met_twice() {
+    let record = record_of(&[[1, 13, 0, 0]; 20]);
+    let image = [&[0; 3][..], &Vec::from_iter(3..23)].concat();
+    for k in (1..100).chain(1..100) {
+        let presence = (0x0009_a55bu32 * k).to_le_bytes();
+        let (values, used) = same_as_steps(&record, &presence[..3], &image);
+        assert_eq!(used, Ok(values.len().div_ceil(8) + values.len()));
+    }
 }
 
 #[test]

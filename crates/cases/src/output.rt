@@ -55,15 +55,8 @@ pub(crate) fn put_text(rt: &impl Runtime, text: &[u8], out: &mut [u8], used: usi
 // A number in decimal.
 pub(crate) fn put_number(rt: &impl Runtime, n: u64, out: &mut [u8], used: usize) -> usize {
     let mut digits = [0u8; 20];
-    let mut rest = n;
-    for i in (0..20).rev() {
-        digits[i] = b'0' + (rest % 10) as u8;
-        rest /= 10;
-        if rest == 0 {
-            return put_text(rt, &digits[i..], out, used);
-        }
-    }
-    put_text(rt, &digits, out, used)
+    let count = io::decimal(n, &mut digits);
+    put_text(rt, &digits[..count], out, used)
 }
 
 fn hex_digit(n: u8) -> u8

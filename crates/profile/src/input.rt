@@ -1,5 +1,5 @@
 // The input, read to its end or until the buffer is full.
-ghost use Rattle.profile.specs.Counts.{IsPrefixLen};
+ghost use Rattle.io.specs.Counts.{IsPrefixLen};
 
 use crate::system::fail;
 use std::io::Read;

@@ -4,7 +4,6 @@
 // `./run` if that asks for it.
 #![tactic(auto)]
 
-mod digits;
 mod input;
 mod output;
 mod system;

@@ -1,11 +1,10 @@
 // What is printed, put into a buffer. Each function says how much room it needs, and what it leaves is all of its text: nothing is cut.
 ghost use Rattle.std.specs.Prelude.{◌≡◌, true, false, ◌++◌, ◌∷◌, [], ◌+◌, ◌-◌, ◌*◌, ◌/◌, ◌≤◌, ◌<◌, length};
-ghost use Rattle.profile.specs.Counts.{IsPrefixLen};
+ghost use Rattle.io.specs.Counts.{IsPrefixLen};
 ghost use Rattle.wire.specs.Stored.{stored};
 ghost use Rattle.record.specs.Records.{entries_in};
 ghost use Rattle.profile.specs.Text.{decimal, behind, line, column_line, column_lines, refused_line, profiled, printed, is_refusal};
 
-use crate::digits::decimal;
 use record::Entry;
 use value::Dialect;
 use wire::refusal::NO_ROOM;
@@ -46,7 +45,7 @@ fn put_number(n: u64, end: u8, out: &mut [u8], at: usize) -> usize
     ensures out_after { out.new ≡ stored (decimal n ++ (end ∷ [])) out.old at }
 {
     let mut digits = [0u8; 20];
-    let count = decimal(n, &mut digits);
+    let count = io::decimal(n, &mut digits);
     let next = put_text(&digits[..count], out, at);
     put_text(&[end], out, next)
 }

@@ -1,6 +1,6 @@
 // What the program has of the system besides its input and output: its words, the messages on standard
 // error, and its status.
-ghost use Rattle.profile.specs.Counts.{IsPrefixLen};
+ghost use Rattle.io.specs.Counts.{IsPrefixLen};
 
 use std::env::{Env, FillError};
 use std::fs::OpenOptions;

@@ -20,13 +20,13 @@ abbrev column : ℕ → ℕ → ℕ → Column
 column t a b = record { real = t; m0 = a; m1 = b; unsigned = false }
 
 -- "CHAR FE FF: 255, one length byte; EE 00: 256, two"
-char_f_e_f_f : (declared_length 254 254 255 ≡ 255) × (shape_of (column 254 254 255) ≡ Counted 1)
+char_fe_ff : (declared_length 254 254 255 ≡ 255) × (shape_of (column 254 254 255) ≡ Counted 1)
 unfolding declared_length shape_of
-char_f_e_f_f = (refl, refl)
+char_fe_ff = (refl, refl)
 
-char_e_e_00 : (declared_length 254 238 0 ≡ 256) × (shape_of (column 254 238 0) ≡ Counted 2)
+char_ee_00 : (declared_length 254 238 0 ≡ 256) × (shape_of (column 254 238 0) ≡ Counted 2)
 unfolding declared_length shape_of
-char_e_e_00 = (refl, refl)
+char_ee_00 = (refl, refl)
 
 -- "CHAR with m0 0: ... refused here"
 char_00 : shape_of (column 254 0 20) ≡ NotTaken 5

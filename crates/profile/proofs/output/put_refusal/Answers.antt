@@ -6,7 +6,7 @@ use mathlib.Core.List.{◌∷◌, []}
 use native.Mathlib.Omega.{arith}
 use lib.ListN.{length}
 use Rattle.profile.specs.Text.{line, refused_word, refused_line}
-use Rattle.profile.proofs.Counting.{prefix_len_of_le}
+use Rattle.io.proofs.Counting.{prefix_len_of_le}
 use Rattle.profile.proofs.Lines.{both, refusal_short}
 use Rattle.profile.proofs.output.put_refusal.Goals as goal
 

@@ -7,8 +7,8 @@ use Rattle.row_plan.proofs.eight.be8.Goals as goal
 
 pub returns : goal.returns
 returns c = let a = c.args in
-    let t = turned a.s.now (λ i. omega (arith, c.shared_slice_known-1.given i)) a.at c.le8-a.result c.requires c.le8-a.ensures.0 in (
+    let t = turned a.s.now (λ i. omega (arith, c.type_inv.s i)) a.at c.le8-a.result c.requires c.le8-a.ensures.0 in (
       t,
-      subst (λ (n : ℕ). n < 256 ^ 8) (sym t) (be_below a.s.now (λ i. omega (arith, c.shared_slice_known-1.given i)) a.at
+      subst (λ (n : ℕ). n < 256 ^ 8) (sym t) (be_below a.s.now (λ i. omega (arith, c.type_inv.s i)) a.at
           8 c.requires),
     )

@@ -11,28 +11,28 @@ use Rattle.row_plan.proofs.eight.low.Goals as goal
 pub returns-in-1 : goal.returns-in-1
 returns-in-1 c = let a = c.args in
     rw c.in-1.is (
-      low1 a.s.now (λ i. omega (arith, c.shared_slice_known-1.given i)) a.at c.le8-x.result c.requires.1 c.le8-x.ensures.0,
+      low1 a.s.now (λ i. omega (arith, c.type_inv.s i)) a.at c.le8-x.result c.requires.1 c.le8-x.ensures.0,
       omega arith,
     )
 
 pub returns-in-2 : goal.returns-in-2
 returns-in-2 c = let a = c.args in
     rw c.in-2.is (
-      low2 a.s.now (λ i. omega (arith, c.shared_slice_known-1.given i)) a.at c.le8-x.result c.requires.1 c.le8-x.ensures.0,
+      low2 a.s.now (λ i. omega (arith, c.type_inv.s i)) a.at c.le8-x.result c.requires.1 c.le8-x.ensures.0,
       omega arith,
     )
 
 pub returns-in-3 : goal.returns-in-3
 returns-in-3 c = let a = c.args in
     rw c.in-3.is (
-      low3 a.s.now (λ i. omega (arith, c.shared_slice_known-1.given i)) a.at c.le8-x.result c.requires.1 c.le8-x.ensures.0,
+      low3 a.s.now (λ i. omega (arith, c.type_inv.s i)) a.at c.le8-x.result c.requires.1 c.le8-x.ensures.0,
       omega arith,
     )
 
 pub returns-in-4 : goal.returns-in-4
 returns-in-4 c = let a = c.args in
     rw c.in-4.is (
-      low4 a.s.now (λ i. omega (arith, c.shared_slice_known-1.given i)) a.at c.le8-x.result c.requires.1 c.le8-x.ensures.0,
+      low4 a.s.now (λ i. omega (arith, c.type_inv.s i)) a.at c.le8-x.result c.requires.1 c.le8-x.ensures.0,
       omega arith,
     )
 

@@ -13,7 +13,7 @@ pub returns : goal.returns
 returns c = let a = c.args in
     took_date a.s.now (λ i. omega (
       arith,
-      c.shared_slice_known-1.given i,
+      c.type_inv.s i,
     )) a.at c.requires.0 a.out.now _ a.to _
     c.low-n.ensures.0
     (omega (arith, c.if-year-gt9999.false)) (omega (arith, c.if-month-gt12.false))

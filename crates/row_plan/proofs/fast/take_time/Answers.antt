@@ -14,7 +14,7 @@ pub returns : goal.returns
 returns c = λ m0 e. let a = c.args in
     took_time a.s.now (λ i. omega (
       arith,
-      c.shared_slice_known-1.given i,
+      c.type_inv.s i,
     )) a.at c.requires.1 a.out.now _ a.to m0 a.w (e, c.requires.0) _
     c.be8.ensures.0 _ _ _ _ _
     c.kept-packed.ensures

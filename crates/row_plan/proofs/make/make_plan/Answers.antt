@@ -8,7 +8,6 @@ use Rattle.image.specs.Split.{head_told}
 use Rattle.row_plan.proofs.Makes.{make_refused, columns_are, items_are, few_items, make_full, make_done}
 use Rattle.row_plan.proofs.make.make_plan.Goals as goal
 
--- src/make.rt:63:33
 pub returns-in-Refused : goal.returns-in-Refused
 returns-in-Refused c =
     let a = c.args in
@@ -16,14 +15,12 @@ returns-in-Refused c =
     ∙ ap head_told c.in-Refused.is) in
     record { result_value = sym (ap answer_of m); plan_after = sym (ap (λ (o : Outcome ((ℕ × ℕ) × List ℕ)). left_of o a.plan.now) m) }
 
--- src/make.rt:66:15
 pub overflow_mul-len : goal.overflow_mul-len
 overflow_mul-len c =
     let a = c.args in
     let e = sym c.read_head.ensures ∙ ap head_told c.in-Read.is in
     omega (arith, few_items a.profile.now a.presence.now _ e)
 
--- src/make.rt:68:9
 pub returns-then-plan-len : goal.returns-then-plan-len
 returns-then-plan-len c =
     let a = c.args in
@@ -32,7 +29,6 @@ returns-then-plan-len c =
     ∙ ap head_told c.in-Read.is) (omega arith) in
     record { result_value = ap refused c.refuse.ensures ∙ sym (ap answer_of m); plan_after = sym (ap (λ (o : Outcome ((ℕ × ℕ) × List ℕ)). left_of o a.plan.now) m) }
 
--- src/make.rt:70:5
 pub put_plan-requires : goal.put_plan-requires
 put_plan-requires c =
     let a = c.args in
@@ -46,7 +42,6 @@ put_plan-requires c =
       ),
     )
 
--- src/make.rt:56:1
 pub returns : goal.returns
 returns c =
     let a = c.args in

@@ -3,7 +3,6 @@ use native.Mathlib.Omega.{arith}
 use Rattle.row_plan.proofs.Puts.{item_put}
 use Rattle.row_plan.proofs.make.put_item.Goals as goal
 
--- src/make.rt:48:1
 pub returns : goal.returns
 returns c = let a = c.args in c.write_le.ensures.buf_after
     ∙ item_put a.plan.now a.at a.op a.column (omega arith)

@@ -1,4 +1,5 @@
 -- `row_plan::numbers::value_numbers` meets its contract. Assumes nothing.
+use borrow.Author.Rules.{rules}
 use Prim.Native.Nat.{◌^◌}
 use mathlib.Core.Path.{ap, ◌∙◌}
 use mir.Syntax.{w64}
@@ -23,7 +24,7 @@ returns-in-Int c =
     rw c.in-Int.is
     (ap listed c.one-in-Int.ensures ∙ ap (one_listed 2)
     (c.twos_of.ensures
-    ∙ ap (twos_of (2 ^ 64)) (to_z-of_z w64 c.in-Int.z (record { sfits = c.in-Int.known_told-1-own.given.0.1 }))))
+    ∙ ap (twos_of (2 ^ 64)) (to_z-of_z w64 c.in-Int.z (record { sfits = search rules }))))
 
 pub returns-in-Uint : goal.returns-in-Uint
 unfolding value_numbers

@@ -4,7 +4,6 @@ use native.Mathlib.Omega.{arith}
 use Rattle.row_plan.proofs.Goes.{two}
 use Rattle.row_plan.proofs.row.column_at.Goals as goal
 
--- src/row.rt:51:1
 pub returns : goal.returns
 returns c = let a = c.args in
     let n : a.at + 1 + 1 ≡ a.at + 2 = omega arith in

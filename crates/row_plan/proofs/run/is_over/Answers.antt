@@ -2,12 +2,10 @@ use Rattle.row_plan.specs.Runs.{is_over}
 use Rattle.wire.proofs.Rules.{tests}
 use Rattle.row_plan.proofs.run.is_over.Goals as goal
 
--- src/run.rt:177:9
 pub returns-then-c-ne0 : goal.returns-then-c-ne0
 unfolding is_over
 returns-then-c-ne0 c = search tests
 
--- src/run.rt:173:1
 pub returns : goal.returns
 unfolding is_over
 returns c = search tests

@@ -4,7 +4,6 @@ use Rattle.value_parts.specs.Parts.{sort_of, parts_of, padded}
 use Rattle.row_plan.proofs.RunLaws.{item_null, item_read}
 use Rattle.row_plan.proofs.run.number_item.Goals as goal
 
--- src/run.rt:72:9
 pub returns-then-bit_lsb0 : goal.returns-then-bit_lsb0
 unfolding value_numbers moved_by sort_of parts_of padded
 returns-then-bit_lsb0 c =
@@ -12,7 +11,6 @@ returns-then-bit_lsb0 c =
     rw c.one.ensures (sym (item_null a.plan.now a.image.now a.by a.item a.offset (sym
     c.bit_lsb0.ensures ∙ c.if-bit_lsb0.true)))
 
--- src/run.rt:67:1
 pub returns : goal.returns
 returns c =
     let a = c.args in

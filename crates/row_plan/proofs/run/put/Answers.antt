@@ -3,34 +3,26 @@ use lib.ListN.{length-set}
 use Rattle.row_plan.proofs.RunLaws.{eight}
 use Rattle.row_plan.proofs.run.put.Goals as goal
 
--- src/run.rt:57:5
 pub bounds-out-at-2 : goal.bounds-out-at-2
 bounds-out-at-2 c = simp length-set (omega arith)
 
--- src/run.rt:58:5
 pub bounds-out-at-3 : goal.bounds-out-at-3
 bounds-out-at-3 c = simp length-set (omega arith)
 
--- src/run.rt:59:5
 pub bounds-out-at-4 : goal.bounds-out-at-4
 bounds-out-at-4 c = simp length-set (omega arith)
 
--- src/run.rt:60:5
 pub bounds-out-at-5 : goal.bounds-out-at-5
 bounds-out-at-5 c = simp length-set (omega arith)
 
--- src/run.rt:61:5
 pub bounds-out-at-6 : goal.bounds-out-at-6
 bounds-out-at-6 c = simp length-set (omega arith)
 
--- src/run.rt:62:5
 pub bounds-out-at-7 : goal.bounds-out-at-7
 bounds-out-at-7 c = simp length-set (omega arith)
 
--- src/run.rt:63:5
 pub bounds-out-at-8 : goal.bounds-out-at-8
 bounds-out-at-8 c = simp length-set (omega arith)
 
--- src/run.rt:52:1
 pub returns : goal.returns
 returns c = eight c.args.out.now _ _ _ _ _ _ _ _ _ (omega arith)

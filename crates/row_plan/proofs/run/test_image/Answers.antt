@@ -6,19 +6,16 @@ use Rattle.row_plan.specs.Inner.Paused.{row_gate}
 use Rattle.wire.proofs.Rules.{tests}
 use Rattle.row_plan.proofs.run.test_image.Goals as goal
 
--- src/run.rt:187:9
 pub returns-then-items-c : goal.returns-then-items-c
 unfolding row_gate
 returns-then-items-c c = search tests
 
--- src/run.rt:191:9
 pub returns-then-left-bytes_for : goal.returns-then-left-bytes_for
 returns-then-left-bytes_for c =
     let a = c.args in
     ap refused c.refuse-then-left-bytes_for.ensures ∙ sym (gate_short a.items _ a.c c.if-items-c.false (omega
     (arith, c.rest-left.ensures, c.bytes_for.ensures, c.if-left-bytes_for.true)))
 
--- src/run.rt:194:9
 pub returns-then-left-c : goal.returns-then-left-c
 returns-then-left-c c =
     let a = c.args in
@@ -30,7 +27,6 @@ returns-then-left-c c =
       c.if-left-bytes_for.false,
     )) (omega (arith, c.rest-left.ensures, c.if-left-c.true)))
 
--- src/run.rt:183:1
 pub returns : goal.returns
 returns c =
     let a = c.args in

@@ -5,19 +5,16 @@ use Rattle.row_plan.specs.Runs.{turned}
 use Rattle.wire.proofs.Rules.{tests}
 use Rattle.row_plan.proofs.run.turned.Goals as goal
 
--- src/run.rt:160:9
 pub returns-then-c-items : goal.returns-then-c-items
 unfolding turned
 returns-then-c-items c = search tests
 
--- src/run.rt:163:9
 pub returns-then-rest-c : goal.returns-then-rest-c
 returns-then-rest-c c =
     let a = c.args in
     sym (turn_past a.plan.now a.images.now a.c c.if-c-items.false (omega
     (arith, c.rest.ensures, c.if-rest-c.true)))
 
--- src/run.rt:155:1
 pub returns : goal.returns
 returns c =
     let a = c.args in

@@ -19,7 +19,7 @@ bounds-s-at c =
     )
 
 pub overflow_cast-len : goal.overflow_cast-len
-overflow_cast-len c = omega (arith, c.shared_slice_known-2-1.given c.args.at)
+overflow_cast-len c = omega (arith, c.type_inv.s c.args.at)
 
 pub returns-in-Refused-within : goal.returns-in-Refused-within
 unfolding short_part

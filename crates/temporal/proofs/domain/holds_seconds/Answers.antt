@@ -12,10 +12,10 @@ returns-in_default c = rw (not_seconds c.args.temporal (opened c.in_default.in_d
 
 pub returns-then-t-gt999999 : goal.returns-then-t-gt999999
 unfolding seconds_domain temporal_tag seconds_in
-returns-then-t-gt999999 c = let s = le-leb c.in-Seconds.t.seconds 4294967295 (omega (arith, c.in-Seconds.known_told-1-own.given)) in
+returns-then-t-gt999999 c = let s = le-leb c.in-Seconds.t.seconds 4294967295 (omega arith) in
     rw (c.in-Seconds.is, s, lt-leb _ _ c.if-t-gt999999.true)
 
 pub returns : goal.returns
 unfolding seconds_domain temporal_tag seconds_in
-returns c = let s = le-leb c.in-Seconds.t.seconds 4294967295 (omega (arith, c.in-Seconds.known_told-1-own.given)) in
+returns c = let s = le-leb c.in-Seconds.t.seconds 4294967295 (omega arith) in
     rw (c.in-Seconds.is, s, le-leb _ _ c.if-t-gt999999.false) c.in_units.ensures

@@ -72,7 +72,7 @@ pub returns-in-Fixed : goal.returns-in-Fixed
 returns-in-Fixed c = let a = c.args in
     let s = a.lent.now in
     let v = a.value in
-    let b : Bytes s = λ i. omega (arith, c.shared_slice_known-1.given i) in
+    let b : Bytes s = λ i. omega (arith, c.type_inv.lent i) in
     c.is_bytes.ensures ∙ in_fixed _ s v b
     (sym c.is_lent.ensures ∙ c.if-not-is_lent.false)
     ∙ ap (λ (sh : Shape). is_in sh s v) (sym c.in-Fixed.is)
@@ -84,7 +84,7 @@ returns-in-Counted c = let a = c.args in
     let h : c.in-Counted.k ≤ 4 =
     subst Sized c.in-Counted.is
     c.requires in
-    let b : Bytes s = λ i. omega (arith, c.shared_slice_known-1.given i) in
+    let b : Bytes s = λ i. omega (arith, c.type_inv.lent i) in
     c.is_bytes-in-Counted.ensures ∙ in_counted c.in-Counted.k _ s v
     (top_narrow _ _ (omega (arith, h)) c.top_of-in-Counted.ensures) b
     (sym c.is_lent.ensures

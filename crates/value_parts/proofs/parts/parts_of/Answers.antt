@@ -1,4 +1,5 @@
 -- `value_parts::parts::parts_of` meets its contract. Assumes nothing.
+use borrow.Author.Rules.{rules}
 use mathlib.Core.List.{[], ◌∷◌}
 use Prim.Native.Nat.{ℕ, ◌^◌}
 use mathlib.Core.Path.{ap, ◌∙◌}
@@ -21,9 +22,9 @@ returns-in-Int c = record {
       (c.one_part.ensures ∙ ap (λ (n : ℕ). padded 7 (n ∷ []))
       (c.twos_of.ensures
       ∙ ap (twos_of (2 ^ 64)) (to_z-of_z w64 c.in-Int.z
-      (record { sfits = c.in-Int.known_told-1-own.given.0.1 }))));
+      (record { sfits = search rules }))));
   value_value = rw c.in-Int.is
-      (held_int c.in-Int.z (record { sfits = c.in-Int.known_told-1-own.given.0.1 }));
+      (held_int c.in-Int.z (record { sfits = search rules }));
 }
 
 pub returns-in-Uint : goal.returns-in-Uint
@@ -31,7 +32,7 @@ unfolding parts_of
 returns-in-Uint c = record {
   value = rw c.in-Uint.is c.one_part-in-Uint.ensures;
   value_value = rw c.in-Uint.is
-      (held_uint c.in-Uint.n (omega (arith, c.in-Uint.known_told-in-Uint-1-own.given)));
+      (held_uint c.in-Uint.n (omega arith));
 }
 
 pub returns-in-Float : goal.returns-in-Float
@@ -39,7 +40,7 @@ unfolding parts_of
 returns-in-Float c = record {
   value = rw c.in-Float.is c.one_part-in-Float.ensures;
   value_value = rw c.in-Float.is
-      (held_float c.in-Float.bits (omega (arith, c.in-Float.known_told-in-Float-1-own.given)));
+      (held_float c.in-Float.bits (omega arith));
 }
 
 pub returns-in-Double : goal.returns-in-Double
@@ -47,7 +48,7 @@ unfolding parts_of
 returns-in-Double c = record {
   value = rw c.in-Double.is c.one_part-in-Double.ensures;
   value_value = rw c.in-Double.is
-      (held_double c.in-Double.bits (omega (arith, c.in-Double.known_told-in-Double-1-own.given)));
+      (held_double c.in-Double.bits (omega arith));
 }
 
 pub returns-in-Year : goal.returns-in-Year
@@ -55,7 +56,7 @@ unfolding parts_of
 returns-in-Year c = record {
   value = rw c.in-Year.is c.one_part-in-Year.ensures;
   value_value = rw c.in-Year.is
-      (held_year c.in-Year.y (omega (arith, c.in-Year.known_told-in-Year-1-own.given)));
+      (held_year c.in-Year.y (omega arith));
 }
 
 pub returns-in-Temporal : goal.returns-in-Temporal
@@ -67,5 +68,5 @@ unfolding padded parts_of
 returns-in-Bytes c = record {
   value = rw c.in-Bytes.is;
   value_value = rw c.in-Bytes.is
-      (held_bytes c.in-Bytes.part (omega (arith, c.in-Bytes.known_told-in-Bytes-1-own.given)) (omega (arith, c.in-Bytes.known_told-in-Bytes-1-own.given)));
+      (held_bytes c.in-Bytes.part (omega arith) (omega arith));
 }

@@ -22,14 +22,14 @@ overflow_add-acc c = let a = c.args in
     let l = c.loop-i in
     record {
       fits =
-          turn_fits l.i l.acc _ (omega arith) l.invariant.1 (omega (arith, c.shared_slice_known-in-loop-i-1.given (a.at + l.i)));
+          turn_fits l.i l.acc _ (omega arith) l.invariant.1 (omega (arith, c.type_inv.s (a.at + l.i)));
     }
 
 pub loop-i-preserved : goal.loop-i-preserved
 loop-i-preserved c = let a = c.args in
     let l = c.loop-i in (
       omega arith,
-      rw add-one (more l.i l.acc _ l.invariant.1 (omega (arith, c.shared_slice_known-in-loop-i-1.given (a.at + l.i)))),
+      rw add-one (more l.i l.acc _ l.invariant.1 (omega (arith, c.type_inv.s (a.at + l.i)))),
       rw c.wide.ensures (be_turn a.s.now a.at a.k l.i l.acc (search rules) (search rules) l.invariant.2),
     )
 

@@ -23,7 +23,7 @@ overflow_add-acc c = let a = c.args in
     record {
       fits =
           turn_fits (a.k - l.i) l.acc _ (omega arith) l.invariant.1
-          (omega (arith, c.shared_slice_known-in-loop-i-1.given (a.at + (l.i - 1))));
+          (omega (arith, c.type_inv.s (a.at + (l.i - 1))));
     }
 
 pub loop-i-preserved : goal.loop-i-preserved
@@ -31,7 +31,7 @@ loop-i-preserved c = let a = c.args in
     let l = c.loop-i in
     let n : a.k - (l.i - 1) ≡ suc (a.k - l.i) = omega arith in (
       omega arith,
-      rw n (more (a.k - l.i) l.acc _ l.invariant.1 (omega (arith, c.shared_slice_known-in-loop-i-1.given (a.at + (l.i - 1))))),
+      rw n (more (a.k - l.i) l.acc _ l.invariant.1 (omega (arith, c.type_inv.s (a.at + (l.i - 1))))),
       rw c.wide.ensures (le_turn a.s.now a.at a.k l.i l.acc (search rules) (search rules) (search rules) l.invariant.2),
     )
 

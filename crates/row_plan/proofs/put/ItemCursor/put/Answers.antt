@@ -5,21 +5,18 @@ use Rattle.row_plan.proofs.Writes.{null_sort, other_sort, wrote_none, wrote_next
 use Rattle.row_plan.proofs.Writes.{put_null_full, put_null_goes, put_done, put_bad}
 use Rattle.row_plan.proofs.put.ItemCursor.put.Goals as goal
 
--- src/put.rt:49:13
 pub returns-then-nulls-bytes_for : goal.returns-then-nulls-bytes_for
 returns-then-nulls-bytes_for c = let a = c.args in
     let p = wrote_none a.buf.now
     (put_bits a.plan.now a.nulls.now a.self a.lent.now a.value a.buf.now
     (λ e. c.if-nulls-bytes_for.true (e ∙ sym c.bytes_for.ensures)) ∙ ap refused (sym c.refuse.ensures)) in record { result_value = p.0; buf_after = p.1 }
 
--- src/put.rt:52:13
 pub returns-then-items-item : goal.returns-then-items-item
 returns-then-items-item c = let a = c.args in
     let p = wrote_none a.buf.now
     (put_over_lem a.plan.now a.nulls.now a.self a.lent.now a.value a.buf.now
     (omega (arith, c.bytes_for.ensures, c.if-nulls-bytes_for.false)) (omega arith) ∙ ap refused (sym c.refuse-then-items-item.ensures)) in record { result_value = p.0; buf_after = p.1 }
 
--- src/put.rt:60:17
 pub returns-then-not-is_marked : goal.returns-then-not-is_marked
 returns-then-not-is_marked c = let a = c.args in
     let p = wrote_none a.buf.now
@@ -32,7 +29,6 @@ returns-then-not-is_marked c = let a = c.args in
     (null_sort a.lent.now a.value (sym c.sort_of.ensures ∙ c.if-sort_of-eq-NULL.true))
     (sym c.bit_lsb0-is_marked.ensures ∙ c.if-not-is_marked.true) ∙ ap refused (sym c.refuse-then-not-is_marked.ensures)) in record { result_value = p.0; buf_after = p.1 }
 
--- src/put.rt:63:17
 pub returns-then-buf-offset : goal.returns-then-buf-offset
 returns-then-buf-offset c = let a = c.args in
     let p = wrote_none a.buf.now
@@ -45,7 +41,6 @@ returns-then-buf-offset c = let a = c.args in
     (null_sort a.lent.now a.value (sym c.sort_of.ensures ∙ c.if-sort_of-eq-NULL.true))
     (sym c.bit_lsb0-is_marked.ensures ∙ c.if-not-is_marked.false) c.if-buf-offset.true ∙ ap refused (sym c.refuse-then-buf-offset.ensures)) in record { result_value = p.0; buf_after = p.1 }
 
--- src/put.rt:65:13
 pub returns-then-sort_of-eq-NULL : goal.returns-then-sort_of-eq-NULL
 returns-then-sort_of-eq-NULL c = let a = c.args in
     let p = wrote_next a.buf.now
@@ -58,7 +53,6 @@ returns-then-sort_of-eq-NULL c = let a = c.args in
     (null_sort a.lent.now a.value (sym c.sort_of.ensures ∙ c.if-sort_of-eq-NULL.true))
     (sym c.bit_lsb0-is_marked.ensures ∙ c.if-not-is_marked.false) c.if-buf-offset.false) in record { result_value = p.0; buf_after = p.1 }
 
--- src/put.rt:71:13
 pub returns-then-is_marked : goal.returns-then-is_marked
 returns-then-is_marked c = let a = c.args in
     let p = wrote_none a.buf.now
@@ -71,7 +65,6 @@ returns-then-is_marked c = let a = c.args in
     (other_sort a.lent.now a.value (λ e. c.if-sort_of-eq-NULL.false (c.sort_of.ensures ∙ e)))
     (sym c.bit_lsb0-is_marked.ensures ∙ c.if-is_marked.true) ∙ ap refused (sym c.refuse-then-is_marked.ensures)) in record { result_value = p.0; buf_after = p.1 }
 
--- src/put.rt:31:5
 pub returns-in-Done : goal.returns-in-Done
 returns-in-Done c = let a = c.args in
     let p = put_done a.plan.now a.nulls.now a.self a.lent.now a.value a.buf.now
@@ -84,7 +77,6 @@ returns-in-Done c = let a = c.args in
     (sym c.bit_lsb0-is_marked.ensures ∙ c.if-is_marked.false)
     c.write_op.result _ c.write_op.ensures.result_value c.write_op.ensures.buf_after _ c.in-Done.is in record { result_value = p.0; buf_after = p.1 }
 
--- src/put.rt:31:5
 pub returns-in-Refused : goal.returns-in-Refused
 returns-in-Refused c = let a = c.args in
     let p = put_bad a.plan.now a.nulls.now a.self a.lent.now a.value a.buf.now

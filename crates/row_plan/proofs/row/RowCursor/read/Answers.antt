@@ -10,22 +10,18 @@ use Rattle.row_plan.proofs.ReadLaws.{read_begin, read_full, read_over, read_refu
 use Rattle.row_plan.proofs.ReadLaws.{told_ran, told_stopped, left_stopped, told_full}
 use Rattle.row_plan.proofs.row.RowCursor.read.Goals as goal
 
--- src/run.rt:218:13
 pub returns-then-out-lt-VALUE_NUMBERS : goal.returns-then-out-lt-VALUE_NUMBERS
 returns-then-out-lt-VALUE_NUMBERS c =
     let a = c.args in
     let m = told_full a.plan.now a.images.now a.self a.out.now c.if-out-lt-VALUE_NUMBERS.true in
     record { result_value = ap refused c.refuse.ensures ∙ sym (ap answer_of m); out_after = sym (ap (λ (x : Outcome ((ℕ × RowCursor) × List ℕ)). left_of x a.out.now) m) }
 
--- src/run.rt:224:9
 pub loop-values-init : goal.loop-values-init
 loop-values-init c = let a = c.args in read_begin a.plan.now a.images.now _ a.out.now a.self
 
--- src/run.rt:227:17
 pub shape_of-out-then-is_over : goal.shape_of-out-then-is_over
 shape_of-out-then-is_over c = c.loop-values.invariant.same
 
--- src/run.rt:227:17
 pub returns-then-is_over : goal.returns-then-is_over
 returns-then-is_over c =
     let a = c.args in
@@ -35,11 +31,9 @@ returns-then-is_over c =
     let m = told_ran a.plan.now a.images.now a.self a.out.now _ refl (omega arith) _ _ _ g in
     record { result_value = sym (ap answer_of m); out_after = sym (ap (λ (x : Outcome ((ℕ × RowCursor) × List ℕ)). left_of x a.out.now) m) }
 
--- src/run.rt:231:39
 pub shape_of-out-in-Refused : goal.shape_of-out-in-Refused
 shape_of-out-in-Refused c = c.loop-values.invariant.same
 
--- src/run.rt:231:39
 pub returns-in-Refused : goal.returns-in-Refused
 returns-in-Refused c =
     let a = c.args in
@@ -54,11 +48,9 @@ returns-in-Refused c =
       out_after = left_stopped a.plan.now a.images.now a.self a.out.now _ refl (omega arith) _ _ _ _ g;
     }
 
--- src/run.rt:234:17
 pub shape_of-out-then-here-items : goal.shape_of-out-then-here-items
 shape_of-out-then-here-items c = c.loop-values.invariant.same
 
--- src/run.rt:234:17
 pub returns-then-here-items : goal.returns-then-here-items
 returns-then-here-items c =
     let a = c.args in
@@ -71,7 +63,6 @@ returns-then-here-items c =
     let m = told_ran a.plan.now a.images.now a.self a.out.now _ refl (omega arith) _ _ _ g in
     record { result_value = sym (ap answer_of m); out_after = sym (ap (λ (x : Outcome ((ℕ × RowCursor) × List ℕ)). left_of x a.out.now) m) }
 
--- src/run.rt:236:19
 pub run_image-requires : goal.run_image-requires
 run_image-requires c =
     let a = c.args
@@ -86,13 +77,11 @@ run_image-requires c =
       had_lt_room = (c.loop-values-test.true, omega (arith, c.loop-values.invariant.same));
     }
 
--- src/run.rt:224:9
 pub loop-values-smaller : goal.loop-values-smaller
 loop-values-smaller c =
     let f = subst (Further _ _) c.in-On.is c.run_image.ensures.further in
     omega (arith, f.0, f.1)
 
--- src/run.rt:224:9
 pub loop-values-preserved : goal.loop-values-preserved
 loop-values-preserved c =
     let a = c.args in
@@ -110,12 +99,10 @@ loop-values-preserved c =
           c.loop-values-test.true c.turned-here.ensures o t c.if-here-items.false;
     }
 
--- src/run.rt:241:58
 pub shape_of-out-in-Stopped : goal.shape_of-out-in-Stopped
 shape_of-out-in-Stopped c = c.run_image.auto.out
     ∙ c.loop-values.invariant.same
 
--- src/run.rt:241:58
 pub returns-in-Stopped : goal.returns-in-Stopped
 returns-in-Stopped c =
     let a = c.args in
@@ -131,11 +118,9 @@ returns-in-Stopped c =
       out_after = left_stopped a.plan.now a.images.now a.self a.out.now _ refl (omega arith) _ _ _ _ g;
     }
 
--- src/run.rt:212:5
 pub shape_of-out : goal.shape_of-out
 shape_of-out c = c.loop-values.invariant.same
 
--- src/run.rt:212:5
 pub returns : goal.returns
 returns c =
     let a = c.args in

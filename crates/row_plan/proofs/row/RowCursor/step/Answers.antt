@@ -4,32 +4,27 @@ use Rattle.wire.specs.Outcome.{refused}
 use Rattle.row_plan.proofs.Goes.{row_none, row_short, row_past, row_end, row_null, row_got, row_bad, rest_is}
 use Rattle.row_plan.proofs.row.RowCursor.step.Goals as goal
 
--- src/row.rt:50:13
 pub returns-then-items-item : goal.returns-then-items-item
 returns-then-items-item c = let a = c.args in ap refused c.refuse.ensures
     ∙ sym (row_none a.plan.now a.images.now a.self (omega arith))
 
--- src/row.rt:55:13
 pub returns-then-image-bytes_for : goal.returns-then-image-bytes_for
 returns-then-image-bytes_for c = let a = c.args in let s = a.self in
     let i = rest_is a.images.now s.start _ c.least-from.ensures in ap refused c.refuse-then-image-bytes_for.ensures
     ∙ sym (row_short a.plan.now a.images.now s i (omega arith) (omega (arith, c.bytes_for.ensures)))
 
--- src/row.rt:58:13
 pub returns-then-image-offset : goal.returns-then-image-offset
 returns-then-image-offset c = let a = c.args in let s = a.self in
     let i = rest_is a.images.now s.start _ c.least-from.ensures in
     ap refused c.refuse-then-image-offset.ensures ∙ sym (row_past a.plan.now a.images.now s i (omega arith) (omega
     (arith, c.bytes_for.ensures)) (omega arith))
 
--- src/row.rt:61:13
 pub returns-then-item-items : goal.returns-then-item-items
 returns-then-item-items c = let a = c.args in let s = a.self in
     let i = rest_is a.images.now s.start _ c.least-from.ensures in
     sym (row_end a.plan.now a.images.now s i (omega arith) (omega (arith, c.bytes_for.ensures))
     (omega arith) c.if-item-items.true)
 
--- src/row.rt:67:13
 pub returns-then-bit_lsb0 : goal.returns-then-bit_lsb0
 returns-then-bit_lsb0 c = let a = c.args in
     let s = a.self in let i = rest_is a.images.now s.start _
@@ -38,7 +33,6 @@ returns-then-bit_lsb0 c = let a = c.args in
     (arith, c.bytes_for.ensures)) (omega arith) (omega arith)
     c.column_at-column.ensures (sym c.bit_lsb0.ensures ∙ c.if-bit_lsb0.true))
 
--- src/row.rt:42:5
 pub returns-in-Got : goal.returns-in-Got
 returns-in-Got c = let a = c.args in let s = a.self in
     let i = rest_is a.images.now s.start _
@@ -50,7 +44,6 @@ returns-in-Got c = let a = c.args in let s = a.self in
     ∙ c.if-bit_lsb0.false) c.read_op.result
     c.read_op.ensures _ _ c.in-Got.is)
 
--- src/row.rt:42:5
 pub returns-in-Refused : goal.returns-in-Refused
 returns-in-Refused c = let a = c.args in let s = a.self in
     let i = rest_is a.images.now s.start _
