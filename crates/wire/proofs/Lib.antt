@@ -2,7 +2,6 @@
 -- `Outcomes`: answers and chains of them. `Bytes`: the turns of loops over the bytes of a number. `Inverse`: numbers and bytes, both ways.
 -- `Signs`: two's complement, both ways. `Stores`: buffers with bytes stored in them. `Digits`: bits. `Parts`: parts of the lent bytes, and
 -- the numbers read there. `Forms`: packed integers. `Layouts`: parts that were read are whole. `Appends`: bytes put behind those that were
--- read. `Moves`: what was read, read wherever its bytes stand. `Views`: no two answers look the same on paper.
 pub mod Rules
 pub mod Each
 pub mod Outcomes
@@ -16,4 +15,3 @@ pub mod Forms
 pub mod Layouts
 pub mod Appends
 pub mod Moves
-pub mod Views

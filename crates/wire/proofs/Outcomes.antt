@@ -12,7 +12,7 @@ pub ok_not_refused : {A : Type 0} {a : A} {w : Refusal} → ok a ≡ refused w �
 ok_not_refused e = let z : ◌≡◌ {A = ℕ} 0 1 = cc in omega arith
 
 -- equal answers hold equal things
-pub same_ok : {A : Type 0} {a b : A} → ok a ≡ ok b → a ≡ b
+pub same_ok : {A : Type 0} {a b : A} → ◌≡◌ {A = Outcome A} (ok a) (ok b) → a ≡ b
 same_ok e = cc
 
 -- and equal refusals

@@ -11,11 +11,9 @@ use lib.ListN.{length, take, drop, set, length-append, length-take, length-drop,
 use lib.Seq.{length-take-le, take_at, drop_at, drop-append-add, drop-drop, set_split, take-length, paste}
 use lib.Dec.{leb}
 use Rattle.wire.specs.declared.refusal.Refusal.{Refusal}
-use Rattle.wire.specs.Outcome.{ok, refuse, why}
-use Rattle.wire.specs.Stored.{stored, store, answer_of, left_of, written_told}
+use Rattle.wire.specs.Outcome.{Outcome, ok, refused, refuse, why}
+use Rattle.wire.specs.Stored.{stored, store, answer_of, left_of}
 use Rattle.wire.specs.Number.{Bytes, le_value, be_value, le_bytes, be_bytes}
-use Rattle.wire.specs.declared.store.Written.{Written}
-use Rattle.wire.specs.declared.store.Written.TheVariants.{Done, Refused}
 use Rattle.wire.proofs.Bytes.{le_bytes_length, be_bytes_length}
 use Rattle.wire.proofs.Inverse.{le_back, be_back, bytes_append, bytes_take, bytes_drop}
 
@@ -102,19 +100,19 @@ unfolding store
 store_full d bs at h = rw (lt-leb _ _ h)
 
 -- the answer r and the buffer x of a writer of bs: done, or refused
-abbrev pub Wrote : List ℕ → ℕ → List ℕ → Written → List ℕ → Type 0
-Wrote d at bs r x = (written_told r ≡ answer_of (store bs d at)) × (x ≡ left_of (store bs d at) d)
+abbrev pub Wrote : List ℕ → ℕ → List ℕ → Outcome ℕ → List ℕ → Type 0
+Wrote d at bs r x = (r ≡ answer_of (store bs d at)) × (x ≡ left_of (store bs d at) d)
 
 -- for a writer that has written: its `returns`, from the length n that its code knows
 pub wrote : (d bs x : List ℕ) (at n next : ℕ) → length bs ≡ n → at + n ≤ length d → next ≡ at + n → x ≡ stored bs d at
-    → Wrote d at bs (Done next) x
+    → Wrote d at bs (ok next) x
 wrote d bs x at n next e h p q =
     let s = store_fits d bs at (omega arith) in
     let m : next ≡ at + length bs = omega arith in
     rw s (ap ok m, q)
 
 -- for a writer that has no room: its `returns`
-pub not_wrote : (d bs : List ℕ) (at n : ℕ) (w : Refusal) → length bs ≡ n → length d < at + n → w ≡ why 8 0 → Wrote d at bs (Refused w) d
+pub not_wrote : (d bs : List ℕ) (at n : ℕ) (w : Refusal) → length bs ≡ n → length d < at + n → w ≡ why 8 0 → Wrote d at bs (refused w) d
 not_wrote d bs at n w e h p =
     let s = store_full d bs at (omega arith) in
     rw (s, p) (refl, refl)
@@ -129,20 +127,20 @@ no_room b at n len e t = leb-false (at + n) len (sym e ∙ t)
 
 -- both for a writer of a number, in bytes of either order: w is the width that its code found, and k that of its contract
 pub wrote_number : (bytes : ℕ → ℕ → List ℕ) → ((k v : ℕ) → length (bytes k v) ≡ k) → (d x : List ℕ) (at w k v : ℕ) (t : Bool)
-    → w ≡ k → t ≡ leb (at + w) (length d) → t ≡ true → x ≡ stored (bytes w v) d at → Wrote d at (bytes k v) (Done (at + w)) x
+    → w ≡ k → t ≡ leb (at + w) (length d) → t ≡ true → x ≡ stored (bytes w v) d at → Wrote d at (bytes k v) (ok (at + w)) x
 wrote_number bytes size d x at w k v t e f h q =
-    subst (λ (k : ℕ). Wrote d at (bytes k v) (Done (at + w)) x) e
+    subst (λ (k : ℕ). Wrote d at (bytes k v) (ok (at + w)) x) e
     (wrote d (bytes w v) x at w (at + w) (size w v) (room t at w (length d) f h) refl q)
 
 pub not_wrote_number : (bytes : ℕ → ℕ → List ℕ) → ((k v : ℕ) → length (bytes k v) ≡ k)
     → (d : List ℕ) (at w k v : ℕ) (t : Bool) (r : Refusal)
-    → w ≡ k → t ≡ leb (at + w) (length d) → t ≡ false → r ≡ why 8 0 → Wrote d at (bytes k v) (Refused r) d
+    → w ≡ k → t ≡ leb (at + w) (length d) → t ≡ false → r ≡ why 8 0 → Wrote d at (bytes k v) (refused r) d
 not_wrote_number bytes size d at w k v t r e f h q =
-    subst (λ (k : ℕ). Wrote d at (bytes k v) (Refused r) d) e
+    subst (λ (k : ℕ). Wrote d at (bytes k v) (refused r) d) e
     (not_wrote d (bytes w v) at w r (size w v) (no_room t at w (length d) f h) q)
 
 -- a write of a, m bytes long, in which there is room for b too, and then a write of b behind it: one write of both
-pub wrote_two : (d a b x₁ x : List ℕ) (at m : ℕ) (r : Written) → length a ≡ m → at + (m + length b) ≤ length d
+pub wrote_two : (d a b x₁ x : List ℕ) (at m : ℕ) (r : Outcome ℕ) → length a ≡ m → at + (m + length b) ≤ length d
     → x₁ ≡ left_of (store a d at) d
     → Wrote x₁ (at + m) b r x → Wrote d at (a ++ b) r x
 wrote_two d a b x₁ x at m r e h p w =

@@ -1,11 +1,11 @@
 -- What a call answers, on paper: something, or a refusal, which is a number of document 01's table and a place, and for refusal 10 the part
 -- of a temporal that is out of its range; for all others the part is 0. Assumes nothing.
-use Rattle.std.specs.Prelude.{ℕ, ◌≡◌}
+use Rattle.std.specs.Prelude.{ℕ, ◌≡◌, Result}
 use Rattle.wire.specs.declared.refusal.Refusal.{Refusal}
+pub use Rattle.std.specs.Prelude.{Ok as ok, Err as refused}
 
-pub data Outcome (A : Type 0) : Type 0 where
-  ok : A → Outcome A
-  refused : Refusal → Outcome A
+abbrev pub Outcome : Type 0 → Type 0
+Outcome A = Result A Refusal
 
 -- refusal `number` at `place`, of no part
 abbrev pub why : ℕ → ℕ → Refusal

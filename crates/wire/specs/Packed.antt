@@ -5,8 +5,6 @@ use Rattle.std.specs.Prelude.{ℕ, ◌+◌, List, [], ◌∷◌, cond, length, g
 use Rattle.wire.specs.Outcome.{Outcome, ok, refused, refuse, after}
 use Rattle.wire.specs.Number.{le_value, le_bytes}
 use Rattle.wire.specs.Parts.{within}
-use Rattle.wire.specs.declared.packed.Packed.{Packed}
-use Rattle.wire.specs.declared.packed.Packed.TheVariants.{Value, Refused}
 
 -- the number of the k bytes at `at` of s, the least significant first, and the place after them
 unfoldable pub read_fixed : ℕ → List ℕ → ℕ → Outcome (ℕ × ℕ)
@@ -41,8 +39,3 @@ packed_bytes v =
     (cond (ltb v 65536) (252 ∷ le_bytes 2 v)
     (cond (ltb v 16777216) (253 ∷ le_bytes 3 v)
     (254 ∷ le_bytes 8 v)))
-
--- what the answer of a reader says
-abbrev pub packed_told : Packed → Outcome (ℕ × ℕ)
-packed_told (Value value next) = ok (value, next)
-packed_told (Refused r) = refused r

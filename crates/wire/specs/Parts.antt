@@ -2,8 +2,6 @@
 use Rattle.std.specs.Prelude.{ℕ, ◌+◌, ◌≤◌, ◌≡◌, List, [], cond, length, take, drop, leb}
 use Rattle.wire.specs.Outcome.{Outcome, ok, refused, refuse}
 use Rattle.wire.specs.declared.part.Part.{Part}
-use Rattle.wire.specs.declared.part.Reach.{Reach}
-use Rattle.wire.specs.declared.part.Reach.TheVariants.{At, Refused}
 
 abbrev pub part : ℕ → ℕ → Part
 part start len = record { start = start; len = len }
@@ -24,8 +22,3 @@ pub record Moved (n : ℕ) (s : List ℕ) (at : ℕ) (t : List ℕ) (to : ℕ) :
 -- n bytes from `at` on: the place after them, or refusal 1 at `place` where they end early
 unfoldable pub within : List ℕ → ℕ → ℕ → ℕ → Outcome ℕ
 within s at n place = cond (leb (at + n) (length s)) (ok (at + n)) (refuse 1 place)
-
--- what the answer of `within` says
-abbrev pub reach_told : Reach → Outcome ℕ
-reach_told (At next) = ok next
-reach_told (Refused r) = refused r

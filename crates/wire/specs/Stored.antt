@@ -1,10 +1,6 @@
 -- What any writer of bytes answers, and what it leaves of the buffer: all of the bytes, or nothing. Assumes nothing.
 use Rattle.std.specs.Prelude.{ℕ, ◌+◌, List, ◌++◌, cond, length, take, drop, leb}
 use Rattle.wire.specs.Outcome.{Outcome, ok, refused, refuse}
-use Rattle.wire.specs.declared.store.Written.{Written}
-use Rattle.wire.specs.declared.store.Written.TheVariants.{Done, Refused}
-use Rattle.wire.specs.declared.store.Size.{Size}
-use Rattle.wire.specs.declared.store.Size.TheVariants.{Takes, Refused as Refused'}
 
 -- the buffer with bs in it from `at` on
 unfoldable pub stored : List ℕ → List ℕ → ℕ → List ℕ
@@ -23,13 +19,3 @@ answer_of (refused w) = refused w
 abbrev pub left_of : {A : Type 0} → Outcome (A × List ℕ) → List ℕ → List ℕ
 left_of (ok x) buf = x.1
 left_of (refused w) buf = buf
-
--- what the answer of a writer says: the place after what it wrote
-abbrev pub written_told : Written → Outcome ℕ
-written_told (Done next) = ok next
-written_told (Refused r) = refused r
-
--- what the answer of a call for a size says
-abbrev pub size_told : Size → Outcome ℕ
-size_told (Takes n) = ok n
-size_told (Refused' r) = refused r

@@ -2,10 +2,10 @@
 // A width over 8 is taken as 8.
 ghost use Rattle.std.specs.Prelude.{◌≡◌, ◌+◌, ◌-◌, ◌≤◌, ◌<◌, ◌^◌, min, length, take, drop};
 ghost use Rattle.wire.specs.Number.{le_value, be_value, le_bytes, be_bytes};
-ghost use Rattle.wire.specs.Stored.{store, stored, answer_of, left_of, written_told};
+ghost use Rattle.wire.specs.Stored.{store, stored, answer_of, left_of};
 
-use crate::refusal::{NO_ROOM, refuse};
-use crate::store::{Written, has_room};
+use crate::refusal::{NO_ROOM, Refusal, refuse};
+use crate::store::has_room;
 use crate::straight::{be2, be3, be4, be5, be6, be7, be8, byte, le2, le3, le4, le8};
 
 // A byte as a u64. By its contract those who call it know that the number is the same.
@@ -100,31 +100,31 @@ fn be(s: &[u8], at: usize, k: usize) -> u64
 }
 
 // Writes the k low bytes of v from at on, the least significant first.
-pub fn write_le(k: usize, v: u64, buf: &mut [u8], at: usize) -> Written
-    ensures result_value { written_told result ≡ answer_of (store (le_bytes (min k 8) v) buf.old at) }
+pub fn write_le(k: usize, v: u64, buf: &mut [u8], at: usize) -> Result<usize, Refusal>
+    ensures result_value { result ≡ answer_of (store (le_bytes (min k 8) v) buf.old at) }
     ensures buf_after { buf.new ≡ left_of (store (le_bytes (min k 8) v) buf.old at) buf.old }
 {
     let w = least(k, 8);
     if has_room(buf.len(), at, w) {
         put_le(w, v, buf, at);
         let next = at + w;
-        return Written::Done { next };
+        return Ok(next);
     }
-    Written::Refused(refuse(NO_ROOM, 0))
+    Err(refuse(NO_ROOM, 0))
 }
 
 // Writes the k low bytes of v from at on, the most significant first.
-pub fn write_be(k: usize, v: u64, buf: &mut [u8], at: usize) -> Written
-    ensures result_value { written_told result ≡ answer_of (store (be_bytes (min k 8) v) buf.old at) }
+pub fn write_be(k: usize, v: u64, buf: &mut [u8], at: usize) -> Result<usize, Refusal>
+    ensures result_value { result ≡ answer_of (store (be_bytes (min k 8) v) buf.old at) }
     ensures buf_after { buf.new ≡ left_of (store (be_bytes (min k 8) v) buf.old at) buf.old }
 {
     let w = least(k, 8);
     if has_room(buf.len(), at, w) {
         put_be(w, v, buf, at);
         let next = at + w;
-        return Written::Done { next };
+        return Ok(next);
     }
-    Written::Refused(refuse(NO_ROOM, 0))
+    Err(refuse(NO_ROOM, 0))
 }
 
 // The same as write_le, for those who know that there is room.

@@ -13,8 +13,8 @@ mod straight;
 
 pub use bits::{bit_lsb0, bit_msb0, bytes_for};
 pub use fixed::{read_be, read_le, wide, write_be, write_le};
-pub use packed::{Packed, packed_size, read_fixed, read_packed, write_packed};
-pub use part::{Part, Reach, part_of, within};
+pub use packed::{packed_size, read_fixed, read_packed, write_packed};
+pub use part::{Part, part_of, within};
 pub use refusal::{Refusal, refuse, refuse_part};
 pub use signed::{in_halves, signed_of, top_of, twos_of};
-pub use store::{Size, Written, has_room, write_bytes};
+pub use store::{has_room, write_bytes};

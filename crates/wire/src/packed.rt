@@ -2,50 +2,36 @@
 // readers answer alike.
 ghost use Rattle.std.specs.Prelude.{◌≡◌, ◌∷◌, ◌≤◌, ◌<◌, min, length};
 ghost use Rattle.wire.specs.Number.{le_bytes};
-ghost use Rattle.wire.specs.Packed.{read_fixed, read_packed, long_form, packed_bytes, packed_told};
-ghost use Rattle.wire.specs.Stored.{store, answer_of, left_of, written_told};
+ghost use Rattle.wire.specs.Packed.{read_fixed, read_packed, long_form, packed_bytes};
+ghost use Rattle.wire.specs.Stored.{store, answer_of, left_of};
 
 use crate::fixed::{le, least, put_le, wide};
-use crate::part::{Reach, within};
+use crate::part::within;
 use crate::refusal::{NO_ROOM, NOT_PACKED, Refusal, SHORT, refuse};
-use crate::store::{Written, has_room};
+use crate::store::has_room;
 
-// The value and the place after it, or why there is none.
-#[derive(Clone, Copy)]
-pub enum Packed {
-    Value { value: u64, next: usize },
-    Refused(Refusal),
-}
-
-// The number of the k bytes at `at`, the least significant first: of all of them, or of none. A width over 8 is taken as 8.
-pub fn read_fixed(s: &[u8], at: usize, k: usize) -> Packed
-    ensures { packed_told result ≡ read_fixed (min k 8) s.now at }
+// The number of the k bytes at `at`, the least significant first, and the place after them: of all of them, or of none. A width over 8 is taken as 8.
+#[tactic(auto, unfolding(crate::specs::Packed::read_fixed))]
+pub fn read_fixed(s: &[u8], at: usize, k: usize) -> Result<(u64, usize), Refusal>
+    ensures { result ≡ read_fixed (min k 8) s.now at }
 {
     let w = least(k, 8);
-    match within(s, at, w, at) {
-        Reach::At(next) => Packed::Value {
-            value: le(s, at, w),
-            next,
-        },
-        Reach::Refused(r) => Packed::Refused(r),
-    }
+    let next = within(s, at, w, at)?;
+    Ok((le(s, at, w), next))
 }
 
-// The packed integer at `at`.
+// The packed integer at `at`, and the place after it.
 #[tactic(auto, using(crate::proofs::Rules::tests), unfolding(crate::specs::Packed::read_packed, crate::specs::Packed::packed_form))]
-pub fn read_packed(s: &[u8], at: usize) -> Packed
-    ensures { packed_told result ≡ read_packed s.now at }
+pub fn read_packed(s: &[u8], at: usize) -> Result<(u64, usize), Refusal>
+    ensures { result ≡ read_packed s.now at }
 {
     if s.len() <= at {
-        return Packed::Refused(refuse(SHORT, at));
+        return Err(refuse(SHORT, at));
     }
     let first = s[at];
     if first <= 250 {
         let next = at + 1;
-        return Packed::Value {
-            value: wide(first),
-            next,
-        };
+        return Ok((wide(first), next));
     }
     if first == 252 {
         return read_long(s, at, 2);
@@ -56,23 +42,20 @@ pub fn read_packed(s: &[u8], at: usize) -> Packed
     if first == 254 {
         return read_long(s, at, 8);
     }
-    Packed::Refused(refuse(NOT_PACKED, at))
+    Err(refuse(NOT_PACKED, at))
 }
 
 // A form whose value is in the k bytes behind its first, which is at `at`.
-fn read_long(s: &[u8], at: usize, k: usize) -> Packed
+fn read_long(s: &[u8], at: usize, k: usize) -> Result<(u64, usize), Refusal>
     requires { (k ≤ 8) × (at < length s.now) }
-    ensures { packed_told result ≡ long_form s.now at k }
+    ensures { result ≡ long_form s.now at k }
 {
     let body = at + 1;
     if s.len() - body < k {
-        return Packed::Refused(refuse(SHORT, at));
+        return Err(refuse(SHORT, at));
     }
     let next = body + k;
-    Packed::Value {
-        value: le(s, body, k),
-        next,
-    }
+    Ok((le(s, body, k), next))
 }
 
 // How many bytes the shortest form of v takes.
@@ -92,8 +75,8 @@ pub fn packed_size(v: u64) -> usize
 }
 
 // Writes v from at on, in its shortest form.
-pub fn write_packed(v: u64, buf: &mut [u8], at: usize) -> Written
-    ensures result_value { written_told result ≡ answer_of (store (packed_bytes v) buf.old at) }
+pub fn write_packed(v: u64, buf: &mut [u8], at: usize) -> Result<usize, Refusal>
+    ensures result_value { result ≡ answer_of (store (packed_bytes v) buf.old at) }
     ensures buf_after { buf.new ≡ left_of (store (packed_bytes v) buf.old at) buf.old }
 {
     if v <= 250 {
@@ -109,9 +92,9 @@ pub fn write_packed(v: u64, buf: &mut [u8], at: usize) -> Written
 }
 
 // Writes the byte first and the k low bytes of v after it.
-fn write_form(first: u8, k: usize, v: u64, buf: &mut [u8], at: usize) -> Written
+fn write_form(first: u8, k: usize, v: u64, buf: &mut [u8], at: usize) -> Result<usize, Refusal>
     requires { k ≤ 8 }
-    ensures result_value { written_told result ≡ answer_of (store (first ∷ le_bytes k v) buf.old at) }
+    ensures result_value { result ≡ answer_of (store (first ∷ le_bytes k v) buf.old at) }
     ensures buf_after { buf.new ≡ left_of (store (first ∷ le_bytes k v) buf.old at) buf.old }
 {
     if has_room(buf.len(), at, k + 1) {
@@ -119,7 +102,7 @@ fn write_form(first: u8, k: usize, v: u64, buf: &mut [u8], at: usize) -> Written
         let body = at + 1;
         put_le(k, v, buf, body);
         let next = body + k;
-        return Written::Done { next };
+        return Ok(next);
     }
-    Written::Refused(refuse(NO_ROOM, 0))
+    Err(refuse(NO_ROOM, 0))
 }

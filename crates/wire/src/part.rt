@@ -1,6 +1,6 @@
 // Parts of the lent bytes: where they stand.
 ghost use Rattle.std.specs.Prelude.{◌≡◌};
-ghost use Rattle.wire.specs.Parts.{lent_part, within, reach_told};
+ghost use Rattle.wire.specs.Parts.{lent_part, within};
 
 use crate::refusal::{Refusal, SHORT, refuse};
 use crate::store::has_room;
@@ -10,13 +10,6 @@ use crate::store::has_room;
 pub struct Part {
     pub start: usize,
     pub len: usize,
-}
-
-// The place after some bytes, or why they are not all there.
-#[derive(Clone, Copy)]
-pub enum Reach {
-    At(usize),
-    Refused(Refusal),
 }
 
 // The bytes of a part, none where it runs past those lent.
@@ -32,12 +25,12 @@ pub fn part_of(s: &[u8], part: Part) -> &[u8]
 }
 
 // The place after the n bytes from at on; if they end early, the refusal is placed at `place`.
-pub fn within(s: &[u8], at: usize, n: usize, place: usize) -> Reach
-    ensures { reach_told result ≡ within s.now at n place }
+pub fn within(s: &[u8], at: usize, n: usize, place: usize) -> Result<usize, Refusal>
+    ensures { result ≡ within s.now at n place }
 {
     if has_room(s.len(), at, n) {
         let next = at + n;
-        return Reach::At(next);
+        return Ok(next);
     }
-    Reach::Refused(refuse(SHORT, place))
+    Err(refuse(SHORT, place))
 }

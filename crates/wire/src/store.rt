@@ -1,22 +1,8 @@
 // Bytes written into a lent buffer: all of them, or none.
 ghost use Rattle.std.specs.Prelude.{◌≡◌, ◌+◌, ◌≤◌, length, leb};
-ghost use Rattle.wire.specs.Stored.{store, stored, answer_of, left_of, written_told};
+ghost use Rattle.wire.specs.Stored.{store, stored, answer_of, left_of};
 
 use crate::refusal::{NO_ROOM, Refusal, refuse};
-
-// What every writer of bytes answers: the place after what it wrote, or why it wrote nothing.
-#[derive(Clone, Copy)]
-pub enum Written {
-    Done { next: usize },
-    Refused(Refusal),
-}
-
-// How many bytes something takes, or why it is not taken: what every call for a size answers.
-#[derive(Clone, Copy)]
-pub enum Size {
-    Takes(usize),
-    Refused(Refusal),
-}
 
 // Whether n bytes from at on lie within len bytes. The sum of at and n may be too large to be made.
 pub fn has_room(len: usize, at: usize, n: usize) -> bool
@@ -28,17 +14,17 @@ pub fn has_room(len: usize, at: usize, n: usize) -> bool
     n <= len - at
 }
 
-// Writes all of bytes from at on.
-pub fn write_bytes(bytes: &[u8], buf: &mut [u8], at: usize) -> Written
-    ensures result_value { written_told result ≡ answer_of (store bytes.now buf.old at) }
+// Writes all of bytes from at on. Like every writer, it answers the place after what it wrote, or why it wrote nothing.
+pub fn write_bytes(bytes: &[u8], buf: &mut [u8], at: usize) -> Result<usize, Refusal>
+    ensures result_value { result ≡ answer_of (store bytes.now buf.old at) }
     ensures buf_after { buf.new ≡ left_of (store bytes.now buf.old at) buf.old }
 {
     if has_room(buf.len(), at, bytes.len()) {
         put_bytes(bytes, buf, at);
         let next = at + bytes.len();
-        return Written::Done { next };
+        return Ok(next);
     }
-    Written::Refused(refuse(NO_ROOM, 0))
+    Err(refuse(NO_ROOM, 0))
 }
 
 // The same as write_bytes, for those who know that there is room.
