@@ -9,10 +9,9 @@ use borrow.Author.Tests.{le-leb, lt-leb}
 use lib.ListN.{length, take, drop}
 use lib.Seq.{take-take, drop-drop, take-nil}
 use lib.Dec.{eqb}
-use Rattle.wire.specs.Outcome.{ok, refuse, refused, out_of}
+use Rattle.wire.specs.Outcome.{Outcome, ok, refuse, refused, out_of}
 use Rattle.wire.specs.Number.{le_value, be_value, le_bytes, be_bytes}
-use Rattle.wire.specs.Stored.{answer_of, left_of, written_told}
-use Rattle.wire.specs.declared.store.Written.{Written}
+use Rattle.wire.specs.Stored.{answer_of, left_of}
 use Rattle.wire.proofs.Outcomes.{by_test}
 use Rattle.wire.proofs.Stores.{Wrote}
 use Rattle.temporal.specs.declared.storage.Storage.{Storage}
@@ -111,20 +110,20 @@ read_short storage place s at h = rw (lt-leb _ _ h)
 
 -- ---- what was written is what is to be written
 -- the answer r and the buffer x of a writer of a temporal
-abbrev pub Writes : Storage → ℕ → List ℕ → ℕ → Temporal → Written → List ℕ → Type 0
+abbrev pub Writes : Storage → ℕ → List ℕ → ℕ → Temporal → Outcome ℕ → List ℕ → Type 0
 Writes storage place d at t r x =
-    (written_told r ≡ answer_of (write_temporal storage place t d at)) × (x ≡ left_of (write_temporal storage place t d at) d)
+    (r ≡ answer_of (write_temporal storage place t d at)) × (x ≡ left_of (write_temporal storage place t d at) d)
 
 module _ (storage : Storage) (place : ℕ) (d : List ℕ) (at : ℕ) (t : Temporal) where
   -- two numbers, the most significant byte first
-  pub write_big : (r : Written) (x : List ℕ) (k w a f : ℕ) → temporal_domain storage t ≡ true → is_big storage ≡ true → k ≡ whole_bytes storage
+  pub write_big : (r : Outcome ℕ) (x : List ℕ) (k w a f : ℕ) → temporal_domain storage t ≡ true → is_big storage ≡ true → k ≡ whole_bytes storage
       → w ≡ fraction_size storage
       → a ≡ whole_of storage t → f ≡ units_of storage t → Wrote d at (be_bytes k a ++ be_bytes w f) r x → Writes storage place d at t r x
   unfolding write_temporal temporal_bytes
   write_big r x k w a f g b ek ew ea ef o = rw (g, b, ← ek, ← ew, ← ea, ← ef) (o.0, o.1)
 
   -- one number, the least significant byte first
-  pub write_little : (r : Written) (x : List ℕ) (k a : ℕ) → temporal_domain storage t ≡ true → is_big storage ≡ false → k ≡ whole_bytes storage
+  pub write_little : (r : Outcome ℕ) (x : List ℕ) (k a : ℕ) → temporal_domain storage t ≡ true → is_big storage ≡ false → k ≡ whole_bytes storage
       → k ≤ 8
       → a ≡ whole_of storage t → Wrote d at (le_bytes (min k 8) a) r x → Writes storage place d at t r x
   unfolding write_temporal temporal_bytes

@@ -5,8 +5,6 @@ use Rattle.wire.specs.Number.{le_value, be_value, le_bytes, be_bytes}
 use Rattle.wire.specs.Stored.{store}
 use Rattle.temporal.specs.declared.storage.Storage.{Storage}
 use Rattle.temporal.specs.declared.parts.Temporal.{Temporal}
-use Rattle.temporal.specs.declared.read.TemporalRead.{TemporalRead}
-use Rattle.temporal.specs.declared.read.TemporalRead.TheVariants.{Read, Refused}
 use Rattle.temporal.specs.Storage.{whole_bytes, fraction_size, is_big, temporal_of, fault_of, whole_of, units_of}
 use Rattle.temporal.specs.Domains.{temporal_domain}
 
@@ -57,8 +55,3 @@ read_temporal k place s at =
 unfoldable pub write_temporal : Storage → ℕ → Temporal → List ℕ → ℕ → Outcome (ℕ × List ℕ)
 unfolding temporal_domain temporal_bytes store
 write_temporal k place t buf at = cond (temporal_domain k t) (store (temporal_bytes k t) buf at) (refuse 13 place)
-
--- what the answer of a reader says
-abbrev pub temporal_told : TemporalRead → Outcome (Temporal × ℕ)
-temporal_told (Read temporal next) = ok (temporal, next)
-temporal_told (Refused r) = refused r

@@ -5,7 +5,7 @@ ghost use Rattle.wire.specs.Number.{be_value};
 ghost use Rattle.wire.specs.Outcome.{refused, why};
 ghost use Rattle.temporal.specs.declared.storage.Storage.TheVariants.{Newdate, Timestamp2, Datetime2, Time2};
 ghost use Rattle.temporal.specs.Inner.Ranged.{ranged_told};
-ghost use Rattle.temporal.specs.Reading.{read_temporal, temporal_told};
+ghost use Rattle.temporal.specs.Reading.{read_temporal};
 
 use crate::fraction::fraction_bytes;
 use crate::judge::{Ranged, date_of};
@@ -13,13 +13,13 @@ use crate::misc::{
     datetime_from_packed, my_datetime_packed_from_binary, my_time_packed_from_binary,
     my_timestamp_from_binary, time_from_packed,
 };
-use crate::read::TemporalRead;
+use crate::parts::Temporal;
 use wire::refusal::IMAGE_SHORT;
-use wire::{refuse, refuse_part};
+use wire::{Refusal, refuse, refuse_part};
 
 // The date at `at`; place is what a refusal tells.
-pub fn read_newdate(s: &[u8], at: usize, place: usize) -> TemporalRead
-    ensures { temporal_told result ≡ read_temporal Newdate place s.now at }
+pub fn read_newdate(s: &[u8], at: usize, place: usize) -> Result<(Temporal, usize), Refusal>
+    ensures { result ≡ read_temporal Newdate place s.now at }
 {
     if !wire::has_room(s.len(), at, 3) {
         return short(place);
@@ -30,8 +30,13 @@ pub fn read_newdate(s: &[u8], at: usize, place: usize) -> TemporalRead
 }
 
 // The seconds at `at`, of a column that declares m0 digits.
-pub fn read_timestamp2(m0: u8, s: &[u8], at: usize, place: usize) -> TemporalRead
-    ensures { temporal_told result ≡ read_temporal (Timestamp2 m0) place s.now at }
+pub fn read_timestamp2(
+    m0: u8,
+    s: &[u8],
+    at: usize,
+    place: usize,
+) -> Result<(Temporal, usize), Refusal>
+    ensures { result ≡ read_temporal (Timestamp2 m0) place s.now at }
 {
     let w = fraction_bytes(m0);
     let size = 4 + w;
@@ -46,8 +51,13 @@ pub fn read_timestamp2(m0: u8, s: &[u8], at: usize, place: usize) -> TemporalRea
 }
 
 // The datetime.
-pub fn read_datetime2(m0: u8, s: &[u8], at: usize, place: usize) -> TemporalRead
-    ensures { temporal_told result ≡ read_temporal (Datetime2 m0) place s.now at }
+pub fn read_datetime2(
+    m0: u8,
+    s: &[u8],
+    at: usize,
+    place: usize,
+) -> Result<(Temporal, usize), Refusal>
+    ensures { result ≡ read_temporal (Datetime2 m0) place s.now at }
 {
     let w = fraction_bytes(m0);
     let size = 5 + w;
@@ -66,8 +76,8 @@ pub fn read_datetime2(m0: u8, s: &[u8], at: usize, place: usize) -> TemporalRead
 }
 
 // The time.
-pub fn read_time2(m0: u8, s: &[u8], at: usize, place: usize) -> TemporalRead
-    ensures { temporal_told result ≡ read_temporal (Time2 m0) place s.now at }
+pub fn read_time2(m0: u8, s: &[u8], at: usize, place: usize) -> Result<(Temporal, usize), Refusal>
+    ensures { result ≡ read_temporal (Time2 m0) place s.now at }
 {
     let w = fraction_bytes(m0);
     let size = 3 + w;
@@ -103,18 +113,18 @@ fn units_at(w: usize, s: &[u8], at: usize) -> u64
 }
 
 // Bytes are missing.
-fn short(place: usize) -> TemporalRead
-    ensures { temporal_told result ≡ refused (why 9 place) }
+fn short(place: usize) -> Result<(Temporal, usize), Refusal>
+    ensures { result ≡ refused (why 9 place) }
 {
-    TemporalRead::Refused(refuse(IMAGE_SHORT, place))
+    Err(refuse(IMAGE_SHORT, place))
 }
 
 // They are all there: what they say, and the place after them, unless a part is out of range.
-fn answer(ranged: Ranged, next: usize, place: usize) -> TemporalRead
-    ensures { temporal_told result ≡ ranged_told ranged next place }
+fn answer(ranged: Ranged, next: usize, place: usize) -> Result<(Temporal, usize), Refusal>
+    ensures { result ≡ ranged_told ranged next place }
 {
     match ranged {
-        Ranged::In(temporal) => TemporalRead::Read { temporal, next },
-        Ranged::Out(part) => TemporalRead::Refused(refuse_part(place, part)),
+        Ranged::In(temporal) => Ok((temporal, next)),
+        Ranged::Out(part) => Err(refuse_part(place, part)),
     }
 }

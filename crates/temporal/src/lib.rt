@@ -15,6 +15,6 @@ mod write;
 pub use direct::{read_datetime2, read_newdate, read_time2, read_timestamp2};
 pub use domain::in_domain;
 pub use parts::{Date, Datetime, Seconds, Temporal, Time};
-pub use read::{TemporalRead, read_temporal};
+pub use read::read_temporal;
 pub use storage::{Storage, temporal_size};
 pub use write::write_temporal;

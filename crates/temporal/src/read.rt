@@ -2,7 +2,7 @@
 ghost use Rattle.std.specs.Prelude.{◌≡◌, ◌+◌, ◌≤◌, ◌<◌, ◌^◌, length, take, drop};
 ghost use Rattle.temporal.specs.Storage.{whole_bytes, fraction_size, temporal_of, fault_of};
 ghost use Rattle.temporal.specs.Inner.Ranged.{ranged};
-ghost use Rattle.temporal.specs.Reading.{temporal_size, whole_in, units_in, read_temporal, temporal_told};
+ghost use Rattle.temporal.specs.Reading.{temporal_size, whole_in, units_in, read_temporal};
 
 use crate::fraction::fraction_bytes;
 use crate::judge::{Ranged, date_of, datetime_by, time_by};
@@ -15,27 +15,25 @@ use crate::storage::{Storage, fraction_size, is_big, temporal_size, whole_bytes}
 use wire::refusal::IMAGE_SHORT;
 use wire::{Refusal, refuse, refuse_part};
 
-// The temporal and the place after it, or why there is none.
-#[derive(Clone, Copy)]
-pub enum TemporalRead {
-    Read { temporal: Temporal, next: usize },
-    Refused(Refusal),
-}
-
-// The temporal at `at`; place is what a refusal tells.
-pub fn read_temporal(storage: Storage, s: &[u8], at: usize, place: usize) -> TemporalRead
-    ensures { temporal_told result ≡ read_temporal storage place s.now at }
+// The temporal at `at`, and the place after it; place is what a refusal tells.
+pub fn read_temporal(
+    storage: Storage,
+    s: &[u8],
+    at: usize,
+    place: usize,
+) -> Result<(Temporal, usize), Refusal>
+    ensures { result ≡ read_temporal storage place s.now at }
 {
     let size = temporal_size(storage);
     if !wire::has_room(s.len(), at, size) {
-        return TemporalRead::Refused(refuse(IMAGE_SHORT, place));
+        return Err(refuse(IMAGE_SHORT, place));
     }
     let whole = whole_at(storage, s, at);
     let fraction = fraction_at(storage, s, at);
     let next = at + size;
     match judge(storage, whole, fraction) {
-        Ranged::In(temporal) => TemporalRead::Read { temporal, next },
-        Ranged::Out(part) => TemporalRead::Refused(refuse_part(place, part)),
+        Ranged::In(temporal) => Ok((temporal, next)),
+        Ranged::Out(part) => Err(refuse_part(place, part)),
     }
 }
 

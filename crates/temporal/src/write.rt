@@ -1,7 +1,7 @@
 // A temporal written: what its column can hold, in its stored form, all of it or nothing.
 ghost use Rattle.std.specs.Prelude.{◌≡◌, true, ◌++◌, ◌+◌, ◌*◌, ◌/◌, ◌^◌, ◌≤◌, ◌<◌};
 ghost use Rattle.wire.specs.Number.{be_bytes};
-ghost use Rattle.wire.specs.Stored.{store, answer_of, left_of, written_told};
+ghost use Rattle.wire.specs.Stored.{store, answer_of, left_of};
 ghost use Rattle.temporal.specs.Fraction.{unit_of};
 ghost use Rattle.temporal.specs.Storage.{whole_of, units_of};
 ghost use Rattle.temporal.specs.Times.{time_number, time2_whole, time2_fraction};
@@ -16,7 +16,7 @@ use crate::parts::{Date, Datetime, Temporal, Time};
 use crate::sort::{date_in, datetime_in, seconds_in, time_in};
 use crate::storage::{Storage, fraction_size, is_big, whole_bytes};
 use wire::refusal::{NO_ROOM, NOT_TAKEN};
-use wire::{Written, refuse};
+use wire::{Refusal, refuse};
 
 // Writes the temporal from at on; place is what a refusal tells of one that the column cannot hold.
 pub fn write_temporal(
@@ -25,12 +25,12 @@ pub fn write_temporal(
     buf: &mut [u8],
     at: usize,
     place: usize,
-) -> Written
-    ensures result_value { written_told result ≡ answer_of (write_temporal storage place temporal buf.old at) }
+) -> Result<usize, Refusal>
+    ensures result_value { result ≡ answer_of (write_temporal storage place temporal buf.old at) }
     ensures buf_after { buf.new ≡ left_of (write_temporal storage place temporal buf.old at) buf.old }
 {
     if !in_domain(storage, temporal) {
-        return Written::Refused(refuse(NOT_TAKEN, place));
+        return Err(refuse(NOT_TAKEN, place));
     }
     let k = whole_bytes(storage);
     let whole = whole_of(storage, temporal);
@@ -43,17 +43,23 @@ pub fn write_temporal(
 }
 
 // Writes the k low bytes of a whole part and the w low bytes of a fraction behind them, all of them or none.
-fn write_two(k: usize, whole: u64, w: usize, units: u64, buf: &mut [u8], at: usize) -> Written
+fn write_two(
+    k: usize,
+    whole: u64,
+    w: usize,
+    units: u64,
+    buf: &mut [u8],
+    at: usize,
+) -> Result<usize, Refusal>
     requires { (k ≤ 8) × (w ≤ 3) }
-    ensures result_value { written_told result ≡ answer_of (store (be_bytes k whole ++ be_bytes w units) buf.old at) }
+    ensures result_value { result ≡ answer_of (store (be_bytes k whole ++ be_bytes w units) buf.old at) }
     ensures buf_after { buf.new ≡ left_of (store (be_bytes k whole ++ be_bytes w units) buf.old at) buf.old }
 {
     let size = k + w;
     if !wire::has_room(buf.len(), at, size) {
-        return Written::Refused(refuse(NO_ROOM, 0));
+        return Err(refuse(NO_ROOM, 0));
     }
-    wire::write_be(k, whole, buf, at);
-    let middle = at + k;
+    let middle = wire::write_be(k, whole, buf, at)?;
     wire::write_be(w, units, buf, middle)
 }
 
