@@ -6,8 +6,6 @@ use Rattle.wire.specs.Outcome.{Outcome, ok, refused, refuse, after, why, out_of}
 use Rattle.value.specs.declared.shape.Shape.{Shape}
 use Rattle.value.specs.declared.datum.Value.{Value}
 use Rattle.value.specs.declared.datum.Value.TheVariants.{Null, Int, Uint, Float, Double, Year, Bytes}
-use Rattle.value.specs.declared.reading.Read.{Read}
-use Rattle.value.specs.declared.reading.Read.TheVariants.{Got, Refused}
 use Rattle.value.specs.Columns.{is_taken, refusal_of}
 use Rattle.value.specs.Data.{Datum, null, int, uint, float, double, year, temporal, bytes}
 use Rattle.value.specs.Shapes.{need, decode, fault}
@@ -59,11 +57,6 @@ datum_of s (Double n) = double n
 datum_of s (Year n) = year n
 datum_of s (Value.Temporal t) = temporal t
 datum_of s (Bytes p) = bytes (part_of s p)
-
--- what the answer of a reader says
-abbrev pub read_told : Read → Outcome (Value × ℕ)
-read_told (Got value next) = ok (value, next)
-read_told (Refused r) = refused r
 
 -- ---- why the bytes at the head of s are no value, and how it is told at a place p: they end early, or a part is out of range, the first
 -- of which is named

@@ -13,29 +13,33 @@ pub mod types;
 mod years;
 
 ghost use Rattle.std.specs.Prelude.{◌≡◌};
-ghost use Rattle.wire.specs.Stored.{answer_of, left_of, written_told, size_told};
+ghost use Rattle.wire.specs.Stored.{answer_of, left_of};
 ghost use Rattle.value.specs.Columns.{shape_of};
 ghost use Rattle.value.specs.Shapes.{most_of};
-ghost use Rattle.value.specs.Reading.{read_value, read_told};
+ghost use Rattle.value.specs.Reading.{read_value};
 ghost use Rattle.value.specs.Storing.{write_value, size_of};
 
 pub use classes::{Dialect, has_charset, has_sign_bit, is_character, is_enum_or_set};
 pub use column::{Column, declared_length, is_accepted, shape_of};
 pub use datum::Value;
 pub use op::{op_of, read_op, write_op};
-pub use reading::Read;
 use reading::read_shape;
 pub use shape::Shape;
 use shape::most_of;
 use storing::{size_shape, write_shape};
 pub use types::{Family, family_of, is_known, is_numeric, metadata_bytes, real_type};
-use wire::{Size, Written};
+use wire::Refusal;
 
 // ---- a value of a column at a place; `place` is what a refusal tells
 
 // The value that stands at `at` of s.
-pub fn read_value(column: Column, s: &[u8], at: usize, place: usize) -> Read
-    ensures { read_told result ≡ read_value (shape_of column) place s.now at }
+pub fn read_value(
+    column: Column,
+    s: &[u8],
+    at: usize,
+    place: usize,
+) -> Result<(Value, usize), Refusal>
+    ensures { result ≡ read_value (shape_of column) place s.now at }
 {
     read_shape(shape_of(column), s, at, place)
 }
@@ -48,8 +52,8 @@ pub fn write_value(
     buf: &mut [u8],
     at: usize,
     place: usize,
-) -> Written
-    ensures result_value { written_told result ≡ answer_of (write_value (shape_of column) place lent.now value buf.old at) }
+) -> Result<usize, Refusal>
+    ensures result_value { result ≡ answer_of (write_value (shape_of column) place lent.now value buf.old at) }
     ensures buf_after { buf.new
         ≡ left_of (write_value (shape_of column) place lent.now value buf.old at) buf.old }
 {
@@ -57,8 +61,8 @@ pub fn write_value(
 }
 
 // How many bytes a value takes.
-pub fn value_size(column: Column, value: Value, lent: &[u8], place: usize) -> Size
-    ensures { size_told result ≡ size_of (shape_of column) place lent.now value }
+pub fn value_size(column: Column, value: Value, lent: &[u8], place: usize) -> Result<usize, Refusal>
+    ensures { result ≡ size_of (shape_of column) place lent.now value }
 {
     size_shape(shape_of(column), value, lent, place)
 }
@@ -72,22 +76,27 @@ pub fn most_size(column: Column) -> u64
 
 // ---- a lone value: at the start of what is lent, and every place is 0
 
-pub fn read_lone(column: Column, s: &[u8]) -> Read
-    ensures { read_told result ≡ read_value (shape_of column) 0 s.now 0 }
+pub fn read_lone(column: Column, s: &[u8]) -> Result<(Value, usize), Refusal>
+    ensures { result ≡ read_value (shape_of column) 0 s.now 0 }
 {
     read_value(column, s, 0, 0)
 }
 
-pub fn write_lone(column: Column, value: Value, lent: &[u8], buf: &mut [u8]) -> Written
-    ensures result_value { written_told result ≡ answer_of (write_value (shape_of column) 0 lent.now value buf.old 0) }
+pub fn write_lone(
+    column: Column,
+    value: Value,
+    lent: &[u8],
+    buf: &mut [u8],
+) -> Result<usize, Refusal>
+    ensures result_value { result ≡ answer_of (write_value (shape_of column) 0 lent.now value buf.old 0) }
     ensures buf_after { buf.new
         ≡ left_of (write_value (shape_of column) 0 lent.now value buf.old 0) buf.old }
 {
     write_value(column, value, lent, buf, 0, 0)
 }
 
-pub fn lone_size(column: Column, value: Value, lent: &[u8]) -> Size
-    ensures { size_told result ≡ size_of (shape_of column) 0 lent.now value }
+pub fn lone_size(column: Column, value: Value, lent: &[u8]) -> Result<usize, Refusal>
+    ensures { result ≡ size_of (shape_of column) 0 lent.now value }
 {
     value_size(column, value, lent, 0)
 }

@@ -2,19 +2,19 @@
 // value; here they are called with constant widths, so that the compiler makes plain loads of them.
 ghost use Rattle.std.specs.Prelude.{◌≡◌, ◌+◌, ◌≤◌};
 ghost use Rattle.value.specs.Ops.{shape_for, op_of, storage_op, within};
-ghost use Rattle.wire.specs.Stored.{answer_of, left_of, written_told};
-ghost use Rattle.value.specs.Reading.{read_value, read_told};
+ghost use Rattle.wire.specs.Stored.{answer_of, left_of};
+ghost use Rattle.value.specs.Reading.{read_value};
 ghost use Rattle.value.specs.Storing.{write_value};
 
 use crate::datum::Value;
 use crate::reading::{
-    Read, read_counted, read_double, read_float, read_shape, read_signed, read_timed,
-    read_unsigned, read_year,
+    read_counted, read_double, read_float, read_shape, read_signed, read_timed, read_unsigned,
+    read_year,
 };
 use crate::shape::Shape;
 use crate::storing::write_shape;
 use temporal::Storage;
-use wire::Written;
+use wire::Refusal;
 use wire::refusal::BAD_RECORD;
 
 // The op of k, counted from base on, if k is no more than most; else 0, which is no shape's.
@@ -131,8 +131,8 @@ fn shape_for(op: u8) -> Shape
 }
 
 // The value of an op that stands at `at` of s. Shapes of integers, floats and temporals have an arm each; all others go by their shape.
-pub fn read_op(op: u8, s: &[u8], at: usize, place: usize) -> Read
-    ensures { read_told result ≡ read_value (shape_for op) place s.now at }
+pub fn read_op(op: u8, s: &[u8], at: usize, place: usize) -> Result<(Value, usize), Refusal>
+    ensures { result ≡ read_value (shape_for op) place s.now at }
 {
     match op {
         2 => read_unsigned(1, s, at, place),
@@ -167,8 +167,8 @@ pub fn write_op(
     buf: &mut [u8],
     at: usize,
     place: usize,
-) -> Written
-    ensures result_value { written_told result ≡ answer_of (write_value (shape_for op) place lent.now value buf.old at) }
+) -> Result<usize, Refusal>
+    ensures result_value { result ≡ answer_of (write_value (shape_for op) place lent.now value buf.old at) }
     ensures buf_after { buf.new
         ≡ left_of (write_value (shape_for op) place lent.now value buf.old at) buf.old }
 {

@@ -3,7 +3,7 @@ ghost use Rattle.std.specs.Prelude.{◌≡◌, true, ◌&&◌, [], ◌++◌, ◌
 ghost use Rattle.wire.specs.Number.{le_bytes};
 ghost use Rattle.wire.specs.Parts.{part_of};
 ghost use Rattle.wire.specs.Signed.{in_halves};
-ghost use Rattle.wire.specs.Stored.{store, answer_of, left_of, written_told, size_told};
+ghost use Rattle.wire.specs.Stored.{store, answer_of, left_of};
 ghost use Rattle.temporal.specs.Domains.{temporal_domain};
 ghost use Rattle.value.specs.Data.{tag, is_int, is_year, is_temporal, is_bytes, int_in, number_in, temporal_in};
 ghost use Rattle.value.specs.Years.{in_years};
@@ -20,7 +20,7 @@ use crate::shape::{Shape, is_taken, refusal_of, width_of};
 use crate::years::{byte_of_year, in_years};
 use temporal::Storage;
 use wire::refusal::{NO_ROOM, NOT_TAKEN};
-use wire::{Size, Written, top_of};
+use wire::{Refusal, top_of};
 
 // Whether a value is a number of a sort, from least to most.
 fn is_number(value: Value, sort: u8, least: u64, most: u64) -> bool
@@ -122,26 +122,31 @@ pub(crate) fn size_in(shape: Shape, value: Value, lent: &[u8]) -> usize
 }
 
 // Writes a length of k bytes, and then the bytes.
-fn write_counted(k: usize, bytes: &[u8], buf: &mut [u8], at: usize) -> Written
+fn write_counted(k: usize, bytes: &[u8], buf: &mut [u8], at: usize) -> Result<usize, Refusal>
     requires { k ≤ 4 }
-    ensures result_value { written_told result
+    ensures result_value { result
         ≡ answer_of (store (le_bytes k (length bytes.now) ++ bytes.now) buf.old at) }
     ensures buf_after { buf.new
         ≡ left_of (store (le_bytes k (length bytes.now) ++ bytes.now) buf.old at) buf.old }
 {
     let size = k + bytes.len();
-    if wire::has_room(buf.len(), at, size) {
-        wire::write_le(k, bytes.len() as u64, buf, at);
-        let behind = at + k;
-        return wire::write_bytes(bytes, buf, behind);
+    if !wire::has_room(buf.len(), at, size) {
+        return Err(wire::refuse(NO_ROOM, 0));
     }
-    Written::Refused(wire::refuse(NO_ROOM, 0))
+    let behind = wire::write_le(k, bytes.len() as u64, buf, at)?;
+    wire::write_bytes(bytes, buf, behind)
 }
 
 // Writes the bytes of a value behind a length of k bytes.
-fn write_part(k: usize, value: Value, lent: &[u8], buf: &mut [u8], at: usize) -> Written
+fn write_part(
+    k: usize,
+    value: Value,
+    lent: &[u8],
+    buf: &mut [u8],
+    at: usize,
+) -> Result<usize, Refusal>
     requires { (k ≤ 4) × (is_lent lent.now value ≡ true) }
-    ensures result_value { written_told result
+    ensures result_value { result
         ≡ answer_of (store (le_bytes k (bytes_at value).len ++ part_of lent.now (bytes_at value)) buf.old at) }
     ensures buf_after { buf.new
         ≡ left_of (store (le_bytes k (bytes_at value).len ++ part_of lent.now (bytes_at value)) buf.old at)
@@ -157,9 +162,9 @@ pub(crate) fn store_shape(
     lent: &[u8],
     buf: &mut [u8],
     at: usize,
-) -> Written
+) -> Result<usize, Refusal>
     requires { Sized shape × (is_in shape lent.now value ≡ true) }
-    ensures result_value { written_told result ≡ answer_of (store (bytes_of shape (datum_of lent.now value)) buf.old at) }
+    ensures result_value { result ≡ answer_of (store (bytes_of shape (datum_of lent.now value)) buf.old at) }
     ensures buf_after { buf.new
         ≡ left_of (store (bytes_of shape (datum_of lent.now value)) buf.old at) buf.old }
 {
@@ -173,7 +178,7 @@ pub(crate) fn store_shape(
         Shape::Fixed(_) => write_part(0, value, lent, buf, at),
         Shape::Counted(k) => write_part(k, value, lent, buf, at),
         // Not reached: such a shape takes no value.
-        Shape::NotTaken(n) => Written::Refused(wire::refuse(n, 0)),
+        Shape::NotTaken(n) => Err(wire::refuse(n, 0)),
     }
 }
 
@@ -185,31 +190,36 @@ pub(crate) fn write_shape(
     buf: &mut [u8],
     at: usize,
     place: usize,
-) -> Written
+) -> Result<usize, Refusal>
     requires { Sized shape }
-    ensures result_value { written_told result ≡ answer_of (write_value shape place lent.now value buf.old at) }
+    ensures result_value { result ≡ answer_of (write_value shape place lent.now value buf.old at) }
     ensures buf_after { buf.new
         ≡ left_of (write_value shape place lent.now value buf.old at) buf.old }
 {
     if !is_taken(shape) {
-        return Written::Refused(wire::refuse(refusal_of(shape), place));
+        return Err(wire::refuse(refusal_of(shape), place));
     }
     if !is_in(shape, value, lent) {
-        return Written::Refused(wire::refuse(NOT_TAKEN, place));
+        return Err(wire::refuse(NOT_TAKEN, place));
     }
     store_shape(shape, value, lent, buf, at)
 }
 
 // How many bytes a value takes in a column of the shape, judged as by the writer.
-pub(crate) fn size_shape(shape: Shape, value: Value, lent: &[u8], place: usize) -> Size
+pub(crate) fn size_shape(
+    shape: Shape,
+    value: Value,
+    lent: &[u8],
+    place: usize,
+) -> Result<usize, Refusal>
     requires { Sized shape }
-    ensures { size_told result ≡ size_of shape place lent.now value }
+    ensures { result ≡ size_of shape place lent.now value }
 {
     if !is_taken(shape) {
-        return Size::Refused(wire::refuse(refusal_of(shape), place));
+        return Err(wire::refuse(refusal_of(shape), place));
     }
     if !is_in(shape, value, lent) {
-        return Size::Refused(wire::refuse(NOT_TAKEN, place));
+        return Err(wire::refuse(NOT_TAKEN, place));
     }
-    Size::Takes(size_in(shape, value, lent))
+    Ok(size_in(shape, value, lent))
 }

@@ -7,14 +7,15 @@ use Rattle.wire.specs.Number.{le_value}
 use Rattle.value.specs.declared.shape.Shape.TheVariants.{Counted}
 use Rattle.value.specs.Columns.{is_taken}
 use Rattle.value.specs.Shapes.{need, decode, fault}
-use Rattle.value.specs.Reading.{read_told, placed}
+use Rattle.wire.specs.Outcome.{refused}
+use Rattle.value.specs.Reading.{placed}
 use Rattle.value.proofs.Readers.{got, ends_early_lem, narrow, behind_length}
 use Rattle.value.proofs.reading.read_counted.Goals as goal
 
 pub returns-then-rest-k : goal.returns-then-rest-k
 unfolding is_taken need
 returns-then-rest-k c = let a = c.args in
-    ap read_told c.short.ensures
+    ap refused c.refuse.ensures
     ∙ ends_early_lem (Counted a.k) a.place a.s.now a.at refl (omega (arith, c.rest.ensures))
 
 pub returns-then-rest-len : goal.returns-then-rest-len
@@ -23,7 +24,7 @@ returns-then-rest-len c = let a = c.args in
     let e =
     c.read_le-len.ensures.value
     ∙ ap (λ (j : ℕ). le_value (take j (drop a.at a.s.now))) (narrow a.k (omega arith)) in
-    ap read_told c.short-then-rest-len.ensures
+    ap refused c.refuse-then-rest-len.ensures
     ∙ ends_early_lem (Counted a.k) a.place a.s.now a.at refl
     (omega (arith, c.rest.ensures, c.rest-2.ensures, e))
 

@@ -6,14 +6,15 @@ use lib.ListN.{length}
 use Rattle.value.specs.declared.shape.Shape.TheVariants.{Fixed}
 use Rattle.value.specs.Columns.{is_taken}
 use Rattle.value.specs.Shapes.{need, decode, fault}
-use Rattle.value.specs.Reading.{read_told, placed}
+use Rattle.wire.specs.Outcome.{refused}
+use Rattle.value.specs.Reading.{placed}
 use Rattle.value.proofs.Readers.{got, ends_early_lem, part_length}
 use Rattle.value.proofs.reading.read_fixed.Goals as goal
 
 pub returns-then-rest-n : goal.returns-then-rest-n
 unfolding is_taken need
 returns-then-rest-n c = let a = c.args in
-    ap read_told c.short.ensures
+    ap refused c.refuse.ensures
     ∙ ends_early_lem (Fixed a.n) a.place a.s.now a.at refl (omega (arith, c.rest.ensures))
 
 pub returns : goal.returns

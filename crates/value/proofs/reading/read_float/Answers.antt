@@ -5,14 +5,15 @@ use Rattle.value.specs.declared.shape.Shape.TheVariants.{FloatBits}
 use Rattle.value.specs.declared.datum.Value.TheVariants.{Float}
 use Rattle.value.specs.Columns.{is_taken}
 use Rattle.value.specs.Shapes.{need, decode, fault}
-use Rattle.value.specs.Reading.{read_told, placed}
+use Rattle.wire.specs.Outcome.{refused}
+use Rattle.value.specs.Reading.{placed}
 use Rattle.value.proofs.Readers.{got, ends_early_lem}
 use Rattle.value.proofs.reading.read_float.Goals as goal
 
 pub returns-then-rest-lt4 : goal.returns-then-rest-lt4
 unfolding is_taken need
 returns-then-rest-lt4 c = let a = c.args in
-    ap read_told c.short.ensures
+    ap refused c.refuse.ensures
     ∙ ends_early_lem FloatBits a.place a.s.now a.at refl (omega (arith, c.rest.ensures))
 
 pub returns : goal.returns

@@ -5,7 +5,8 @@ use native.Mathlib.Omega.{arith}
 use lib.ListN.{take, drop}
 use Rattle.value.specs.declared.shape.Shape.TheVariants.{Signed}
 use Rattle.value.specs.Shapes.{need, decode, fault}
-use Rattle.value.specs.Reading.{read_told, placed}
+use Rattle.wire.specs.Outcome.{refused}
+use Rattle.value.specs.Reading.{placed}
 use mir.Syntax.{w64}
 use mir.ValLaws.{to_z-of_z}
 use Rattle.wire.specs.Number.{le_value}
@@ -18,7 +19,7 @@ use Rattle.value.proofs.reading.read_signed.Goals as goal
 pub returns-then-rest-k : goal.returns-then-rest-k
 unfolding is_taken need
 returns-then-rest-k c = let a = c.args in
-    ap read_told c.short.ensures
+    ap refused c.refuse.ensures
     ∙ ends_early_lem (Signed a.k) a.place a.s.now a.at refl (omega (arith, c.rest.ensures))
 
 pub returns : goal.returns

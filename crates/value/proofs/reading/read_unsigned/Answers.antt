@@ -8,14 +8,15 @@ use Rattle.value.specs.declared.shape.Shape.TheVariants.{Unsigned}
 use Rattle.value.specs.declared.datum.Value.TheVariants.{Uint}
 use Rattle.value.specs.Columns.{is_taken}
 use Rattle.value.specs.Shapes.{need, decode, fault}
-use Rattle.value.specs.Reading.{read_told, placed}
+use Rattle.wire.specs.Outcome.{refused}
+use Rattle.value.specs.Reading.{placed}
 use Rattle.value.proofs.Readers.{got, ends_early_lem, narrow}
 use Rattle.value.proofs.reading.read_unsigned.Goals as goal
 
 pub returns-then-rest-k : goal.returns-then-rest-k
 unfolding is_taken need
 returns-then-rest-k c = let a = c.args in
-    ap read_told c.short.ensures
+    ap refused c.refuse.ensures
     ∙ ends_early_lem (Unsigned a.k) a.place a.s.now a.at refl (omega (arith, c.rest.ensures))
 
 pub returns : goal.returns

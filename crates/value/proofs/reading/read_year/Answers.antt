@@ -6,14 +6,15 @@ use Rattle.value.specs.declared.datum.Value.TheVariants.{Year}
 use Rattle.value.specs.Columns.{is_taken}
 use Rattle.value.specs.Years.{year_of}
 use Rattle.value.specs.Shapes.{need, decode, fault}
-use Rattle.value.specs.Reading.{read_told, placed}
+use Rattle.wire.specs.Outcome.{refused}
+use Rattle.value.specs.Reading.{placed}
 use Rattle.value.proofs.Readers.{got, ends_early_lem}
 use Rattle.value.proofs.reading.read_year.Goals as goal
 
 pub returns-then-rest-lt1 : goal.returns-then-rest-lt1
 unfolding is_taken need
 returns-then-rest-lt1 c = let a = c.args in
-    ap read_told c.short.ensures
+    ap refused c.refuse.ensures
     ∙ ends_early_lem YearByte a.place a.s.now a.at refl (omega (arith, c.rest.ensures))
 
 pub year_of-requires : goal.year_of-requires
