@@ -1,6 +1,6 @@
 -- A value in numbers: its sort and the parts that the sort has, and the value that a sort and parts make. Assumes nothing.
 use Rattle.std.specs.Prelude.{ℕ, zero, suc, ◌-◌, ◌^◌, Bool, true, false, cond, ◌&&◌, List, [], ◌∷◌, get_or, leb, eqb}
-use Rattle.wire.specs.Outcome.{Outcome, ok, refused, refuse}
+use Rattle.wire.specs.Outcome.{Outcome, ok, refuse}
 use Rattle.wire.specs.Parts.{part}
 use Rattle.wire.specs.Signed.{signed_of, twos_of, in_halves}
 use Rattle.temporal.specs.declared.parts.Seconds.{Seconds}
@@ -12,8 +12,6 @@ use Rattle.value.specs.declared.datum.Value.{Value}
 use Rattle.value.specs.declared.datum.Value.TheVariants.{Null, Int, Uint, Float, Double, Year, Bytes}
 use Rattle.value.specs.Data.{int_in}
 use Rattle.value.specs.Reading.{datum_of}
-use Rattle.value_parts.specs.declared.made.Made.{Made}
-use Rattle.value_parts.specs.declared.made.Made.TheVariants.{Value as Value₁, Refused}
 
 -- ---- a value's sort and parts
 unfoldable pub sort_of : Value → ℕ
@@ -126,11 +124,6 @@ made sort ps =
 unfoldable pub value_of : ℕ → List ℕ → Outcome Value
 unfolding makes_value made
 value_of sort ps = cond (makes_value sort ps) (ok (made sort ps)) (refuse 13 0)
-
--- what the answer says
-abbrev pub made_told : Made → Outcome Value
-made_told (Value₁ v) = ok v
-made_told (Refused r) = refused r
 
 -- ---- a value that the machine can hold: each part within its bits. A signed integer is judged as it is, as two's complement would cut it;
 -- of every other value `int_in` is 0

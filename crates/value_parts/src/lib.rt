@@ -6,6 +6,6 @@ mod made;
 mod parts;
 pub mod sort;
 
-pub use made::{Made, value_of};
+pub use made::value_of;
 pub use parts::parts_of;
 pub use sort::sort_of;

@@ -1,7 +1,7 @@
 // The value that a sort and parts make.
 ghost use Rattle.std.specs.Prelude.{◌≡◌, true, ◌≤◌, get_or};
 ghost use Rattle.value_parts.specs.Parts.{top_of_bits, tops_of, fit, makes_value, made_seconds, made_date, made_datetime, made_time, made};
-ghost use Rattle.value_parts.specs.Parts.{value_of, made_told};
+ghost use Rattle.value_parts.specs.Parts.{value_of};
 
 use crate::sort::{BYTES, DATE, DATETIME, DOUBLE, FLOAT, INT, NULL, SECONDS, TIME, UINT, YEAR};
 use temporal::{Date, Datetime, Seconds, Temporal, Time};
@@ -19,13 +19,6 @@ const TOP_16: u64 = 65535;
 const TOP_32: u64 = 4294967295;
 
 const TOP_64: u64 = 18446744073709551615;
-
-// A value that was made of numbers, or why there is none.
-#[derive(Clone, Copy)]
-pub enum Made {
-    Value(Value),
-    Refused(Refusal),
-}
 
 // Whether there is a part for each of tops, and none greater.
 fn fits(parts: &[u64], tops: &[u64]) -> bool
@@ -169,11 +162,11 @@ fn make_value(sort: u64, parts: &[u64]) -> Value
 }
 
 // The value that a sort and parts make; what stands behind the sort's own parts is not looked at.
-pub fn value_of(sort: u64, parts: &[u64]) -> Made
-    ensures { made_told result ≡ value_of sort parts.now }
+pub fn value_of(sort: u64, parts: &[u64]) -> Result<Value, Refusal>
+    ensures { result ≡ value_of sort parts.now }
 {
     if makes_value(sort, parts) {
-        return Made::Value(make_value(sort, parts));
+        return Ok(make_value(sort, parts));
     }
-    Made::Refused(wire::refuse(NOT_TAKEN, 0))
+    Err(wire::refuse(NOT_TAKEN, 0))
 }
