@@ -63,16 +63,6 @@ lent_ends s p = go (leb (p.start + p.len) (length s)) refl
     go false e = inl refl
 
 -- ---- the number of k bytes at a place
--- as the code reads it, in a width w that it found
-pub fixed_read : (k w : ℕ) (s : List ℕ) (at v next : ℕ) → w ≡ k → within s at w at ≡ ok next → v ≡ le_value (take w (drop at s))
-    → ok (v, next) ≡ read_fixed k s at
-unfolding read_fixed
-fixed_read k w s at v next e q p = rw (← e, q, p)
-
-pub fixed_not : (k w : ℕ) (s : List ℕ) (at : ℕ) (r : Refusal) → w ≡ k → within s at w at ≡ refused r → refused r ≡ read_fixed k s at
-unfolding read_fixed
-fixed_not k w s at r e q = rw (← e, q)
-
 -- where all of them are there
 pub fixed_fits : (k : ℕ) (s : List ℕ) (at : ℕ) → at + k ≤ length s → read_fixed k s at ≡ ok (le_value (take k (drop at s)), at + k)
 unfolding read_fixed

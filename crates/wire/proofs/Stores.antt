@@ -1,6 +1,6 @@
 -- Buffers with bytes stored in them. Assumes nothing.
 use Prim.Native.Nat.{ℕ, ◌+◌, ◌≤◌, ◌<◌, ◌^◌}
-use mathlib.Core.Path.{◌≡◌, refl, sym, ap, ◌∙◌, subst}
+use mathlib.Core.Path.{◌≡◌, refl, sym, ap, ◌∙◌}
 use mathlib.Core.List.{List, [], ◌∷◌, ◌++◌, append_assoc}
 use mathlib.Core.Bool.{Bool, true, false}
 use native.Mathlib.Nat.{add-zero, add_assoc}
@@ -10,6 +10,7 @@ use borrow.Author.Tests.{le-leb, lt-leb, leb-true, leb-false}
 use lib.ListN.{length, take, drop, set, length-append, length-take, length-drop, take-append-drop}
 use lib.Seq.{length-take-le, take_at, drop_at, drop-append-add, drop-drop, set_split, take-length, paste}
 use lib.Dec.{leb}
+use borrow.Rule.Slice.PartMut.{put_mid}
 use Rattle.wire.specs.declared.refusal.Refusal.{Refusal}
 use Rattle.wire.specs.Outcome.{Outcome, ok, refused, refuse, why}
 use Rattle.wire.specs.Stored.{stored, store, answer_of, left_of}
@@ -41,6 +42,11 @@ stored_one d at x h = set_split d at x h ∙ ap (λ (k : ℕ). take at d ++ (x �
 pub paste_stored : (d : List ℕ) (at : ℕ) (w : List ℕ) → paste d at w (length w) ≡ stored w d at
 unfolding stored
 paste_stored d at w = rw take-length (append_assoc (take at d) w (drop (at + length w) d))
+
+-- a part that was written over
+pub part_stored : (d bs x : List ℕ) (at k : ℕ) → x ≡ bs → k ≡ length bs → put_mid at k d x ≡ stored bs d at
+unfolding stored
+part_stored d bs x at k e h = rw (e, h, drop-drop (length bs) at d)
 
 -- a store at the end of a store is one store
 pub stored_stored : (d : List ℕ) (at : ℕ) (v w : List ℕ) → at + length v ≤ length d
@@ -124,20 +130,6 @@ room b at n len e t = leb-true (at + n) len (sym e ∙ t)
 -- and what its failure says
 pub no_room : (b : Bool) (at n len : ℕ) → b ≡ leb (at + n) len → b ≡ false → len < at + n
 no_room b at n len e t = leb-false (at + n) len (sym e ∙ t)
-
--- both for a writer of a number, in bytes of either order: w is the width that its code found, and k that of its contract
-pub wrote_number : (bytes : ℕ → ℕ → List ℕ) → ((k v : ℕ) → length (bytes k v) ≡ k) → (d x : List ℕ) (at w k v : ℕ) (t : Bool)
-    → w ≡ k → t ≡ leb (at + w) (length d) → t ≡ true → x ≡ stored (bytes w v) d at → Wrote d at (bytes k v) (ok (at + w)) x
-wrote_number bytes size d x at w k v t e f h q =
-    subst (λ (k : ℕ). Wrote d at (bytes k v) (ok (at + w)) x) e
-    (wrote d (bytes w v) x at w (at + w) (size w v) (room t at w (length d) f h) refl q)
-
-pub not_wrote_number : (bytes : ℕ → ℕ → List ℕ) → ((k v : ℕ) → length (bytes k v) ≡ k)
-    → (d : List ℕ) (at w k v : ℕ) (t : Bool) (r : Refusal)
-    → w ≡ k → t ≡ leb (at + w) (length d) → t ≡ false → r ≡ why 8 0 → Wrote d at (bytes k v) (refused r) d
-not_wrote_number bytes size d at w k v t r e f h q =
-    subst (λ (k : ℕ). Wrote d at (bytes k v) (refused r) d) e
-    (not_wrote d (bytes w v) at w r (size w v) (no_room t at w (length d) f h) q)
 
 -- a write of a, m bytes long, in which there is room for b too, and then a write of b behind it: one write of both
 pub wrote_two : (d a b x₁ x : List ℕ) (at m : ℕ) (r : Outcome ℕ) → length a ≡ m → at + (m + length b) ≤ length d

@@ -2,7 +2,7 @@
 -- 255 are refused. Longer forms than needed are read; the shortest is written. Beside them the integers of a width, which are read alike.
 -- Assumes nothing.
 use Rattle.std.specs.Prelude.{ℕ, ◌+◌, List, [], ◌∷◌, cond, length, get_or, take, drop, ltb, leb, eqb}
-use Rattle.wire.specs.Outcome.{Outcome, ok, refused, refuse, after}
+use Rattle.wire.specs.Outcome.{Outcome, ok, refuse, after}
 use Rattle.wire.specs.Number.{le_value, le_bytes}
 use Rattle.wire.specs.Parts.{within}
 

@@ -1,6 +1,6 @@
 -- Parts of the lent bytes. Assumes nothing.
 use Rattle.std.specs.Prelude.{ℕ, ◌+◌, ◌≤◌, ◌≡◌, List, [], cond, length, take, drop, leb}
-use Rattle.wire.specs.Outcome.{Outcome, ok, refused, refuse}
+use Rattle.wire.specs.Outcome.{Outcome, ok, refuse}
 use Rattle.wire.specs.declared.part.Part.{Part}
 
 abbrev pub part : ℕ → ℕ → Part

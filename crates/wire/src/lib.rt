@@ -9,7 +9,6 @@ mod part;
 pub mod refusal;
 mod signed;
 mod store;
-mod straight;
 
 pub use bits::{bit_lsb0, bit_msb0, bytes_for};
 pub use fixed::{read_be, read_le, wide, write_be, write_le};

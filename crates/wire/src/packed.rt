@@ -5,19 +5,18 @@ ghost use Rattle.wire.specs.Number.{le_bytes};
 ghost use Rattle.wire.specs.Packed.{read_fixed, read_packed, long_form, packed_bytes};
 ghost use Rattle.wire.specs.Stored.{store, answer_of, left_of};
 
-use crate::fixed::{le, least, put_le, wide};
+use crate::fixed::{le, read_le, wide};
 use crate::part::within;
-use crate::refusal::{NO_ROOM, NOT_PACKED, Refusal, SHORT, refuse};
-use crate::store::has_room;
+use crate::refusal::{NOT_PACKED, Refusal, SHORT, refuse};
+use crate::store::write_bytes;
 
 // The number of the k bytes at `at`, the least significant first, and the place after them: of all of them, or of none. A width over 8 is taken as 8.
 #[tactic(auto, unfolding(crate::specs::Packed::read_fixed))]
 pub fn read_fixed(s: &[u8], at: usize, k: usize) -> Result<(u64, usize), Refusal>
     ensures { result ≡ read_fixed (min k 8) s.now at }
 {
-    let w = least(k, 8);
-    let next = within(s, at, w, at)?;
-    Ok((le(s, at, w), next))
+    let next = within(s, at, k.min(8), at)?;
+    Ok((read_le(s, at, k), next))
 }
 
 // The packed integer at `at`, and the place after it.
@@ -55,7 +54,7 @@ fn read_long(s: &[u8], at: usize, k: usize) -> Result<(u64, usize), Refusal>
         return Err(refuse(SHORT, at));
     }
     let next = body + k;
-    Ok((le(s, body, k), next))
+    Ok((le(&s[body..next]), next))
 }
 
 // How many bytes the shortest form of v takes.
@@ -97,12 +96,8 @@ fn write_form(first: u8, k: usize, v: u64, buf: &mut [u8], at: usize) -> Result<
     ensures result_value { result ≡ answer_of (store (first ∷ le_bytes k v) buf.old at) }
     ensures buf_after { buf.new ≡ left_of (store (first ∷ le_bytes k v) buf.old at) buf.old }
 {
-    if has_room(buf.len(), at, k + 1) {
-        buf[at] = first;
-        let body = at + 1;
-        put_le(k, v, buf, body);
-        let next = body + k;
-        return Ok(next);
-    }
-    Err(refuse(NO_ROOM, 0))
+    let mut form = [0u8; 9];
+    form[0] = first;
+    form[1..].copy_from_slice(&v.to_le_bytes());
+    write_bytes(&form[..k + 1], buf, at)
 }

@@ -3,8 +3,6 @@ ghost use Rattle.std.specs.Prelude.{◌≡◌, ◌+◌, ◌-◌, ◌^◌, min};
 ghost use Rattle.wire.specs.Signed.{signed_of, twos_of, in_halves};
 ghost use Rattle.wire.specs.Inner.Signed.{magnitude_of};
 
-use crate::fixed::least;
-
 // The greatest number of 0 to 8 bytes.
 const TOPS: [u64; 9] = [
     0,
@@ -22,17 +20,7 @@ const TOPS: [u64; 9] = [
 pub fn top_of(k: usize) -> u64
     ensures { result + 1 ≡ 256 ^ min k 8 }
 {
-    TOPS[least(k, 8)]
-}
-
-// a less b, and 0 where b is more.
-fn less(a: u64, b: u64) -> u64
-    ensures { result ≡ a - b }
-{
-    if a < b {
-        return 0;
-    }
-    a - b
+    TOPS[k.min(8)]
 }
 
 // The signed number that is stored as x in k bytes; one past the greatest is read as the greatest, which stands for -1.
@@ -43,7 +31,7 @@ pub fn signed_of(k: usize, x: u64) -> i64
     if x < top / 2 + top % 2 {
         return x as i64;
     }
-    let n = less(top, x);
+    let n = top.saturating_sub(x);
     -1 - (n as i64)
 }
 
@@ -72,7 +60,7 @@ pub fn twos_of(k: usize, z: i64) -> u64
     ensures { result ≡ twos_of (256 ^ min k 8) z }
 {
     if z < 0 {
-        return less(top_of(k), magnitude(z));
+        return top_of(k).saturating_sub(magnitude(z));
     }
     magnitude(z)
 }

@@ -1,6 +1,6 @@
 // Bytes written into a lent buffer: all of them, or none.
-ghost use Rattle.std.specs.Prelude.{◌≡◌, ◌+◌, ◌≤◌, length, leb};
-ghost use Rattle.wire.specs.Stored.{store, stored, answer_of, left_of};
+ghost use Rattle.std.specs.Prelude.{◌≡◌, ◌+◌, leb};
+ghost use Rattle.wire.specs.Stored.{store, answer_of, left_of};
 
 use crate::refusal::{NO_ROOM, Refusal, refuse};
 
@@ -19,22 +19,10 @@ pub fn write_bytes(bytes: &[u8], buf: &mut [u8], at: usize) -> Result<usize, Ref
     ensures result_value { result ≡ answer_of (store bytes.now buf.old at) }
     ensures buf_after { buf.new ≡ left_of (store bytes.now buf.old at) buf.old }
 {
-    if has_room(buf.len(), at, bytes.len()) {
-        put_bytes(bytes, buf, at);
-        let next = at + bytes.len();
-        return Ok(next);
+    if !has_room(buf.len(), at, bytes.len()) {
+        return Err(refuse(NO_ROOM, 0));
     }
-    Err(refuse(NO_ROOM, 0))
-}
-
-// The same as write_bytes, for those who know that there is room.
-fn put_bytes(bytes: &[u8], buf: &mut [u8], at: usize)
-    requires { at + length bytes.now ≤ length buf.old }
-    ensures { buf.new ≡ stored bytes.now buf.old at }
-{
-    let mut i: usize = 0;
-    while i < bytes.len() {
-        buf[at + i] = bytes[i];
-        i += 1;
-    }
+    let next = at + bytes.len();
+    buf[at..next].copy_from_slice(bytes);
+    Ok(next)
 }

@@ -1,25 +1,13 @@
 -- `wire::fixed::write_le` meets its contract. Assumes nothing.
-use native.Mathlib.Omega.{arith}
-use lib.ListN.{length}
+use Rattle.std.proofs.Common.{◌≡◌, ◌∙◌, ◌≤◌, ap, arith, take, min}
 use Rattle.wire.specs.Number.{le_bytes}
-use Rattle.wire.proofs.Bytes.{le_bytes_length}
-use Rattle.wire.proofs.Stores.{room, wrote_number, not_wrote_number}
+use Rattle.wire.proofs.Eight.{to_le_eight, le_bytes_take}
 use Rattle.wire.proofs.fixed.write_le.Goals as goal
-
-pub put_le-requires : goal.put_le-requires
-put_le-requires c = room _ _ _ _ c.has_room.ensures c.if-has_room.true
-
-pub overflow_add-next : goal.overflow_add-next
-overflow_add-next c =
-    let a = c.args in
-    omega (arith, room _ a.at c.least-w.result (length a.buf.now) c.has_room.ensures c.if-has_room.true)
-
-pub returns-then-has_room : goal.returns-then-has_room
-returns-then-has_room c =
-    let p = wrote_number le_bytes le_bytes_length _ _ _ _ _ _ _ c.least-w.ensures c.has_room.ensures c.if-has_room.true
-    c.put_le.ensures in record { result_value = p.0; buf_after = p.1 }
 
 pub returns : goal.returns
 returns c =
-    let p = not_wrote_number le_bytes le_bytes_length _ _ _ _ _ _ _ c.least-w.ensures c.has_room.ensures c.if-has_room.false
-    c.refuse.ensures in record { result_value = p.0; buf_after = p.1 }
+    let a = c.args in
+    let h : min a.k 8 ≤ 8 = omega arith in
+    let e : take (min a.k 8) c.to_le_bytes.result ≡ le_bytes (min a.k 8) a.v =
+    ap (take (min a.k 8)) (c.to_le_bytes.ensures ∙ to_le_eight a.v) ∙ le_bytes_take (min a.k 8) 8 a.v h in
+    rw (c.min.ensures, e) at c.write_bytes.ensures

@@ -1,7 +1,5 @@
 -- `wire::packed::read_long` meets its contract. Assumes nothing.
-use Prim.Native.Nat.{◌+◌, ◌≤◌, ◌<◌}
-use native.Mathlib.Omega.{arith}
-use lib.ListN.{length}
+use Rattle.std.proofs.Common.{◌≡◌, ◌+◌, ◌-◌, ◌≤◌, ◌<◌, length, arith}
 use borrow.Author.Tests.{le-leb, lt-leb}
 use Rattle.wire.specs.Packed.{long_form}
 use Rattle.wire.proofs.packed.read_long.Goals as goal
@@ -16,4 +14,5 @@ pub returns : goal.returns
 unfolding long_form
 returns c = let a = c.args in
     let h : a.at + 1 + a.k ≤ length a.s.now = omega arith in
-    rw (le-leb _ _ h, c.le.ensures.0)
+    let n : a.at + 1 + a.k - (a.at + 1) ≡ a.k = omega arith in
+    rw (le-leb _ _ h, c.le.ensures.0, n)

@@ -17,7 +17,7 @@ returns-then-x-top c =
     simp (lt-ltb a.x (2 ^ 63) (omega arith), lt-ltb a.x (m / 2) h)
 
 pub overflow_sub-result : goal.overflow_sub-result
-overflow_sub-result c = neg_fits c.less-n.result (omega (arith, c.less-n.ensures))
+overflow_sub-result c = neg_fits c.saturating_sub-n.result (omega (arith, c.saturating_sub-n.ensures))
 
 pub returns : goal.returns
 unfolding signed_of
@@ -25,5 +25,5 @@ returns c =
     let a = c.args in
     let m = 256 ^ min a.k 8 in
     let h : m / 2 ≤ a.x = omega (arith, c.top_of-top.ensures) in
-    let e : c.less-n.result ≡ m - 1 - a.x = omega (arith, c.top_of-top.ensures, c.less-n.ensures) in
-    neg_is c.less-n.result (omega (arith, c.less-n.ensures)) ∙ ap negsuc e ∙ simp (le-ltb a.x (m / 2) h)
+    let e : c.saturating_sub-n.result ≡ m - 1 - a.x = omega (arith, c.top_of-top.ensures, c.saturating_sub-n.ensures) in
+    neg_is c.saturating_sub-n.result (omega (arith, c.saturating_sub-n.ensures)) ∙ ap negsuc e ∙ simp (le-ltb a.x (m / 2) h)

@@ -6,4 +6,4 @@ use Rattle.wire.proofs.Signs.{top_is}
 use Rattle.wire.proofs.signed.top_of.Goals as goal
 
 pub returns : goal.returns
-returns c = top_is c.least.result (omega (arith, c.least.ensures)) ∙ ap (λ (k : ℕ). 256 ^ k) c.least.ensures
+returns c = top_is c.min.result (omega (arith, c.min.ensures)) ∙ ap (λ (k : ℕ). 256 ^ k) c.min.ensures

@@ -14,7 +14,7 @@ returns-then-z-lt0 c =
     let m = 256 ^ min a.k 8 in
     let w = turned a.z c.ranges.z c.if-z-lt0.true in
     let n = c.magnitude.ensures ∙ ap magnitude_of (to_z-of_z w64 a.z c.ranges.z) ∙ magnitude_neg _ _ w.1 in
-    let e : c.less.result ≡ m - 1 - w.0 = omega (arith, c.less.ensures, n, c.top_of.ensures) in
+    let e : c.saturating_sub.result ≡ m - 1 - w.0 = omega (arith, c.saturating_sub.ensures, n, c.top_of.ensures) in
     e ∙ sym (twos_neg m a.z w.0 w.1)
 
 pub returns : goal.returns

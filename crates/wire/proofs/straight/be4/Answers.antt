@@ -1,9 +1,0 @@
--- `wire::straight::be4` meets its contract. Assumes nothing.
-use native.Mathlib.Omega.{arith}
-use Rattle.wire.proofs.Inverse.{be_runs}
-use Rattle.wire.proofs.straight.be4.Goals as goal
-
-pub returns : goal.returns
-returns c = let a = c.args in
-    let l = be_runs a.s.now a.at 2 2 (omega arith) in
-    (omega (arith, l, c.be2.ensures.0, c.be2.ensures.1, c.be2-2.ensures.0, c.be2-2.ensures.1), omega (arith, c.be2.ensures.1, c.be2-2.ensures.1))
