@@ -14,15 +14,10 @@ pub fn wide(x: u8) -> u64
     u64::from(x)
 }
 
-// The k bytes from at: those of them that are there.
-#[inline]
-fn there(s: &[u8], at: usize, k: usize) -> &[u8]
-    ensures { result.now ≡ take (min k 8) (drop at s.now) }
+// The bytes from at on.
+fn rest(s: &[u8], at: usize) -> &[u8]
+    ensures { result.now ≡ drop at s.now }
 {
-    let width = k.min(8);
-    if has_room(s.len(), at, width) {
-        return &s[at..at + width];
-    }
     if s.len() <= at {
         return &s[0..0];
     }
@@ -40,7 +35,8 @@ pub(crate) fn le(bytes: &[u8]) -> u64
     u64::from_le_bytes(eight)
 }
 
-// The same, the most significant first.
+// The same, the most significant first. The two orders stand side by side here and below, as std's own two functions do: a trait over them
+// would be longer than both.
 #[inline]
 fn be(bytes: &[u8]) -> u64
     requires { length bytes.now ≤ 8 }
@@ -57,7 +53,11 @@ pub fn read_le(s: &[u8], at: usize, k: usize) -> u64
     ensures value { result ≡ le_value (take (min k 8) (drop at s.now)) }
     ensures upper_bound { result < 256 ^ min k 8 }
 {
-    le(there(s, at, k))
+    let width = k.min(8);
+    if has_room(s.len(), at, width) {
+        return le(&s[at..at + width]);
+    }
+    le(rest(s, at))
 }
 
 // The number of the k bytes from at, the most significant first: of those that are there.
@@ -66,7 +66,11 @@ pub fn read_be(s: &[u8], at: usize, k: usize) -> u64
     ensures value { result ≡ be_value (take (min k 8) (drop at s.now)) }
     ensures upper_bound { result < 256 ^ min k 8 }
 {
-    be(there(s, at, k))
+    let width = k.min(8);
+    if has_room(s.len(), at, width) {
+        return be(&s[at..at + width]);
+    }
+    be(rest(s, at))
 }
 
 // Writes the k low bytes of v from at on, the least significant first.

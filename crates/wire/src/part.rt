@@ -6,7 +6,7 @@ use crate::refusal::{Refusal, SHORT, refuse};
 use crate::store::has_room;
 
 // A part of the lent bytes. It may run past them.
-#[derive(Clone, Copy)]
+#[derive(Clone, Copy, Debug, PartialEq, Eq)]
 pub struct Part {
     pub start: usize,
     pub len: usize,

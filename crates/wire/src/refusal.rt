@@ -2,6 +2,9 @@
 ghost use Rattle.std.specs.Prelude.{◌≡◌};
 ghost use Rattle.wire.specs.Outcome.{why, out_of};
 
+// The numbers stay numbers, and no enum: `refuse` takes any of them, C has them as a call's status, and the statements of Refusals.antt list
+// them by number.
+
 // Bytes end in an event part, an optional field, or an integer or a string of a list.
 pub const SHORT: u8 = 1;
 
@@ -74,7 +77,7 @@ pub const FRACTION: u8 = 7;
 pub const BELOW_ZERO: u8 = 8;
 
 // The part is 0 but for refusal 10.
-#[derive(Clone, Copy)]
+#[derive(Clone, Copy, Debug, PartialEq, Eq)]
 pub struct Refusal {
     pub number: u8,
     pub place: usize,

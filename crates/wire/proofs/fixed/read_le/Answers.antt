@@ -1,7 +1,12 @@
--- `wire::fixed::read_le` meets its contract. Assumes nothing.
-use Rattle.std.proofs.Common.{arith, min, drop, length-take}
+-- `wire::fixed::read_le` meets its contract. Where bytes are missing the number is narrower. Assumes nothing.
+use Rattle.std.proofs.Common.{◌≤◌, ◌<◌, ◌+◌, arith, min, length, drop, length-drop}
 use Rattle.wire.proofs.Bytes.{wider}
+use Rattle.wire.proofs.Stores.{no_room}
 use Rattle.wire.proofs.fixed.read_le.Goals as goal
 
 pub returns-clause-upper_bound : goal.returns-clause-upper_bound
-returns-clause-upper_bound c = wider _ _ _ (rw c.there.ensures (omega (arith, length-take (min c.args.k 8) (drop c.args.at c.args.s.now)))) c.le.ensures.1
+returns-clause-upper_bound c =
+    let a = c.args in
+    let h : length a.s.now < a.at + min a.k 8 = rw (c.min-width.ensures) at (no_room _ _ _ _ c.has_room.ensures c.if-has_room.false) in
+    let n = length-drop a.at a.s.now in
+    wider _ _ _ (rw c.rest.ensures (omega (arith, h, n))) c.le-2.ensures.1
