@@ -3,11 +3,9 @@
 -- entries as before". Both are one layout, as kind 1's count and zero are a number of two bytes: length, kind, count, entries. The count
 -- tells the kind, so each map has one record. Assumes nothing.
 use Rattle.std.specs.Prelude.{ℕ, zero, suc, ◌+◌, ◌-◌, ◌*◌, ◌^◌, Bool, true, cond, ◌&&◌, List, [], ◌∷◌, ◌++◌, length, take, drop, leb, ltb, eqb}
-use Rattle.wire.specs.Outcome.{Outcome, ok, refused, refuse}
+use Rattle.wire.specs.Outcome.{Outcome, ok, refuse}
 use Rattle.wire.specs.Number.{le_value, le_bytes}
 use Rattle.record.specs.declared.entry.Entry.{Entry}
-use Rattle.record.specs.declared.profile.RecordRead.{RecordRead}
-use Rattle.record.specs.declared.profile.RecordRead.TheVariants.{Valid, Refused}
 use Rattle.record.specs.Entries.{entry_holds, entry_of, entry_bytes}
 
 -- how many columns it may have: as many as a table of MySQL
@@ -78,8 +76,3 @@ entries_bytes (e ∷ es) = entry_bytes e ++ entries_bytes es
 unfoldable pub record_bytes : List Entry → List ℕ
 unfolding head_bytes entries_bytes
 record_bytes es = head_bytes (length es) ++ entries_bytes es
-
--- what the answer of the call says
-abbrev pub record_told : RecordRead → Outcome ℕ
-record_told (Valid columns) = ok columns
-record_told (Refused r) = refused r

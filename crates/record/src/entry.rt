@@ -1,10 +1,10 @@
 // What a record says of one column: six bytes.
 ghost use Rattle.std.specs.Prelude.{◌≡◌};
-ghost use Rattle.wire.specs.Stored.{store, answer_of, left_of, written_told};
+ghost use Rattle.wire.specs.Stored.{store, answer_of, left_of};
 ghost use Rattle.record.specs.Entries.{column_of, flags_hold, charset_holds, entry_holds, entry_bytes};
 
 use value::Column;
-use wire::Written;
+use wire::Refusal;
 
 #[derive(Clone, Copy)]
 pub struct Entry {
@@ -75,8 +75,8 @@ pub fn entry_holds(entry: Entry) -> bool
 }
 
 // Writes the entry's six bytes from at on.
-pub fn write_entry(entry: Entry, buf: &mut [u8], at: usize) -> Written
-    ensures result_value { written_told result ≡ answer_of (store (entry_bytes entry) buf.old at) }
+pub fn write_entry(entry: Entry, buf: &mut [u8], at: usize) -> Result<usize, Refusal>
+    ensures result_value { result ≡ answer_of (store (entry_bytes entry) buf.old at) }
     ensures buf_after { buf.new ≡ left_of (store (entry_bytes entry) buf.old at) buf.old }
 {
     let low = (entry.charset % 256) as u8;

@@ -5,6 +5,4 @@ mod entry;
 mod profile;
 
 pub use entry::{Entry, column_of, entry_holds, write_entry};
-pub use profile::{
-    MOST_BYTES, MOST_COLUMNS, RecordRead, entry_at, entry_in, read_record, write_head,
-};
+pub use profile::{MOST_BYTES, MOST_COLUMNS, entry_at, entry_in, read_record, write_head};

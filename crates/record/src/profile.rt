@@ -1,12 +1,12 @@
 // The whole record: whether it is valid, what it says of its columns, and how it begins. `profile` is its bytes.
 ghost use Rattle.std.specs.Prelude.{◌≡◌, get_or};
-ghost use Rattle.wire.specs.Stored.{store, answer_of, left_of, written_told};
-ghost use Rattle.record.specs.Records.{kind_for, count_of, entry_place, entry_in, entries_hold, head_holds, read_record, record_told};
+ghost use Rattle.wire.specs.Stored.{store, answer_of, left_of};
+ghost use Rattle.record.specs.Records.{kind_for, count_of, entry_place, entry_in, entries_hold, head_holds, read_record};
 ghost use Rattle.record.specs.Records.{head_bytes};
 
 use crate::entry::{Entry, entry_holds};
+use wire::Refusal;
 use wire::refusal::BAD_RECORD;
-use wire::{Refusal, Written};
 
 // How many columns a record may have.
 pub const MOST_COLUMNS: usize = 4096;
@@ -24,13 +24,6 @@ pub const MOST_BYTES: usize = HEAD + ENTRY * MOST_COLUMNS;
 
 // The last column whose entry has a place that fits a machine number.
 const LAST: usize = (usize::MAX - HEAD) / ENTRY;
-
-// How many columns a valid record has.
-#[derive(Clone, Copy)]
-pub enum RecordRead {
-    Valid { columns: usize },
-    Refused(Refusal),
-}
 
 // The byte at a place, 0 past the end.
 fn byte_at(s: &[u8], at: usize) -> u8
@@ -129,22 +122,23 @@ fn head_holds(profile: &[u8]) -> bool
 }
 
 // How many columns the record has, if it is valid and nothing stands after it; in one pass over it.
-pub fn read_record(profile: &[u8]) -> RecordRead
-    ensures { record_told result ≡ read_record profile.now }
+#[tactic(auto, unfolding(crate::specs::Records::read_record, crate::specs::Records::record_valid))]
+pub fn read_record(profile: &[u8]) -> Result<usize, Refusal>
+    ensures { result ≡ read_record profile.now }
 {
     if !head_holds(profile) {
-        return RecordRead::Refused(wire::refuse(BAD_RECORD, 0));
+        return Err(wire::refuse(BAD_RECORD, 0));
     }
     let columns = count_in(profile);
     if !entries_hold(profile, columns) {
-        return RecordRead::Refused(wire::refuse(BAD_RECORD, 0));
+        return Err(wire::refuse(BAD_RECORD, 0));
     }
-    RecordRead::Valid { columns }
+    Ok(columns)
 }
 
 // Writes the six bytes before the columns, at the buffer's start.
-pub fn write_head(n: u16, buf: &mut [u8]) -> Written
-    ensures result_value { written_told result ≡ answer_of (store (head_bytes n) buf.old 0) }
+pub fn write_head(n: u16, buf: &mut [u8]) -> Result<usize, Refusal>
+    ensures result_value { result ≡ answer_of (store (head_bytes n) buf.old 0) }
     ensures buf_after { buf.new ≡ left_of (store (head_bytes n) buf.old 0) buf.old }
 {
     let size = entry_at(n as usize);
