@@ -15,6 +15,5 @@ pub mod Walks
 pub mod Optional
 pub mod Appends
 pub mod FieldMoves
-pub mod Views
 mod Worked
 mod Examples

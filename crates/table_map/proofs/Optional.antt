@@ -1,14 +1,15 @@
 -- Optional fields: how many columns have a signedness bit; what a field that was cut out is; what a step answers, by what it met; what a
 -- field that was read is; that fields move. Assumes nothing.
-use Prim.Native.Nat.{ℕ, suc, ◌+◌, ◌≤◌, ◌<◌}
+use Rattle.std.specs.Prelude.{Some, count_by}
+use Prim.Native.Nat.{ℕ, ◌+◌, ◌≤◌, ◌<◌}
 use mathlib.Core.Path.{◌≡◌, refl, sym, subst}
 use mathlib.Core.Logic.{◌⊎◌, ⊎_elim}
 use mathlib.Core.Bool.{Bool, true, false, cond}
 use mathlib.Core.List.{List, [], ◌∷◌}
 use native.Mathlib.Omega.{arith}
 use borrow.Author.Tests.{lt-leb, eqb-true}
-use lib.ListN.{length, get_or, drop}
-use lib.Seq.{drop-cons}
+use lib.ListN.{length, get_or}
+use Rattle.std.proofs.lemmas.List.Recursion.{is_count_by}
 use Rattle.wire.specs.Bits.{bytes_for}
 use Rattle.wire.specs.declared.refusal.Refusal.{Refusal}
 use Rattle.wire.specs.Outcome.{Outcome, ok, refused, after}
@@ -24,7 +25,7 @@ use Rattle.table_map.specs.Parts.{long_part}
 use Rattle.table_map.specs.Lists.{Stepped, end, item, step, default_charset}
 use Rattle.table_map.specs.Fields.{sign_bits, count_sign_bits, is_field, is_read, contents_hold, cut_field, judge_field, field_item}
 use Rattle.table_map.specs.Fields.{with_cursor, field_step}
-use Rattle.table_map.proofs.Steps.{Early, step_else}
+use Rattle.table_map.proofs.Steps.{Early, step_end, step_else, same_item}
 use Rattle.table_map.proofs.Items.{Moves, long_moves}
 
 -- ---- counting
@@ -42,17 +43,14 @@ unfolding count_sign_bits
 signed_within d [] = omega arith
 signed_within d (t ∷ types) = omega (arith, sign_bits_most d t, signed_within d types)
 
--- a turn of the loop, and its end
-pub signed_turn : (d : Dialect) (types : List ℕ) (i : ℕ) → i < length types
-    → count_sign_bits d (drop i types) ≡ sign_bits d (get_or types i 0) + count_sign_bits d (drop (i + 1) types)
-unfolding count_sign_bits
-signed_turn d types i h =
-    let e : i + 1 ≡ suc i = omega arith in
-    rw (e, drop-cons types i 0 h)
-
-pub signed_none : (d : Dialect) → count_sign_bits d [] ≡ 0
-unfolding count_sign_bits
-signed_none d = refl
+-- to count the bits is to count the columns that have one
+pub signed_counted : (d : Dialect) (types : List ℕ) → count_sign_bits d types ≡ count_by (has_sign_bit d) types
+unfolding count_sign_bits sign_bits
+signed_counted d = is_count_by (count_sign_bits d) (has_sign_bit d) refl (λ t types. turn (has_sign_bit d t) (count_sign_bits d types))
+  where
+    turn : (b : Bool) (n : ℕ) → cond b 1 0 + n ≡ cond b (1 + n) n
+    turn true n = refl
+    turn false n = omega arith
 
 -- ---- a field that was cut out: its type byte, and its value behind a length behind that
 pub cut_read : (s : List ℕ) (at : ℕ) (a : ℕ × Part) (next : ℕ) → cut_field s at ≡ ok (a, next)
@@ -116,6 +114,13 @@ pub a_field_lem : (c : Fields) (s : List ℕ) (f : ℕ × Part) (next : ℕ) →
 unfolding field_item
 a_field_lem c s f next n e j = rw (step_by_item c s n, e, j)
 
+pub at_end : (c : Fields) (s : List ℕ) → c.at ≡ length s → field_step c s ≡ ok end
+unfolding field_step
+at_end c s e = rw (step_end (field_item c.numeric c.columns) s c.at e)
+
+-- the ways in which a step from a cursor goes
+pub ruleset field_steps = (at_end, not_cut, not_held, a_field_lem)
+
 -- ---- the other way: a step from a cursor is the walk's step at its place, and keeps its counts
 pub field_stepped : (c : Fields) (s : List ℕ) (a : ℕ × Part) (next : Fields) → field_step c s ≡ ok (item a next)
     → (step (field_item c.numeric c.columns) s c.at ≡ ok (item a next.at)) × (next.numeric ≡ c.numeric)
@@ -126,10 +131,9 @@ field_stepped c s a next e = go (step (field_item c.numeric c.columns) s c.at) e
     go : (o : Outcome (Stepped (ℕ × Part) ℕ)) → after o (λ x. ok (with_cursor c x)) ≡ ok (item a next)
         → (o ≡ ok (item a next.at)) × (next.numeric ≡ c.numeric) × (next.columns ≡ c.columns)
     go (ok end) f = let z : ◌≡◌ {A = ℕ} 0 1 = cc in absurd (omega arith)
-    go (ok (item b at)) f =
-        let x : b ≡ a = cc in
-        let y : record { at = at; numeric = c.numeric; columns = c.columns } ≡ next = cc in
-        (rw (x, ← y), rw (← y), rw (← y))
+    go (ok (Some (b, at))) f =
+        let x = same_item f in
+        (rw (x.0, ← x.1), rw (← x.1), rw (← x.1))
     go (refused w) f = absurd (ok_not_refused (sym f))
 
 pub field_ended : (c : Fields) (s : List ℕ) → field_step c s ≡ ok end → step (field_item c.numeric c.columns) s c.at ≡ ok end
@@ -138,7 +142,7 @@ field_ended c s e = go (step (field_item c.numeric c.columns) s c.at) e
   where
     go : (o : Outcome (Stepped (ℕ × Part) ℕ)) → after o (λ x. ok (with_cursor c x)) ≡ ok end → o ≡ ok end
     go (ok end) f = refl
-    go (ok (item b at)) f = let z : ◌≡◌ {A = ℕ} 0 1 = cc in absurd (omega arith)
+    go (ok (Some (b, at))) f = let z : ◌≡◌ {A = ℕ} 0 1 = cc in absurd (omega arith)
     go (refused w) f = absurd (ok_not_refused (sym f))
 
 pub field_broken : (c : Fields) (s : List ℕ) (w : Refusal) → field_step c s ≡ refused w

@@ -1,4 +1,5 @@
 -- A step of a walk, whatever the rule of its items: what it answers, and what its answer says of the rule. Assumes nothing.
+use Rattle.std.specs.Prelude.{Some}
 use Prim.Native.Nat.{ℕ, ◌≤◌, ◌<◌}
 use mathlib.Core.Path.{◌≡◌, sym, ap}
 use mathlib.Core.Logic.{dite, ◌⊎◌, inl, inr}
@@ -48,6 +49,18 @@ step_else rule r s at n =
     (λ h. step_before rule s at (omega arith))
 
 -- ---- the other way
+item_or : {A C : Type 0} → A × C → Outcome (Stepped A C) → A × C
+item_or x (ok (Some y)) = y
+item_or x _ = x
+
+-- the same answer has the same item, and leads to the same place
+pub same_item : {A C : Type 0} {a b : A} {n m : C} → ◌≡◌ {A = Outcome (Stepped A C)} (ok (item a n)) (ok (item b m))
+    → (a ≡ b) × (n ≡ m)
+unfolding item_or
+same_item {A} {C} {a} {b} {n} {m} e =
+    let q : ◌≡◌ {A = A × C} (a, n) (b, m) = ap (item_or (a, n)) e in
+    (ap (λ (x : A × C). x.0) q, ap (λ (x : A × C). x.1) q)
+
 end_not_item : {A : Type 0} {a : A} {n : ℕ} → ◌≡◌ {A = Stepped A ℕ} end (item a n) → ⊥
 end_not_item e = let z : ◌≡◌ {A = ℕ} 0 1 = cc in omega arith
 

@@ -1,5 +1,6 @@
 -- Walks, by any rule whose items move: a walk is its first step and the walk from where that leads, and it ends.
 -- Assumes nothing.
+use Rattle.std.specs.Prelude.{Some}
 use Prim.Native.Nat.{ℕ, zero, suc, ◌-◌, ◌≤◌, ◌<◌}
 use mathlib.Core.Path.{◌≡◌, refl}
 use mathlib.Core.List.{List}
@@ -27,7 +28,7 @@ enough {A} rule v (suc m) (suc k) s at h l = go (λ next. enough rule v m k s ne
     go : ((next : ℕ) → length s - next < m → length s - next < k → walk_steps m rule s next ≡ walk_steps k rule s next)
         → (o : Outcome (Stepped A ℕ)) → step rule s at ≡ o → items_onward (walk_steps m rule s) o ≡ items_onward (walk_steps k rule s) o
     go again (ok end) e = refl
-    go again (ok (item a next)) e =
+    go again (ok (Some (a, next))) e =
         let w = item_moves rule v s at a next e in
         rw (again next (omega arith) (omega arith))
     go again (refused r) e = refl
@@ -41,7 +42,7 @@ walk_steps_lem {A} rule v s at = go (step rule s at) refl
     go : (o : Outcome (Stepped A ℕ)) → step rule s at ≡ o
         → items_onward (walk_steps (length s - at) rule s) o ≡ items_onward (walk_items rule s) o
     go (ok end) e = refl
-    go (ok (item a next)) e =
+    go (ok (Some (a, next))) e =
         let w = item_moves rule v s at a next e in
         let x = enough rule v (length s - at) (suc (length s - next)) s next (omega arith) (omega arith) in
         rw x
@@ -56,7 +57,7 @@ few {A} rule v (suc m) s at = go (λ next. few rule v m s next) (step rule s at)
     go : ((next : ℕ) → length (walk_steps m rule s next).items ≤ length s - next)
         → (o : Outcome (Stepped A ℕ)) → step rule s at ≡ o → length (items_onward (walk_steps m rule s) o).items ≤ length s - at
     go again (ok end) e = omega arith
-    go again (ok (item a next)) e =
+    go again (ok (Some (a, next))) e =
         let w = item_moves rule v s at a next e in
         omega (arith, again next)
     go again (refused r) e = omega arith

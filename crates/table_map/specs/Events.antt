@@ -9,8 +9,6 @@ use Rattle.wire.specs.Packed.{read_packed}
 use Rattle.wire.specs.declared.part.Part.{Part}
 use Rattle.wire.specs.Parts.{part, part_of, within}
 use Rattle.table_map.specs.declared.event.Event.{Event}
-use Rattle.table_map.specs.declared.event.EventRead.{EventRead}
-use Rattle.table_map.specs.declared.event.EventRead.TheVariants.{Read, Refused}
 use Rattle.table_map.specs.Parts.{short_part, long_part}
 
 abbrev pub id_bytes : ℕ → ℕ
@@ -53,11 +51,6 @@ read_event s post_header =
       bits = y.2;
       optional = part y.3 (length s - y.3);
     })))))
-
--- what the answer of the reader says
-abbrev pub event_told : EventRead → Outcome Event
-event_told (Read e) = ok e
-event_told (Refused r) = refused r
 
 -- one part of an event, as its bytes: empty where the event is refused
 abbrev pub part_in : (Event → Part) → List ℕ → Outcome Event → List ℕ

@@ -1,6 +1,6 @@
 -- Optional fields: "Type byte, packed length, value. The value is cut out first, then type, then contents judged." "The walk judges
 -- contents only so: 1 holds ceil(numeric/8) bytes and 12 ceil(n/8), no more; 2 and 10 start with a packed integer." Assumes nothing.
-use Rattle.std.specs.Prelude.{ℕ, ◌+◌, Bool, true, false, cond, ◌&&◌, ◌||◌, List, [], ◌∷◌, length, get_or, leb, eqb}
+use Rattle.std.specs.Prelude.{ℕ, ◌+◌, Bool, true, false, cond, ◌&&◌, ◌||◌, Some, List, [], ◌∷◌, length, get_or, leb, eqb}
 use Rattle.wire.specs.Bits.{bytes_for}
 use Rattle.wire.specs.Outcome.{Outcome, ok, refused, refuse, after}
 use Rattle.wire.specs.Packed.{read_packed}
@@ -9,12 +9,6 @@ use Rattle.wire.specs.Parts.{lent_part, within}
 use Rattle.value.specs.declared.classes.Dialect.{Dialect}
 use Rattle.value.specs.Classes.{has_sign_bit}
 use Rattle.table_map.specs.declared.field.Fields.{Fields}
-use Rattle.table_map.specs.declared.field.FieldStep.{FieldStep}
-use Rattle.table_map.specs.declared.field.FieldStep.TheVariants.{Field, End, Refused}
-use Rattle.table_map.specs.declared.field.FieldCut.{FieldCut}
-use Rattle.table_map.specs.declared.field.FieldCut.TheVariants.{Cut, Refused as NotCut}
-use Rattle.table_map.specs.declared.field.Judged.{Judged}
-use Rattle.table_map.specs.declared.field.Judged.TheVariants.{Holds, Refused as NotHeld}
 use Rattle.table_map.specs.Parts.{long_part}
 use Rattle.table_map.specs.Lists.{Rule, Stepped, end, item, step}
 
@@ -67,23 +61,9 @@ field_item numeric columns s at = after (cut_field s at) (λ x. after (judge_fie
 -- a step's answer with a cursor for its place: moved on, with the same counts
 abbrev pub with_cursor : Fields → Stepped (ℕ × Part) ℕ → Stepped (ℕ × Part) Fields
 with_cursor c end = end
-with_cursor c (item field next) = item field (record { at = next; numeric = c.numeric; columns = c.columns })
+with_cursor c (Some (field, next)) = item field (record { at = next; numeric = c.numeric; columns = c.columns })
 
 -- a step of the walk, from a cursor
 unfoldable pub field_step : Fields → List ℕ → Outcome (Stepped (ℕ × Part) Fields)
 unfolding step field_item
 field_step c s = after (step (field_item c.numeric c.columns) s c.at) (λ x. ok (with_cursor c x))
-
--- ---- what the answers say
-abbrev pub field_told : FieldStep → Outcome (Stepped (ℕ × Part) Fields)
-field_told (Field kind value next) = ok (item (kind, value) next)
-field_told End = ok end
-field_told (Refused r) = refused r
-
-abbrev pub field_cut_told : FieldCut → Outcome ((ℕ × Part) × ℕ)
-field_cut_told (Cut kind value next) = ok ((kind, value), next)
-field_cut_told (NotCut r) = refused r
-
-abbrev pub judged_told : Judged → Outcome (Unit {0})
-judged_told Holds = ok tt
-judged_told (NotHeld r) = refused r

@@ -1,31 +1,24 @@
 -- Lists: one rule for every kind of item, and the items. "Lists: 3, 7, 8, 11, 13 are packed integers; 9 is pairs (column, prefix length); 2
 -- and 10 go on with pairs (rank, charset); 4 is packed-length strings; 5 and 6 are groups of a packed count and that many strings." Assumes
 -- nothing.
-use Rattle.std.specs.Prelude.{ℕ, zero, suc, ◌-◌, cond, List, [], ◌∷◌, length, ltb, eqb}
+use Rattle.std.specs.Prelude.{ℕ, zero, suc, ◌-◌, cond, Option, Some, List, [], ◌∷◌, length, ltb, eqb}
 use Rattle.wire.specs.declared.refusal.Refusal.{Refusal}
 use Rattle.wire.specs.Outcome.{Outcome, ok, refused, refuse, after}
 use Rattle.wire.specs.Packed.{read_packed}
 use Rattle.wire.specs.declared.part.Part.{Part}
-use Rattle.table_map.specs.declared.list.IntegerStep.{IntegerStep}
-use Rattle.table_map.specs.declared.list.IntegerStep.TheVariants.{Item, End, Refused}
-use Rattle.table_map.specs.declared.list.PairStep.{PairStep}
-use Rattle.table_map.specs.declared.list.PairStep.TheVariants.{Item as Item₂, End as End₂, Refused as Refused₂}
-use Rattle.table_map.specs.declared.list.StringStep.{StringStep}
-use Rattle.table_map.specs.declared.list.StringStep.TheVariants.{Item as Item₃, End as End₃, Refused as Refused₃}
-use Rattle.table_map.specs.declared.list.GroupStep.{GroupStep}
-use Rattle.table_map.specs.declared.list.GroupStep.TheVariants.{Item as Item₄, End as End₄, Refused as Refused₄}
-use Rattle.table_map.specs.declared.list.DefaultCharset.{DefaultCharset}
-use Rattle.table_map.specs.declared.list.DefaultCharset.TheVariants.{Read, Refused as Refused₅}
 use Rattle.table_map.specs.Parts.{long_part}
+pub use Rattle.std.specs.Prelude.{None as end}
 
 -- ---- one rule for every list. A rule of items reads the item at a place of the bytes, and answers it with the place after it
 abbrev pub Rule : Type 0 → Type 0
 Rule A = List ℕ → ℕ → Outcome (A × ℕ)
 
 -- a step: the end of the list, or an item and where the next stands
-pub data Stepped (A : Type 0) (C : Type 0) : Type 0 where
-  end : Stepped A C
-  item : A → C → Stepped A C
+abbrev pub Stepped : Type 0 → Type 0 → Type 0
+Stepped A C = Option (A × C)
+
+abbrev pub item : {A : Type 0} {C : Type 0} → A → C → Stepped A C
+item a next = Some (a, next)
 
 -- at the length it has ended; past it, refusal 1 there
 unfoldable pub step : {A : Type 0} → Rule A → List ℕ → ℕ → Outcome (Stepped A ℕ)
@@ -46,7 +39,7 @@ pub record ItemsWalked (A : Type 0) : Type 0 where
 
 abbrev pub items_onward : {A : Type 0} → (ℕ → ItemsWalked A) → Outcome (Stepped A ℕ) → ItemsWalked A
 items_onward f (ok end) = record { items = []; how = whole }
-items_onward f (ok (item a next)) = record { items = a ∷ (f next).items; how = (f next).how }
+items_onward f (ok (Some (a, next))) = record { items = a ∷ (f next).items; how = (f next).how }
 items_onward f (refused r) = record { items = []; how = broken r }
 
 -- at most m steps, which are enough if every item takes a byte and m is more than the bytes left
@@ -83,28 +76,3 @@ group_item s at = after (read_packed s at) (λ n. after (strings n.0 s n.1) (λ 
 -- "2 and 10 start with a packed integer" and "go on with pairs": the default charset, and where the pairs start
 abbrev pub default_charset : List ℕ → Outcome (ℕ × ℕ)
 default_charset value = read_packed value 0
-
--- ---- what the answers of steps and readers say
-abbrev pub integer_told : IntegerStep → Outcome (Stepped ℕ ℕ)
-integer_told (Item value next) = ok (item value next.at)
-integer_told End = ok end
-integer_told (Refused r) = refused r
-
-abbrev pub pair_told : PairStep → Outcome (Stepped (ℕ × ℕ) ℕ)
-pair_told (Item₂ first second next) = ok (item (first, second) next.at)
-pair_told End₂ = ok end
-pair_told (Refused₂ r) = refused r
-
-abbrev pub string_told : StringStep → Outcome (Stepped Part ℕ)
-string_told (Item₃ value next) = ok (item value next.at)
-string_told End₃ = ok end
-string_told (Refused₃ r) = refused r
-
-abbrev pub group_told : GroupStep → Outcome (Stepped (ℕ × ℕ) ℕ)
-group_told (Item₄ count first next) = ok (item (count, first) next.at)
-group_told End₄ = ok end
-group_told (Refused₄ r) = refused r
-
-abbrev pub charset_told : DefaultCharset → Outcome (ℕ × ℕ)
-charset_told (Read charset pairs) = ok (charset, pairs.at)
-charset_told (Refused₅ r) = refused r

@@ -10,12 +10,9 @@ mod part;
 mod write;
 
 pub use event::{
-    Event, EventRead, column_metadata, column_types, database_name, nullable_bits,
-    optional_metadata, read_event, table_name,
+    Event, column_metadata, column_types, database_name, nullable_bits, optional_metadata,
+    read_event, table_name,
 };
-pub use field::{FieldCut, FieldStep, Fields, Judged, cut_field};
-pub use list::{
-    DefaultCharset, GroupStep, Groups, IntegerStep, Integers, PairStep, Pairs, StringStep, Strings,
-    default_charset, flag,
-};
+pub use field::{Fields, cut_field};
+pub use list::{Groups, Integers, ListItem, Pairs, Strings, default_charset, flag, next_item};
 pub use write::{event_size, write_event};

@@ -2,12 +2,12 @@
 ghost use Rattle.std.specs.Prelude.{◌≡◌, [], ◌+◌, ◌≤◌, length};
 ghost use Rattle.wire.specs.Number.{le_bytes};
 ghost use Rattle.wire.specs.Packed.{packed_bytes};
-ghost use Rattle.wire.specs.Stored.{answer_of, left_of, written_told, size_told};
+ghost use Rattle.wire.specs.Stored.{answer_of, left_of};
 ghost use Rattle.table_map.specs.Writes.{event_parts, name_bytes, is_event, write_event, event_size};
 ghost use Rattle.table_map.specs.Inner.Writes.{event_head, column_bytes, PutAt};
 
+use wire::Refusal;
 use wire::refusal::{NO_ROOM, NOT_TAKEN};
-use wire::{Size, Written};
 
 // Ids are below this.
 const ID_END: u64 = 1 << 48;
@@ -45,13 +45,13 @@ pub fn event_size(
     metadata: &[u8],
     bits: &[u8],
     optional: &[u8],
-) -> Size
-    ensures { size_told result
+) -> Result<usize, Refusal>
+    ensures { result
         ≡ event_size (event_parts id flags database.now table.now types.now metadata.now
         bits.now optional.now) }
 {
     if !is_event(id, database, table, types, bits) {
-        return Size::Refused(wire::refuse(NOT_TAKEN, 0));
+        return Err(wire::refuse(NOT_TAKEN, 0));
     }
     let lengths = wire::packed_size(types.len() as u64) + wire::packed_size(metadata.len() as u64);
     // id and flags, and for each name a length byte and a zero byte: 12
@@ -59,13 +59,13 @@ pub fn event_size(
     // this sum fits: a slice has fewer than 2^63 bytes, names are short, and the bits are an eighth of the types
     let front = head + types.len() + bits.len();
     if !wire::has_room(SIZE_MOST, front, metadata.len()) {
-        return Size::Refused(wire::refuse(NO_ROOM, 0));
+        return Err(wire::refuse(NO_ROOM, 0));
     }
     let body = front + metadata.len();
     if !wire::has_room(SIZE_MOST, body, optional.len()) {
-        return Size::Refused(wire::refuse(NO_ROOM, 0));
+        return Err(wire::refuse(NO_ROOM, 0));
     }
-    Size::Takes(body + optional.len())
+    Ok(body + optional.len())
 }
 
 // Writes the event from the buffer's first byte on, with an id of 6 bytes.
@@ -79,8 +79,8 @@ pub fn write_event(
     bits: &[u8],
     optional: &[u8],
     buf: &mut [u8],
-) -> Written
-    ensures result_value { written_told result
+) -> Result<usize, Refusal>
+    ensures result_value { result
         ≡ answer_of (write_event (event_parts id flags database.now table.now types.now
         metadata.now bits.now optional.now) buf.old) }
     ensures buf_after { buf.new
@@ -88,16 +88,13 @@ pub fn write_event(
         bits.now optional.now) buf.old)
         buf.old }
 {
-    let size = match event_size(id, flags, database, table, types, metadata, bits, optional) {
-        Size::Takes(n) => n,
-        Size::Refused(r) => return Written::Refused(r),
-    };
+    let size = event_size(id, flags, database, table, types, metadata, bits, optional)?;
     if buf.len() < size {
-        return Written::Refused(wire::refuse(NO_ROOM, 0));
+        return Err(wire::refuse(NO_ROOM, 0));
     }
     let behind = put_head(id, flags, database, table, buf);
     let next = put_columns(types, metadata, bits, optional, buf, behind);
-    Written::Done { next }
+    Ok(next)
 }
 
 // ---- each writes from at on, where there is room, and hands back the place after what it wrote
@@ -106,7 +103,7 @@ fn put_le(k: usize, v: u64, buf: &mut [u8], at: usize) -> usize
     requires { (k ≤ 8) × (at + k ≤ length buf.old) }
     ensures { PutAt buf.old at (le_bytes k v) buf.new result }
 {
-    wire::write_le(k, v, buf, at);
+    let _ = wire::write_le(k, v, buf, at);
     at + k
 }
 
@@ -114,7 +111,7 @@ fn put_packed(v: u64, buf: &mut [u8], at: usize) -> usize
     requires { at + length (packed_bytes v) ≤ length buf.old }
     ensures { PutAt buf.old at (packed_bytes v) buf.new result }
 {
-    wire::write_packed(v, buf, at);
+    let _ = wire::write_packed(v, buf, at);
     at + wire::packed_size(v)
 }
 
@@ -122,7 +119,7 @@ fn put_bytes(bytes: &[u8], buf: &mut [u8], at: usize) -> usize
     requires { at + length bytes.now ≤ length buf.old }
     ensures { PutAt buf.old at bytes.now buf.new result }
 {
-    wire::write_bytes(bytes, buf, at);
+    let _ = wire::write_bytes(bytes, buf, at);
     at + bytes.len()
 }
 
