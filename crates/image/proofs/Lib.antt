@@ -1,7 +1,5 @@
 -- The laws of the crate, after the modules of src: `PresenceLaws`, `CursorLaws`, `StepLaws`, `EndLaws`, `PutLaws` and `RoomLaws`.
--- `AppendLaws`: bytes put behind an image. `Views`: no two answers look the same on paper. `Worked`: document 01's worked reading,
--- computed.
-pub mod Views
+-- `AppendLaws`: bytes put behind an image. `Worked`: document 01's worked reading, computed.
 mod Worked
 pub mod PresenceLaws
 pub mod CursorLaws

@@ -1,14 +1,12 @@
 -- The image writer: "a start stores lent null bits; a step, lent them again, one value at its cursor, nothing for NULL". Assumes nothing.
 use Rattle.std.specs.Prelude.{ℕ, ◌+◌, ◌-◌, ◌/◌, ◌%◌, ◌^◌, cond, List, [], ◌∷◌, ◌++◌, length, get_or, take, eqb, ltb}
-use Rattle.wire.specs.Outcome.{Outcome, ok, refused, refuse, after}
+use Rattle.wire.specs.Outcome.{Outcome, ok, refuse, after}
 use Rattle.wire.specs.Stored.{store}
 use Rattle.value.specs.declared.datum.Value.{Value}
 use Rattle.value.specs.Reading.{datum_of}
 use Rattle.value.specs.Storing.{stored_bytes}
 use Rattle.image.specs.declared.cursor.Cursor.{Cursor}
 use Rattle.image.specs.declared.cursor.Head.{Head}
-use Rattle.image.specs.declared.put.Put.{Put}
-use Rattle.image.specs.declared.put.Put.TheVariants.{Next, Refused}
 use Rattle.image.specs.Split.{Slot, cursor, slots_at, head_of}
 use Rattle.image.specs.Rows.{is_null}
 
@@ -58,8 +56,3 @@ put_from profile presence nulls c lent v buf =
     after (head_nulls profile presence nulls) (λ h.
     cond (ltb h.columns c.column) (refuse 14 c.column)
     (put_over (slots_at profile presence nulls c.column) c lent v buf))
-
--- what the answer says
-abbrev pub put_told : Put → Outcome Cursor
-put_told (Next c) = ok c
-put_told (Refused r) = refused r

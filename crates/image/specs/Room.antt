@@ -1,10 +1,8 @@
 -- Room for one image: the most bytes that an image under a record and presence bits can take, whatever its row. Assumes nothing.
 use Rattle.std.specs.Prelude.{ℕ, ◌+◌, List, [], ◌∷◌, length}
-use Rattle.wire.specs.Outcome.{Outcome, ok, refused, after}
+use Rattle.wire.specs.Outcome.{Outcome, ok, after}
 use Rattle.wire.specs.Bits.{bytes_for}
 use Rattle.value.specs.Shapes.{most_of}
-use Rattle.image.specs.declared.room.Room.{Room}
-use Rattle.image.specs.declared.room.Room.TheVariants.{Bytes, Refused}
 use Rattle.image.specs.Present.{Present, present}
 use Rattle.image.specs.Split.{head_of}
 
@@ -23,8 +21,3 @@ image_room profile presence = bytes_for (length (present profile presence)) + mo
 unfoldable pub read_room : List ℕ → List ℕ → Outcome ℕ
 unfolding head_of image_room
 read_room profile presence = after (head_of profile presence) (λ h. ok (image_room profile presence))
-
--- what its answer says
-abbrev pub room_told : Room → Outcome ℕ
-room_told (Bytes n) = ok n
-room_told (Refused r) = refused r

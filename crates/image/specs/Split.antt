@@ -1,19 +1,14 @@
 -- Document 01's split of an image under a record and presence bits: "null bits, one per present column, both lowest first, padded to a
 -- byte; then each present, non-null value". A step over it, from any cursor. Assumes nothing.
 use Rattle.std.specs.Prelude.{ℕ, suc, ◌+◌, ◌-◌, Bool, cond, List, [], ◌∷◌, length, ltb, eqb}
-use Rattle.wire.specs.Outcome.{Outcome, ok, refused, refuse, after}
+use Rattle.wire.specs.Outcome.{Outcome, ok, refuse, after}
 use Rattle.wire.specs.Bits.{bytes_for, bit_lsb0}
-use Rattle.value.specs.declared.datum.Value.{Value}
 use Rattle.value.specs.Reading.{read_value}
 use Rattle.record.specs.Records.{count_of, read_record}
 use Rattle.image.specs.declared.cursor.Cursor.{Cursor}
-use Rattle.image.specs.declared.cursor.First.{First}
-use Rattle.image.specs.declared.cursor.First.TheVariants.{At, Refused as Refused₁}
 use Rattle.image.specs.declared.cursor.Head.{Head}
-use Rattle.image.specs.declared.cursor.HeadRead.{HeadRead}
-use Rattle.image.specs.declared.cursor.HeadRead.TheVariants.{Read, Refused as Refused₃}
 use Rattle.image.specs.declared.step.Step.{Step}
-use Rattle.image.specs.declared.step.Step.TheVariants.{Null, Value as Value₂, End, Refused as Refused₂}
+pub use Rattle.image.specs.declared.step.Step.TheVariants.{Null as null, Value as value, End as end}
 use Rattle.image.specs.Present.{Present, count_bits, present_from}
 
 abbrev pub cursor : ℕ → ℕ → Cursor
@@ -52,10 +47,8 @@ first_cursor profile presence = after (head_of profile presence) (λ h. ok (curs
 
 -- ---- one step
 -- NULL or a value with its column and the next cursor, or the end with the bytes used
-pub data ColumnStepped : Type 0 where
-  null : ℕ → Cursor → ColumnStepped
-  value : ℕ → Value → Cursor → ColumnStepped
-  end : ℕ → ColumnStepped
+abbrev pub ColumnStepped : Type 0
+ColumnStepped = Step Cursor
 
 -- over the slots that are left, from an offset of the image on
 unfoldable pub step_over : List Slot → List ℕ → ℕ → Outcome ColumnStepped
@@ -81,18 +74,3 @@ slots_left profile presence image c =
 unfoldable pub step_from : List ℕ → List ℕ → List ℕ → Cursor → Outcome ColumnStepped
 unfolding slots_left step_over
 step_from profile presence image c = after (slots_left profile presence image c) (λ is. step_over is image c.offset)
-
--- ---- what the answers say
-abbrev pub step_told : Step → Outcome ColumnStepped
-step_told (Null column next) = ok (null column next)
-step_told (Value₂ column v next) = ok (value column v next)
-step_told (End used) = ok (end used)
-step_told (Refused₂ r) = refused r
-
-abbrev pub first_told : First → Outcome Cursor
-first_told (At c) = ok c
-first_told (Refused₁ r) = refused r
-
-abbrev pub head_told : HeadRead → Outcome Head
-head_told (Read h) = ok h
-head_told (Refused₃ r) = refused r

@@ -4,8 +4,6 @@ use Rattle.wire.specs.Outcome.{Outcome, ok, refused}
 use Rattle.value.specs.Data.{Datum, null}
 use Rattle.value.specs.Reading.{read_datum, datum_of}
 use Rattle.image.specs.declared.cursor.Cursor.{Cursor}
-use Rattle.image.specs.declared.end.WalkEnd.{WalkEnd}
-use Rattle.image.specs.declared.end.WalkEnd.TheVariants.{Ends, Refused}
 use Rattle.image.specs.Split.{Slot, ColumnStepped, null as null₁, value, end, slots_left, first_cursor}
 
 -- an answer for each column that was met, NULL or a value; and the bytes used, or why the walk stopped
@@ -57,8 +55,3 @@ row_onward f image (ok (null₁ j c)) = with_answer (j, null) (f c)
 row_onward f image (ok (value j v c)) = with_answer (j, datum_of image v) (f c)
 row_onward f image (ok (end used)) = row_stopped (ok used)
 row_onward f image (refused r) = row_stopped (refused r)
-
--- ---- what the answer of the call for its end says
-abbrev pub end_told : WalkEnd → Outcome ℕ
-end_told (Ends used) = ok used
-end_told (Refused r) = refused r

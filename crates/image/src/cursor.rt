@@ -1,9 +1,8 @@
 // Where a walk over an image stands, and the tests that come before any step.
 ghost use Rattle.std.specs.Prelude.{◌≡◌};
-ghost use Rattle.image.specs.Split.{first_cursor, first_told, head_of, head_told};
+ghost use Rattle.image.specs.Split.{first_cursor, head_of};
 
 use crate::presence::count_bits;
-use record::RecordRead;
 use wire::Refusal;
 use wire::refusal::BAD_BITS;
 
@@ -12,12 +11,6 @@ use wire::refusal::BAD_BITS;
 pub struct Cursor {
     pub column: usize,
     pub offset: usize,
-}
-
-#[derive(Clone, Copy)]
-pub enum First {
-    At(Cursor),
-    Refused(Refusal),
 }
 
 // What a valid record and presence bits of its length say: how many columns there are, how many of them are present, and how many bytes of
@@ -29,26 +22,18 @@ pub struct Head {
     pub nulls: usize,
 }
 
-#[derive(Clone, Copy)]
-pub enum HeadRead {
-    Read(Head),
-    Refused(Refusal),
-}
-
 // The tests before any call on an image: refusal 11 for the record, then 12 for the presence bits.
-pub fn read_head(profile: &[u8], presence: &[u8]) -> HeadRead
-    ensures { head_told result ≡ head_of profile.now presence.now }
+#[tactic(auto, using(wire::proofs::Rules::tests), unfolding(crate::specs::Split::head_of))]
+pub fn read_head(profile: &[u8], presence: &[u8]) -> Result<Head, Refusal>
+    ensures { result ≡ head_of profile.now presence.now }
 {
-    let columns = match record::read_record(profile) {
-        RecordRead::Valid { columns } => columns,
-        RecordRead::Refused(r) => return HeadRead::Refused(r),
-    };
+    let columns = record::read_record(profile)?;
     if presence.len() != wire::bytes_for(columns) {
-        return HeadRead::Refused(wire::refuse(BAD_BITS, 0));
+        return Err(wire::refuse(BAD_BITS, 0));
     }
     let present = count_bits(presence, columns);
     let nulls = wire::bytes_for(present);
-    HeadRead::Read(Head {
+    Ok(Head {
         columns,
         present,
         nulls,
@@ -56,14 +41,13 @@ pub fn read_head(profile: &[u8], presence: &[u8]) -> HeadRead
 }
 
 // The cursor that a walk begins with: column 0, behind the null bits.
-pub fn first_cursor(profile: &[u8], presence: &[u8]) -> First
-    ensures { first_told result ≡ first_cursor profile.now presence.now }
+#[tactic(auto, unfolding(crate::specs::Split::first_cursor))]
+pub fn first_cursor(profile: &[u8], presence: &[u8]) -> Result<Cursor, Refusal>
+    ensures { result ≡ first_cursor profile.now presence.now }
 {
-    match read_head(profile, presence) {
-        HeadRead::Read(head) => First::At(Cursor {
-            column: 0,
-            offset: head.nulls,
-        }),
-        HeadRead::Refused(r) => First::Refused(r),
-    }
+    let head = read_head(profile, presence)?;
+    Ok(Cursor {
+        column: 0,
+        offset: head.nulls,
+    })
 }

@@ -3,57 +3,50 @@ ghost use Rattle.std.specs.Prelude.{◌≡◌, [], ◌≤◌, ◌<◌, length};
 ghost use Rattle.wire.specs.Bits.{bytes_for};
 ghost use Rattle.wire.specs.Stored.{stored, answer_of, left_of};
 ghost use Rattle.value.specs.Reading.{datum_of};
-ghost use Rattle.image.specs.Split.{head_told, slots_at};
+ghost use Rattle.image.specs.Split.{slots_at};
 ghost use Rattle.image.specs.Inner.Steps.{cursor_of, Placed};
 ghost use Rattle.image.specs.Rows.{is_null};
-ghost use Rattle.image.specs.Puts.{head_nulls, spare_set, filled, start_image, put_over, put_from, put_told};
+ghost use Rattle.image.specs.Puts.{head_nulls, spare_set, filled, start_image, put_over, put_from};
 
-use crate::cursor::{Cursor, HeadRead, read_head};
+use crate::cursor::{Cursor, Head, read_head};
 use crate::presence::{count_bits, first_set};
 use crate::step::{InnerCursor, NullBit};
 use value::Value;
+use wire::Refusal;
 use wire::refusal::{BAD_BITS, NO_COLUMN, NO_ROOM, NOT_TAKEN};
-use wire::{Refusal, Written};
-
-// Where the next value goes.
-#[derive(Clone, Copy)]
-pub enum Put {
-    Next(Cursor),
-    Refused(Refusal),
-}
 
 // The same tests, and then refusal 12 for the null bits.
-fn read_head_nulls(profile: &[u8], presence: &[u8], nulls: &[u8]) -> HeadRead
-    ensures { head_told result ≡ head_nulls profile.now presence.now nulls.now }
+#[tactic(auto, using(wire::proofs::Rules::tests), unfolding(crate::specs::Puts::head_nulls))]
+fn read_head_nulls(profile: &[u8], presence: &[u8], nulls: &[u8]) -> Result<Head, Refusal>
+    ensures { result ≡ head_nulls profile.now presence.now nulls.now }
 {
-    match read_head(profile, presence) {
-        HeadRead::Read(head) => {
-            if nulls.len() == head.nulls {
-                return HeadRead::Read(head);
-            }
-            HeadRead::Refused(wire::refuse(BAD_BITS, 0))
-        }
-        HeadRead::Refused(r) => HeadRead::Refused(r),
+    let head = read_head(profile, presence)?;
+    if nulls.len() != head.nulls {
+        return Err(wire::refuse(BAD_BITS, 0));
     }
+    Ok(head)
 }
 
-// Stores the null bits at the buffer's start, with the spare bits of the last byte set.
-pub fn start(profile: &[u8], presence: &[u8], nulls: &[u8], buf: &mut [u8]) -> Put
-    ensures result_value { put_told result
+// Stores the null bits at the buffer's start, with the spare bits of the last byte set. Like a step, it answers where the next value goes.
+#[tactic(auto, unfolding(crate::specs::Puts::start_image))]
+pub fn start(
+    profile: &[u8],
+    presence: &[u8],
+    nulls: &[u8],
+    buf: &mut [u8],
+) -> Result<Cursor, Refusal>
+    ensures result_value { result
         ≡ answer_of (start_image profile.now presence.now nulls.now buf.old) }
     ensures buf_after { buf.new
         ≡ left_of (start_image profile.now presence.now nulls.now buf.old) buf.old }
 {
-    let head = match read_head_nulls(profile, presence, nulls) {
-        HeadRead::Read(head) => head,
-        HeadRead::Refused(r) => return Put::Refused(r),
-    };
+    let head = read_head_nulls(profile, presence, nulls)?;
     let offset = head.nulls;
     if buf.len() < offset {
-        return Put::Refused(wire::refuse(NO_ROOM, 0));
+        return Err(wire::refuse(NO_ROOM, 0));
     }
     put_nulls(nulls, head.present, buf);
-    Put::Next(Cursor { column: 0, offset })
+    Ok(Cursor { column: 0, offset })
 }
 
 // A byte whose lowest `used` bits are as they were, the others set.
@@ -70,7 +63,7 @@ fn put_nulls(nulls: &[u8], n: usize, buf: &mut [u8])
     requires { (length nulls.now ≡ bytes_for n) × (length nulls.now ≤ length buf.old) }
     ensures { buf.new ≡ stored (filled n nulls.now) buf.old 0 }
 {
-    wire::write_bytes(nulls, buf, 0);
+    let _ = wire::write_bytes(nulls, buf, 0);
     let used = n % 8;
     if used == 0 {
         return;
@@ -90,9 +83,9 @@ fn put_inner(
     value: Value,
     lent: &[u8],
     buf: &mut [u8],
-) -> Put
+) -> Result<Cursor, Refusal>
     requires { Placed profile.now presence.now columns at }
-    ensures result_value { put_told result
+    ensures result_value { result
         ≡ answer_of (put_over (slots_at profile.now presence.now nulls.now at.column) (cursor_of at)
         lent.now value buf.old) }
     ensures buf_after { buf.new
@@ -102,34 +95,32 @@ fn put_inner(
 {
     let column = first_set(presence, at.column, columns);
     if column == columns {
-        return Put::Refused(wire::refuse(NO_COLUMN, at.column));
+        return Err(wire::refuse(NO_COLUMN, at.column));
     }
     let offset = at.offset;
     let behind = column + 1;
     let is_marked = wire::bit_lsb0(nulls, at.bit.0);
     if is_null(value) {
         if !is_marked {
-            return Put::Refused(wire::refuse(NOT_TAKEN, column));
+            return Err(wire::refuse(NOT_TAKEN, column));
         }
         if buf.len() < offset {
-            return Put::Refused(wire::refuse(NO_ROOM, 0));
+            return Err(wire::refuse(NO_ROOM, 0));
         }
-        return Put::Next(Cursor {
+        return Ok(Cursor {
             column: behind,
             offset,
         });
     }
     if is_marked {
-        return Put::Refused(wire::refuse(NOT_TAKEN, column));
+        return Err(wire::refuse(NOT_TAKEN, column));
     }
     let stored = record::column_of(record::entry_in(profile, column));
-    match value::write_value(stored, value, lent, buf, offset, column) {
-        Written::Done { next } => Put::Next(Cursor {
-            column: behind,
-            offset: next,
-        }),
-        Written::Refused(r) => Put::Refused(r),
-    }
+    let next = value::write_value(stored, value, lent, buf, offset, column)?;
+    Ok(Cursor {
+        column: behind,
+        offset: next,
+    })
 }
 
 fn is_null(value: Value) -> bool
@@ -143,6 +134,7 @@ fn is_null(value: Value) -> bool
 
 impl Cursor {
     // Stores one value, or nothing for NULL, at this cursor, for the next present column from it on. A made-up cursor obeys the same rule.
+    #[tactic(auto, unfolding(crate::specs::Puts::put_from))]
     pub fn put(
         self,
         profile: &[u8],
@@ -151,8 +143,8 @@ impl Cursor {
         value: Value,
         lent: &[u8],
         buf: &mut [u8],
-    ) -> Put
-        ensures result_value { put_told result
+    ) -> Result<Cursor, Refusal>
+        ensures result_value { result
             ≡ answer_of (put_from profile.now presence.now nulls.now self lent.now value
             buf.old) }
         ensures buf_after { buf.new
@@ -162,13 +154,10 @@ impl Cursor {
     {
         let column = self.column;
         let offset = self.offset;
-        let head = match read_head_nulls(profile, presence, nulls) {
-            HeadRead::Read(head) => head,
-            HeadRead::Refused(r) => return Put::Refused(r),
-        };
+        let head = read_head_nulls(profile, presence, nulls)?;
         let columns = head.columns;
         if columns < column {
-            return Put::Refused(wire::refuse(NO_COLUMN, column));
+            return Err(wire::refuse(NO_COLUMN, column));
         }
         let bit = NullBit(count_bits(presence, column));
         let at = InnerCursor {

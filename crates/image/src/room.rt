@@ -4,16 +4,10 @@ ghost use Rattle.std.specs.Prelude.{◌≡◌, cond, ◌≤◌};
 ghost use Rattle.wire.specs.Bits.{bit_lsb0};
 ghost use Rattle.value.specs.Shapes.{most_of};
 ghost use Rattle.image.specs.Present.{shape_at};
-ghost use Rattle.image.specs.Room.{read_room, room_told};
+ghost use Rattle.image.specs.Room.{read_room};
 
-use crate::cursor::{HeadRead, read_head};
+use crate::cursor::read_head;
 use wire::Refusal;
-
-#[derive(Clone, Copy)]
-pub enum Room {
-    Bytes(u64),
-    Refused(Refusal),
-}
 
 // What a column adds: its largest value if it is present, else nothing.
 fn column_room(profile: &[u8], presence: &[u8], column: usize) -> u64
@@ -27,13 +21,11 @@ fn column_room(profile: &[u8], presence: &[u8], column: usize) -> u64
 }
 
 // Null bits, and the largest value of each present column. The record is tested once, so it costs as much as the record has columns.
-pub fn image_room(profile: &[u8], presence: &[u8]) -> Room
-    ensures { room_told result ≡ read_room profile.now presence.now }
+#[tactic(auto, unfolding(crate::specs::Room::read_room))]
+pub fn image_room(profile: &[u8], presence: &[u8]) -> Result<u64, Refusal>
+    ensures { result ≡ read_room profile.now presence.now }
 {
-    let head = match read_head(profile, presence) {
-        HeadRead::Read(head) => head,
-        HeadRead::Refused(r) => return Room::Refused(r),
-    };
+    let head = read_head(profile, presence)?;
     let columns = head.columns;
     let mut bytes = head.nulls as u64;
     let mut column: usize = 0;
@@ -41,5 +33,5 @@ pub fn image_room(profile: &[u8], presence: &[u8]) -> Room
         bytes += column_room(profile, presence, column);
         column += 1;
     }
-    Room::Bytes(bytes)
+    Ok(bytes)
 }

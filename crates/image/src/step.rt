@@ -1,30 +1,30 @@
 // One step over an image: the next present column from a cursor on.
 ghost use Rattle.std.specs.Prelude.{◌≡◌};
-ghost use Rattle.image.specs.Split.{step_told, step_over, slots_at, step_from};
-ghost use Rattle.image.specs.Inner.Steps.{Placed, cursor_of, inner_told, Ranked};
+ghost use Rattle.image.specs.Split.{step_over, slots_at, step_from};
+ghost use Rattle.image.specs.Inner.Steps.{Placed, cursor_of, without_bit, inner_told, Ranked};
 
-use crate::cursor::{Cursor, HeadRead, read_head};
+use crate::cursor::{Cursor, read_head};
 use crate::presence::{count_bits, first_set};
-use value::{Read, Value};
+use value::Value;
 use wire::Refusal;
 use wire::refusal::{IMAGE_SHORT, NO_COLUMN};
 
-// What stands at a cursor: NULL or a value, with its column and the next cursor; or the end, with the bytes used.
+// What stands at a cursor: NULL or a value, with its column and the next cursor; or the end, with the bytes used. Walks of one kind share it,
+// each with cursors of its own: under a record, inside a loop that knows its null bits, and by a plan.
 #[derive(Clone, Copy)]
-pub enum Step {
+pub enum Step<C> {
     Null {
         column: usize,
-        next: Cursor,
+        next: C,
     },
     Value {
         column: usize,
         value: Value,
-        next: Cursor,
+        next: C,
     },
     End {
         used: usize,
     },
-    Refused(Refusal),
 }
 
 // Which null bit: as many as present columns stand before the column.
@@ -40,24 +40,6 @@ pub(crate) struct InnerCursor {
     pub offset: usize,
 }
 
-// The same answers, with such a cursor for the next column.
-#[derive(Clone, Copy)]
-pub(crate) enum InnerStep {
-    Null {
-        column: usize,
-        next: InnerCursor,
-    },
-    Value {
-        column: usize,
-        value: Value,
-        next: InnerCursor,
-    },
-    End {
-        used: usize,
-    },
-    Refused(Refusal),
-}
-
 // A step on a record and presence bits that were tested.
 pub(crate) fn step_inner(
     profile: &[u8],
@@ -65,7 +47,7 @@ pub(crate) fn step_inner(
     image: &[u8],
     columns: usize,
     at: InnerCursor,
-) -> InnerStep
+) -> Result<Step<InnerCursor>, Refusal>
     requires { Placed profile.now presence.now columns at }
     ensures result_value { inner_told result
         ≡ step_over (slots_at profile.now presence.now image.now at.column) image.now
@@ -74,33 +56,31 @@ pub(crate) fn step_inner(
 {
     let column = first_set(presence, at.column, columns);
     if column == columns {
-        return InnerStep::End { used: at.offset };
+        return Ok(Step::End { used: at.offset });
     }
     let behind = column + 1;
     let rank = at.bit.0 + 1;
     if wire::bit_lsb0(image, at.bit.0) {
-        return InnerStep::Null {
+        return Ok(Step::Null {
             column,
             next: InnerCursor {
                 column: behind,
                 bit: NullBit(rank),
                 offset: at.offset,
             },
-        };
+        });
     }
     let stored = record::column_of(record::entry_in(profile, column));
-    match value::read_value(stored, image, at.offset, column) {
-        Read::Got { value, next } => InnerStep::Value {
-            column,
-            value,
-            next: InnerCursor {
-                column: behind,
-                bit: NullBit(rank),
-                offset: next,
-            },
+    let (value, offset) = value::read_value(stored, image, at.offset, column)?;
+    Ok(Step::Value {
+        column,
+        value,
+        next: InnerCursor {
+            column: behind,
+            bit: NullBit(rank),
+            offset,
         },
-        Read::Refused(r) => InnerStep::Refused(r),
-    }
+    })
 }
 
 fn cursor_of(at: InnerCursor) -> Cursor
@@ -113,15 +93,15 @@ fn cursor_of(at: InnerCursor) -> Cursor
 }
 
 // The answer without null bits.
-fn without_bit(step: InnerStep) -> Step
-    ensures { step_told result ≡ inner_told step }
+fn without_bit(step: Step<InnerCursor>) -> Step<Cursor>
+    ensures { result ≡ without_bit step }
 {
     match step {
-        InnerStep::Null { column, next } => Step::Null {
+        Step::Null { column, next } => Step::Null {
             column,
             next: cursor_of(next),
         },
-        InnerStep::Value {
+        Step::Value {
             column,
             value,
             next,
@@ -130,31 +110,33 @@ fn without_bit(step: InnerStep) -> Step
             value,
             next: cursor_of(next),
         },
-        InnerStep::End { used } => Step::End { used },
-        InnerStep::Refused(r) => Step::Refused(r),
+        Step::End { used } => Step::End { used },
     }
 }
 
 impl Cursor {
     // The next present column from this cursor on. A made-up cursor obeys the same rule.
-    pub fn step(self, profile: &[u8], presence: &[u8], image: &[u8]) -> Step
-        ensures { step_told result ≡ step_from profile.now presence.now image.now self }
+    #[tactic(auto, using(wire::proofs::Rules::tests), unfolding(crate::specs::Split::step_from, crate::specs::Split::slots_left))]
+    pub fn step(
+        self,
+        profile: &[u8],
+        presence: &[u8],
+        image: &[u8],
+    ) -> Result<Step<Cursor>, Refusal>
+        ensures { result ≡ step_from profile.now presence.now image.now self }
     {
         let column = self.column;
         let offset = self.offset;
-        let head = match read_head(profile, presence) {
-            HeadRead::Read(head) => head,
-            HeadRead::Refused(r) => return Step::Refused(r),
-        };
+        let head = read_head(profile, presence)?;
         let columns = head.columns;
         if columns < column {
-            return Step::Refused(wire::refuse(NO_COLUMN, column));
+            return Err(wire::refuse(NO_COLUMN, column));
         }
         if image.len() < head.nulls {
-            return Step::Refused(wire::refuse(IMAGE_SHORT, 0));
+            return Err(wire::refuse(IMAGE_SHORT, 0));
         }
         if image.len() < offset {
-            return Step::Refused(wire::refuse(IMAGE_SHORT, column));
+            return Err(wire::refuse(IMAGE_SHORT, column));
         }
         let bit = NullBit(count_bits(presence, column));
         let at = InnerCursor {
@@ -162,6 +144,7 @@ impl Cursor {
             bit,
             offset,
         };
-        without_bit(step_inner(profile, presence, image, columns, at))
+        let step = step_inner(profile, presence, image, columns, at)?;
+        Ok(without_bit(step))
     }
 }

@@ -21,8 +21,7 @@ use Rattle.record.proofs.Valid.{valid_few}
 use Rattle.image.specs.declared.cursor.Cursor.{Cursor}
 use Rattle.image.specs.declared.cursor.Head.{Head}
 use Rattle.image.specs.declared.step.InnerCursor.{InnerCursor}
-use Rattle.image.specs.declared.step.InnerStep.{InnerStep}
-use Rattle.image.specs.declared.step.InnerStep.TheVariants.{Null, Value as Value₁, End, Refused}
+use Rattle.image.specs.declared.step.Step.{Step}
 use Rattle.image.specs.Present.{count_bits, first_from}
 use Rattle.image.specs.Split.{Slot, slots_at, cursor, head_of, first_cursor, ColumnStepped, null, value, end, step_over, slots_left}
 use Rattle.image.specs.Inner.Steps.{cursor_of, inner_told, Ranked, Placed}
@@ -125,7 +124,7 @@ module _ (r p im : List ℕ) {h : Head} (e : head_of r p ≡ ok h) where
         }
 
     -- x being what the step at the cursor answered
-    module _ {at : InnerCursor} (g : Going r p im h.columns at) (x : InnerStep)
+    module _ {at : InnerCursor} (g : Going r p im h.columns at) (x : Outcome (Step InnerCursor))
         (q : inner_told x ≡ step_over (slots_at r p im at.column) im at.offset) where
       -- the walk ends as it ends from the step's cursor
       rest_is : (walk_image r p im).how ≡ (row_onward (walk_from r p im) im (inner_told x)).how
@@ -152,20 +151,20 @@ module _ (r p im : List ℕ) {h : Head} (e : head_of r p ≡ ok h) where
             rest = w;
           }
 
-      pub going_null : (j : ℕ) (next : InnerCursor) → x ≡ Null j next → Ranked p x
+      pub going_null : (j : ℕ) (next : InnerCursor) → x ≡ ok (null j next) → Ranked p x
           → (at.column < next.column) × Going r p im h.columns next
       going_null j next y k =
           let f : Further h.columns at.column (length im) (cursor_of next) = further (null j (cursor_of next)) (ap inner_told y) in
-          (f.on, next_going next f (rw y at k) (rest_is ∙ ap (λ (z : InnerStep). (row_onward (walk_from r p im) im (inner_told z)).how) y))
+          (f.on, next_going next f (rw y at k) (rest_is ∙ ap (λ (z : Outcome (Step InnerCursor)). (row_onward (walk_from r p im) im (inner_told z)).how) y))
 
-      pub going_value : (j : ℕ) (v : Value) (next : InnerCursor) → x ≡ Value₁ j v next → Ranked p x
+      pub going_value : (j : ℕ) (v : Value) (next : InnerCursor) → x ≡ ok (value j v next) → Ranked p x
           → (at.column < next.column) × Going r p im h.columns next
       going_value j v next y k =
           let f : Further h.columns at.column (length im) (cursor_of next) = further (value j v (cursor_of next)) (ap inner_told y) in
-          (f.on, next_going next f (rw y at k) (rest_is ∙ ap (λ (z : InnerStep). (row_onward (walk_from r p im) im (inner_told z)).how) y))
+          (f.on, next_going next f (rw y at k) (rest_is ∙ ap (λ (z : Outcome (Step InnerCursor)). (row_onward (walk_from r p im) im (inner_told z)).how) y))
 
-      pub going_end : (used : ℕ) → x ≡ End used → ok used ≡ (walk_image r p im).how
-      going_end used y = sym (rest_is ∙ ap (λ (z : InnerStep). (row_onward (walk_from r p im) im (inner_told z)).how) y)
+      pub going_end : (used : ℕ) → x ≡ ok (end used) → ok used ≡ (walk_image r p im).how
+      going_end used y = sym (rest_is ∙ ap (λ (z : Outcome (Step InnerCursor)). (row_onward (walk_from r p im) im (inner_told z)).how) y)
 
-      pub going_refused : (w : Refusal) → x ≡ Refused w → refused w ≡ (walk_image r p im).how
-      going_refused w y = sym (rest_is ∙ ap (λ (z : InnerStep). (row_onward (walk_from r p im) im (inner_told z)).how) y)
+      pub going_refused : (w : Refusal) → x ≡ refused w → refused w ≡ (walk_image r p im).how
+      going_refused w y = sym (rest_is ∙ ap (λ (z : Outcome (Step InnerCursor)). (row_onward (walk_from r p im) im (inner_told z)).how) y)

@@ -10,9 +10,7 @@ use lib.ListN.{length}
 use Rattle.wire.specs.declared.refusal.Refusal.{Refusal}
 use Rattle.wire.specs.Outcome.{Outcome, ok, refused, refuse, after}
 use Rattle.wire.specs.Bits.{bytes_for, bit_lsb0}
-use Rattle.wire.specs.Stored.{stored, store, answer_of, left_of, written_told}
-use Rattle.wire.specs.declared.store.Written.{Written}
-use Rattle.wire.specs.declared.store.Written.TheVariants.{Done, Refused}
+use Rattle.wire.specs.Stored.{stored, store, answer_of, left_of}
 use Rattle.wire.proofs.Outcomes.{after_after}
 use Rattle.wire.proofs.Stores.{store_fits, store_full, stored_none}
 use Rattle.value.specs.declared.column.Column.{Column}
@@ -24,27 +22,25 @@ use Rattle.record.specs.Entries.{column_of}
 use Rattle.record.specs.Records.{entry_in}
 use Rattle.image.specs.declared.cursor.Cursor.{Cursor}
 use Rattle.image.specs.declared.cursor.Head.{Head}
-use Rattle.image.specs.declared.put.Put.{Put}
-use Rattle.image.specs.declared.put.Put.TheVariants.{Next, Refused as Refused₂}
 use Rattle.image.specs.declared.step.InnerCursor.{InnerCursor}
 use Rattle.image.specs.Present.{first_from, shape_at}
 use Rattle.image.specs.Split.{cursor, slots_at}
 use Rattle.image.specs.Inner.Steps.{Placed, cursor_of}
 use Rattle.image.specs.Rows.{is_null}
-use Rattle.image.specs.Puts.{filled, head_nulls, start_image, slot_bytes, put_over, put_from, put_told}
+use Rattle.image.specs.Puts.{filled, head_nulls, start_image, slot_bytes, put_over, put_from}
 use Rattle.image.proofs.CursorLaws.Heads.{Tested, head_tested, nulls_tested}
 use Rattle.image.proofs.StepLaws.Steps.{slots_none, slots_some}
 use Rattle.image.proofs.PutLaws.Fills.{fill_length}
 
 -- the answer a of a call that writes, and the buffer x that it leaves, are those of w
-abbrev pub Puts : List ℕ → Outcome (Cursor × List ℕ) → Put → List ℕ → Type 0
-Puts buf w a x = (put_told a ≡ answer_of w) × (x ≡ left_of w buf)
+abbrev pub Puts : List ℕ → Outcome (Cursor × List ℕ) → Outcome Cursor → List ℕ → Type 0
+Puts buf w a x = (a ≡ answer_of w) × (x ≡ left_of w buf)
 
 -- a call whose answer is told and whose buffer is as it was
-pub put_refused : {w : Outcome (Cursor × List ℕ)} {z : Refusal} (buf : List ℕ) → w ≡ refused z → Puts buf w (Refused₂ z) buf
+pub put_refused : {w : Outcome (Cursor × List ℕ)} {z : Refusal} (buf : List ℕ) → w ≡ refused z → Puts buf w (refused z) buf
 put_refused buf e = rw e (refl, refl)
 
-pub put_next : {w : Outcome (Cursor × List ℕ)} {c : Cursor} {x : List ℕ} (buf : List ℕ) → w ≡ ok (c, x) → Puts buf w (Next c) x
+pub put_next : {w : Outcome (Cursor × List ℕ)} {c : Cursor} {x : List ℕ} (buf : List ℕ) → w ≡ ok (c, x) → Puts buf w (ok c) x
 put_next buf e = rw e (refl, refl)
 
 -- no bytes, stored within the buffer or at its end
@@ -76,7 +72,7 @@ module _ (r p nulls buf : List ℕ) {h : Head} (e : head_nulls r p nulls ≡ ok 
 
   -- x being the buffer that the code left
   pub start_done : (x : List ℕ) → x ≡ stored (filled h.present nulls) buf 0 → h.nulls ≤ length buf
-      → Puts buf (start_image r p nulls buf) (Next (cursor 0 h.nulls)) x
+      → Puts buf (start_image r p nulls buf) (ok (cursor 0 h.nulls)) x
   start_done x y l = put_next buf (start_goes l ∙ ap (λ (b : List ℕ). ok (cursor 0 h.nulls, b)) (sym y))
 
 -- ---- a step
@@ -136,24 +132,15 @@ module _
             (sym (after_after (stored_bytes (shape_at r f) f lent v) (λ b. store b buf s.offset) (λ x. ok (cursor (f + 1) x.0, x.1)))
             ∙ ap (λ (c : Column). behind (f + 1) (after (stored_bytes (shape_of c) f lent v) (λ b. store b buf s.offset))) (sym g))
 
-        module _ (a : Written) (x : List ℕ)
-            (q : written_told a ≡ answer_of (write_value (shape_of k) f lent v buf s.offset))
-            (y : x ≡ left_of (write_value (shape_of k) f lent v buf s.offset) buf) where
-          answer_is : answer_of put ≡ after (written_told a) (λ m. ok (cursor (f + 1) m))
-          answer_is =
-              ap answer_of put_value ∙ behind_answer (f + 1) (write_value (shape_of k) f lent v buf s.offset)
-              ∙ ap (λ (w : Outcome ℕ). after w (λ m. ok (cursor (f + 1) m))) (sym q)
-
-          left_is : x ≡ left_of put buf
-          left_is = y
-              ∙ sym (ap (λ (o : Outcome (Cursor × List ℕ)). left_of o buf) put_value
-              ∙ behind_left (f + 1) buf (write_value (shape_of k) f lent v buf s.offset))
-
-          pub put_done : (m : ℕ) → a ≡ Done m → Puts buf put (Next (cursor (f + 1) m)) x
-          put_done m z = (sym (rw z at answer_is), left_is)
-
-          pub put_bad : (w : Refusal) → a ≡ Refused w → Puts buf put (Refused₂ w) x
-          put_bad w z = (sym (rw z at answer_is), left_is)
+        -- a being what its writer answered, and x the buffer that it left
+        pub put_wrote : (a : Outcome ℕ) (x : List ℕ) → a ≡ answer_of (write_value (shape_of k) f lent v buf s.offset)
+            → x ≡ left_of (write_value (shape_of k) f lent v buf s.offset) buf
+            → Puts buf put (after a (λ m. ok (cursor (f + 1) m))) x
+        put_wrote a x q y =
+            let w = write_value (shape_of k) f lent v buf s.offset in (
+              sym (ap answer_of put_value ∙ behind_answer (f + 1) w ∙ ap (λ (z : Outcome ℕ). after z (λ m. ok (cursor (f + 1) m))) (sym q)),
+              y ∙ sym (ap (λ (o : Outcome (Cursor × List ℕ)). left_of o buf) put_value ∙ behind_left (f + 1) buf w),
+            )
 
 -- a step from a column above the record's
 pub put_above : (r p nulls : List ℕ) (c : Cursor) (lent : List ℕ) (v : Value) (buf : List ℕ) {h : Head} → head_nulls r p nulls ≡ ok h

@@ -14,10 +14,8 @@ use Rattle.wire.specs.Bits.{bit_lsb0}
 use Rattle.wire.proofs.Outcomes.{after_is_ok, by_test, ok_not_refused, same_ok}
 use Rattle.value.specs.declared.column.Column.{Column}
 use Rattle.value.specs.declared.datum.Value.{Value}
-use Rattle.value.specs.declared.reading.Read.{Read}
-use Rattle.value.specs.declared.reading.Read.TheVariants.{Got, Refused}
 use Rattle.value.specs.Columns.{shape_of}
-use Rattle.value.specs.Reading.{read_value, read_told}
+use Rattle.value.specs.Reading.{read_value}
 use Rattle.record.specs.Entries.{column_of}
 use Rattle.record.specs.Records.{most_columns, count_of, entry_in}
 use Rattle.image.specs.declared.cursor.Cursor.{Cursor}
@@ -74,20 +72,15 @@ module _ {r p : List ℕ} {n : ℕ} {s : InnerCursor} (h : Placed r p n s) {f : 
     step_null u b = rw (slots_some im u, b)
 
     -- the value that the record's column says
-    module _ (u : f ≡ n → ⊥) (b : bit_lsb0 im s.bit.0 ≡ false) {k : Column} (g : k ≡ column_of (entry_in r f)) (d : Read)
-        (q : read_told d ≡ read_value (shape_of k) f im o) where
-      abbrev then : Outcome (Value × ℕ) → Outcome ColumnStepped
+    module _ (u : f ≡ n → ⊥) (b : bit_lsb0 im s.bit.0 ≡ false) {k : Column} (g : k ≡ column_of (entry_in r f)) where
+      abbrev pub then : Outcome (Value × ℕ) → Outcome ColumnStepped
       then w = after w (λ x. ok (value f x.0 (cursor (f + 1) x.1)))
 
-      step_read : step_over (slots_at r p im s.column) im o ≡ then (read_told d)
+      -- a being what the reader answered
+      pub step_read : (a : Outcome (Value × ℕ)) → a ≡ read_value (shape_of k) f im o
+          → step_over (slots_at r p im s.column) im o ≡ then a
       unfolding step_over shape_at
-      step_read = rw (slots_some im u, b) (ap then (ap (λ (c : Column). read_value (shape_of c) f im o) (sym g) ∙ sym q))
-
-      pub step_got : (v : Value) (x : ℕ) → d ≡ Got v x → step_over (slots_at r p im s.column) im o ≡ ok (value f v (cursor (f + 1) x))
-      step_got v x y = rw y at step_read
-
-      pub step_bad : (z : Refusal) → d ≡ Refused z → step_over (slots_at r p im s.column) im o ≡ refused z
-      step_bad z y = rw y at step_read
+      step_read a q = rw (slots_some im u, b) (ap then (ap (λ (c : Column). read_value (shape_of c) f im o) (sym g) ∙ sym q))
 
 -- ---- a cursor that passes the tests
 pub left_goes : (r p im : List ℕ) (c : Cursor) {h : Head} → head_of r p ≡ ok h → c.column ≤ h.columns → h.nulls ≤ length im

@@ -1,20 +1,13 @@
 -- `image::put::start` meets its contract. Assumes nothing.
-use mathlib.Core.Path.{refl, sym, ap, ◌∙◌}
+use mathlib.Core.Path.{sym, ap, ◌∙◌}
 use Rattle.wire.specs.Outcome.{refused}
-use Rattle.image.specs.Split.{head_told}
-use Rattle.image.specs.Puts.{start_image}
 use Rattle.image.proofs.PutLaws.Puts.{nulls_size, nulls_fit, start_full, start_done, put_refused}
 use Rattle.image.proofs.put.start.Goals as goal
-
-pub returns-in-Refused : goal.returns-in-Refused
-unfolding start_image
-returns-in-Refused c = rw (sym c.read_head_nulls.ensures ∙ ap head_told c.in-Refused.is) (record { result_value = refl; buf_after = refl })
 
 pub returns-then-buf-offset : goal.returns-then-buf-offset
 returns-then-buf-offset c = let a = c.args in
     let q =
-    sym c.read_head_nulls.ensures
-    ∙ ap head_told c.in-Read.is in
+    sym c.in_ok-head.ensures in
     let p = put_refused a.buf.now
     (start_full a.profile.now a.presence.now a.nulls.now a.buf.now q c.if-buf-offset.true
     ∙ ap refused (sym c.refuse.ensures)) in record { result_value = p.0; buf_after = p.1 }
@@ -22,8 +15,7 @@ returns-then-buf-offset c = let a = c.args in
 pub put_nulls-requires : goal.put_nulls-requires
 put_nulls-requires c = let a = c.args in
     let q =
-    sym c.read_head_nulls.ensures
-    ∙ ap head_told c.in-Read.is in (
+    sym c.in_ok-head.ensures in (
       nulls_size a.profile.now a.presence.now a.nulls.now a.buf.now q,
       nulls_fit a.profile.now a.presence.now a.nulls.now a.buf.now q c.if-buf-offset.false,
     )
@@ -31,6 +23,5 @@ put_nulls-requires c = let a = c.args in
 pub returns : goal.returns
 returns c = let a = c.args in
     let p = start_done a.profile.now a.presence.now a.nulls.now a.buf.now
-    (sym c.read_head_nulls.ensures
-    ∙ ap head_told c.in-Read.is) _ c.put_nulls.ensures
+    (sym c.in_ok-head.ensures) _ c.put_nulls.ensures
     c.if-buf-offset.false in record { result_value = p.0; buf_after = p.1 }

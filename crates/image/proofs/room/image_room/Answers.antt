@@ -1,16 +1,12 @@
 -- `image::room::image_room` meets its contract. The loop's invariant: the bytes so far and those of the columns that are left are all of
 -- it. Assumes nothing.
-use mathlib.Core.Path.{sym, ap, ◌∙◌}
+use mathlib.Core.Path.{sym}
 use native.Mathlib.Omega.{arith}
-use Rattle.image.specs.Split.{head_told}
-use Rattle.image.proofs.RoomLaws.Adds.{column_room, adding_first, adding_next, adding_end, room_read, room_refused}
+use Rattle.image.proofs.RoomLaws.Adds.{column_room, adding_first, adding_next, adding_end, room_read}
 use Rattle.image.proofs.room.image_room.Goals as goal
 
-pub returns-in-Refused : goal.returns-in-Refused
-returns-in-Refused c = room_refused _ _ (sym c.read_head.ensures ∙ ap head_told c.in-Refused.is)
-
 pub loop-column-init : goal.loop-column-init
-loop-column-init c = adding_first _ _ (sym c.read_head.ensures ∙ ap head_told c.in-Read.is)
+loop-column-init c = adding_first _ _ (sym c.in_ok-head.ensures)
 
 pub overflow_add-bytes : goal.overflow_add-bytes
 overflow_add-bytes c = omega (arith, c.loop-column.invariant.few, c.loop-column.invariant.at, c.loop-column.invariant.small, c.column_room-bytes.ensures.1)
@@ -27,5 +23,5 @@ loop-column-preserved c = adding_next _ _ _ _ _ _ c.loop-column.invariant c.loop
 
 pub returns : goal.returns
 returns c =
-    let e = sym c.read_head.ensures ∙ ap head_told c.in-Read.is in
+    let e = sym c.in_ok-head.ensures in
     room_read _ _ e _ (adding_end _ _ _ _ _ c.loop-column.invariant (omega arith))

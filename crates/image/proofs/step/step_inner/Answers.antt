@@ -1,8 +1,10 @@
 -- `image::step::step_inner` meets its contract. Assumes nothing.
 use mathlib.Core.Path.{sym, ap, ◌∙◌}
 use native.Mathlib.Omega.{arith}
+use Rattle.std.proofs.lemmas.Result.{err_from_is_err_and}
+use Rattle.wire.specs.Outcome.{ok, refused}
 use Rattle.record.specs.Entries.{column_of}
-use Rattle.image.proofs.StepLaws.Steps.{column_below, rank_next, rank_small, step_end, step_null, step_got, step_bad}
+use Rattle.image.proofs.StepLaws.Steps.{column_below, rank_next, rank_small, step_end, step_null, step_read}
 use Rattle.image.proofs.step.step_inner.Goals as goal
 
 pub returns-then-column-columns : goal.returns-then-column-columns
@@ -26,27 +28,19 @@ returns-then-bit_lsb0 c = record {
   ranked = rank_next c.requires c.first_set-column.ensures c.if-column-columns.false;
 }
 
-pub returns-in-Got : goal.returns-in-Got
-returns-in-Got c = let g =
-    c.column_of-stored.ensures
-    ∙ ap column_of c.entry_in.ensures in record {
-      result_value = sym (step_got c.requires
-          c.first_set-column.ensures _ _ c.if-column-columns.false (sym c.bit_lsb0.ensures
-          ∙ c.if-bit_lsb0.false) g c.read_value.result
-          c.read_value.ensures _ _ c.in-Got.is);
-      ranked = rank_next c.requires c.first_set-column.ensures
-          c.if-column-columns.false;
-    }
-
-pub returns-in-Refused : goal.returns-in-Refused
-returns-in-Refused c =
-    let g =
-    c.column_of-stored.ensures ∙ ap column_of c.entry_in.ensures in record {
-      result_value = sym (step_bad c.requires
-          c.first_set-column.ensures _ _
-          c.if-column-columns.false
-          (sym c.bit_lsb0.ensures
-          ∙ c.if-bit_lsb0.false) g c.read_value.result
-          c.read_value.ensures _ c.in-Refused.is);
+pub returns-in_err-value : goal.returns-in_err-value
+returns-in_err-value c =
+    let g = c.column_of-stored.ensures ∙ ap column_of c.entry_in.ensures in
+    let p = err_from_is_err_and c.from_residual.result c.from_residual.ensures.1 in
+    rw (p.1, p.2) (record {
+      result_value = sym (step_read c.requires c.first_set-column.ensures _ _ c.if-column-columns.false (sym c.bit_lsb0.ensures ∙ c.if-bit_lsb0.false) g (refused c.in_err-value.field-0.0) c.in_err-value.ensures);
       ranked = tt;
+    })
+
+pub returns : goal.returns
+returns c =
+    let g = c.column_of-stored.ensures ∙ ap column_of c.entry_in.ensures in
+    record {
+      result_value = sym (step_read c.requires c.first_set-column.ensures _ _ c.if-column-columns.false (sym c.bit_lsb0.ensures ∙ c.if-bit_lsb0.false) g (ok (c.in_ok-value.value, c.in_ok-value.offset)) c.in_ok-value.ensures);
+      ranked = rank_next c.requires c.first_set-column.ensures c.if-column-columns.false;
     }

@@ -1,23 +1,16 @@
 -- `image::cursor::Cursor::put` meets its contract. Assumes nothing.
-use mathlib.Core.Path.{refl, sym, ap, ◌∙◌}
+use mathlib.Core.Path.{sym, ap, ◌∙◌}
 use native.Mathlib.Omega.{arith}
 use Rattle.wire.specs.Outcome.{refused}
 use Rattle.record.proofs.Valid.{valid_few}
-use Rattle.image.specs.Split.{head_told}
-use Rattle.image.specs.Puts.{put_from}
 use Rattle.image.proofs.CursorLaws.Heads.{head_tested, nulls_tested}
 use Rattle.image.proofs.PutLaws.Puts.{put_above, put_goes, put_refused}
 use Rattle.image.proofs.cursor.Cursor.put.Goals as goal
 
-pub returns-in-Refused : goal.returns-in-Refused
-unfolding put_from
-returns-in-Refused c = rw (sym c.read_head_nulls.ensures ∙ ap head_told c.in-Refused.is) (record { result_value = refl; buf_after = refl })
-
 pub returns-then-columns-column : goal.returns-then-columns-column
 returns-then-columns-column c = let a = c.args in
     let q =
-    sym c.read_head_nulls.ensures
-    ∙ ap head_told c.in-Read.is in
+    sym c.in_ok-head.ensures in
     let p = put_refused a.buf.now
     (put_above a.profile.now a.presence.now a.nulls.now a.self a.lent.now a.value a.buf.now q
     c.if-columns-column.true ∙ ap refused (sym c.refuse.ensures)) in record { result_value = p.0; buf_after = p.1 }
@@ -25,8 +18,7 @@ returns-then-columns-column c = let a = c.args in
 pub put_inner-requires : goal.put_inner-requires
 put_inner-requires c = let a = c.args in
     let q =
-    sym c.read_head_nulls.ensures
-    ∙ ap head_told c.in-Read.is in
+    sym c.in_ok-head.ensures in
     let t = head_tested a.profile.now a.presence.now (nulls_tested a.profile.now a.presence.now a.nulls.now q).0 in
     record {
       count = t.columns;
@@ -40,7 +32,6 @@ returns c =
     let a =
     c.args in
     let q =
-    sym c.read_head_nulls.ensures
-    ∙ ap head_told c.in-Read.is in
+    sym c.in_ok-head.ensures in
     rw (put_goes a.profile.now a.presence.now a.nulls.now a.self a.lent.now a.value a.buf.now q
     c.if-columns-column.false) (record { result_value = c.put_inner.ensures.result_value; buf_after = c.put_inner.ensures.buf_after })
