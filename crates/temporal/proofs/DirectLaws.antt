@@ -1,7 +1,9 @@
 -- The functions that read one storage each tell what the definitions say. Assumes nothing.
+use Rattle.std.specs.Prelude.{Result, Ok, Err}
 use Prim.Native.Nat.{ℕ, ◌+◌, ◌^◌, ◌≤◌, ◌<◌, min}
 use mathlib.Core.Path.{◌≡◌, refl, sym}
 use mathlib.Core.Bool.{true, false}
+use mathlib.Core.Logic.{◌⊎◌, inl, inr}
 use mathlib.Core.List.{List}
 use native.Mathlib.Nat.{add-zero, min-eq_left}
 use native.Mathlib.Omega.{arith}
@@ -9,17 +11,20 @@ use lib.ListN.{length, take, drop}
 use Rattle.wire.specs.Outcome.{refuse}
 use Rattle.wire.specs.Number.{le_value, be_value}
 use Rattle.temporal.specs.declared.storage.Storage.{Storage}
-use Rattle.temporal.specs.declared.storage.Storage.TheVariants.{Newdate, Timestamp2, Datetime2, Time2}
+use Rattle.temporal.specs.declared.storage.Storage.TheVariants.{Timestamp, Newdate, Timestamp2, Datetime2, Time2}
 use Rattle.temporal.specs.declared.misc.SignedTime.{SignedTime}
-use Rattle.temporal.specs.declared.judge.Ranged.{Ranged}
-use Rattle.temporal.specs.declared.judge.Ranged.TheVariants.{In, Out}
-use Rattle.temporal.specs.Fraction.{fraction_bytes}
+use Rattle.temporal.specs.declared.stored.Stored.{Stored}
+use Rattle.temporal.specs.declared.parts.Temporal.{Temporal}
+use Rattle.temporal.specs.Fraction.{fraction_bytes, unit_of}
+use Rattle.temporal.specs.Ranges.{clock_fault}
 use Rattle.temporal.specs.Times.{signed_time, time2_of, time_by}
 use Rattle.temporal.specs.Datetimes.{signed_datetime, datetime2_of, datetime2_fault, date_of, seconds_of}
 use Rattle.temporal.specs.Storage.{whole_bytes, fraction_size, is_big, temporal_of, fault_of}
 use Rattle.temporal.specs.Inner.Ranged.{ranged, ranged_time, ranged_signed, ranged_date, ranged_seconds, ranged_told}
+use Rattle.temporal.specs.Inner.Stored.{StoredAt}
 use Rattle.temporal.specs.Reading.{temporal_size, whole_in, units_in, read_temporal}
-use Rattle.temporal.proofs.Steps.{little_whole, whole_big, whole_little, units_big, units_little, read_in, read_out, read_short}
+use Rattle.temporal.proofs.Units.{fraction_small}
+use Rattle.temporal.proofs.Steps.{little_whole, whole_big, whole_little, units_big, units_little, read_judged, read_short}
 
 -- ---- the widths that a reader of one storage goes by are those of the storage
 pub record Big (storage : Storage) (k w : ℕ) : Type 0 where
@@ -29,37 +34,47 @@ pub record Big (storage : Storage) (k w : ℕ) : Type 0 where
   pub few : w ≤ 3
   pub big : is_big storage ≡ true
 
-module _ (m0 w : ℕ) (e : (w ≡ fraction_bytes m0) × (w ≤ 3)) where
-  pub timestamp2_big : Big (Timestamp2 m0) 4 w
+module _ (m0 : ℕ) where
+  pub timestamp2_big : Big (Timestamp2 m0) 4 (fraction_bytes m0)
   unfolding whole_bytes fraction_size is_big
-  timestamp2_big = record { whole = refl; most = omega arith; units = e.0; few = e.1; big = refl }
+  timestamp2_big = record { whole = refl; most = omega arith; units = refl; few = fraction_small m0; big = refl }
 
-  pub datetime2_big : Big (Datetime2 m0) 5 w
+  pub datetime2_big : Big (Datetime2 m0) 5 (fraction_bytes m0)
   unfolding whole_bytes fraction_size is_big
-  datetime2_big = record { whole = refl; most = omega arith; units = e.0; few = e.1; big = refl }
+  datetime2_big = record { whole = refl; most = omega arith; units = refl; few = fraction_small m0; big = refl }
 
-  pub time2_big : Big (Time2 m0) 3 w
+  pub time2_big : Big (Time2 m0) 3 (fraction_bytes m0)
   unfolding whole_bytes fraction_size is_big
-  time2_big = record { whole = refl; most = omega arith; units = e.0; few = e.1; big = refl }
+  time2_big = record { whole = refl; most = omega arith; units = refl; few = fraction_small m0; big = refl }
 
   -- ---- and what it judges is what the storage's row of the table says
-  pub timestamp2_judged : (a f : ℕ)
+  pub timestamp2_judged : (w a f : ℕ) → w ≡ fraction_bytes m0
       → ranged_seconds (seconds_of w a f) ≡ ranged (fault_of (Timestamp2 m0) a f) (temporal_of (Timestamp2 m0) a f)
-  unfolding temporal_of fault_of ranged_seconds
-  timestamp2_judged a f = rw e.0
+  unfolding temporal_of fault_of
+  timestamp2_judged w a f e = rw e
 
-  pub datetime2_judged : (a f : ℕ)
+  pub datetime2_judged : (w a f : ℕ) → w ≡ fraction_bytes m0
       → ranged_signed (signed_datetime w a f) ≡ ranged (fault_of (Datetime2 m0) a f) (temporal_of (Datetime2 m0) a f)
-  unfolding temporal_of fault_of ranged_signed datetime2_of datetime2_fault
-  datetime2_judged a f = rw e.0
+  unfolding temporal_of fault_of datetime2_of datetime2_fault
+  datetime2_judged w a f e = rw e
 
-  pub time2_judged : (a f : ℕ) (p : SignedTime) → p ≡ signed_time w a f
+  pub time2_judged : (w a f : ℕ) → w ≡ fraction_bytes m0 → (p : SignedTime) → p ≡ signed_time w a f
       → ranged_time (time_by 64 p.negative p.whole p.micros) ≡ ranged (fault_of (Time2 m0) a f) (temporal_of (Time2 m0) a f)
-  unfolding temporal_of fault_of ranged_time time2_of
-  time2_judged a f p g = rw (g, e.0)
+  unfolding temporal_of fault_of time2_of
+  time2_judged w a f e p g = rw (g, e)
+
+-- seconds, with a fraction or with none
+pub seconds_judged : (k : Storage) (w a f : ℕ) → (k ≡ Timestamp) ⊎ ((m0 : ℕ) × (k ≡ Timestamp2 m0)) → w ≡ fraction_size k → f < 256 ^ w
+    → ranged_seconds (seconds_of w a f) ≡ ranged (fault_of k a f) (temporal_of k a f)
+unfolding temporal_of fault_of fraction_size seconds_of clock_fault unit_of
+seconds_judged k w a f (inl e) p h =
+    let q : w ≡ 0 = rw e at p in
+    let z : f ≡ 0 = let b : f < 256 ^ 0 = rw q at h in omega arith in
+    rw (e, q, z)
+seconds_judged k w a f (inr x) p h = rw x.1 (timestamp2_judged x.0 w a f (rw x.1 at p))
 
 pub newdate_judged : (a : ℕ) → ranged_date (date_of a) ≡ ranged (fault_of Newdate a 0) (temporal_of Newdate a 0)
-unfolding temporal_of fault_of ranged_date
+unfolding temporal_of fault_of
 newdate_judged a = refl
 
 -- the size
@@ -73,44 +88,39 @@ little_size storage k e b = rw (little_whole storage b, add-zero (whole_bytes st
 
 -- ---- at a place; `place` is what a refusal tells
 module _ (storage : Storage) (place : ℕ) (s : List ℕ) (at : ℕ) where
-  -- all bytes are there, and a and f are their numbers
-  told : (a f : ℕ) → at + temporal_size storage ≤ length s → a ≡ whole_in storage (take (temporal_size storage) (drop at s))
-      → f ≡ units_in storage (take (temporal_size storage) (drop at s))
-      → (r : Ranged) → r ≡ ranged (fault_of storage a f) (temporal_of storage a f)
-      → ranged_told r (at + temporal_size storage) place ≡ read_temporal storage place s at
-  told a f there x y (In t) e = sym (read_in storage place s at a f there x y t (sym e))
-  told a f there x y (Out n) e = sym (read_out storage place s at a f there x y n (sym e))
-
   -- the most significant byte first
   module _ (k w : ℕ) (b : Big storage k w) where
-    pub big_told : (a f : ℕ) → at + (k + w) ≤ length s → (a ≡ be_value (take (min k 8) (drop at s))) × (a < 256 ^ min k 8)
-        → (f ≡ be_value (take w (drop (at + k) s))) × (f < 256 ^ w)
-        → (r : Ranged) → r ≡ ranged (fault_of storage a f) (temporal_of storage a f)
-        → ranged_told r (at + (k + w)) place ≡ read_temporal storage place s at
-    big_told a f there x y r e =
+    pub big_told : (n : Stored) (next : ℕ) → StoredAt k w s at n next
+        → (r : Result Temporal ℕ) → r ≡ ranged (fault_of storage n.whole n.units) (temporal_of storage n.whole n.units)
+        → ranged_told r next place ≡ read_temporal storage place s at
+    big_told n next x r e =
         let few = b.few in
-        let l : w ≤ 8 = omega arith in
-        let y₁ : (f ≡ be_value (take (min w 8) (drop (at + k) s))) × (f < 256 ^ min w 8) = rw (min-eq_left l) y in
-        let n = big_size storage k w b in
-        let a₁ = whole_big storage s at a k b.whole b.most b.big x.0 x.1 in
-        let f₁ = units_big storage s at f k w b.whole b.units b.few b.big y₁.0 y₁.1 in
-        let there₁ : at + temporal_size storage ≤ length s = rw (← n) there in
-        rw n (told a f there₁ a₁.0 f₁.0 r e)
+        let most = min-eq_left b.most in
+        let l : min w 8 ≡ w = omega arith in
+        let m = big_size storage k w b in
+        let p : n.whole ≡ be_value (take (min k 8) (drop at s)) = rw most x.whole in
+        let p₁ : n.whole < 256 ^ min k 8 = rw most x.fits in
+        let q : n.units ≡ be_value (take (min w 8) (drop (at + k) s)) = rw l x.units in
+        let q₁ : n.units < 256 ^ min w 8 = rw (l, ← x.width) n.told in
+        let a = whole_big storage s at n.whole k b.whole b.most b.big p p₁ in
+        let f = units_big storage s at n.units k w b.whole b.units b.few b.big q q₁ in
+        let there : at + temporal_size storage ≤ length s = rw (← m) x.there in
+        rw (x.behind, m) (read_judged storage place s at n.whole n.units there a.0 f.0 r e)
 
     pub big_short : length s < at + (k + w) → read_temporal storage place s at ≡ refuse 9 place
     big_short h = read_short storage place s at (rw (← big_size storage k w b) h)
 
   -- the least significant byte first
   module _ (k : ℕ) (e : k ≡ whole_bytes storage) (b : is_big storage ≡ false) where
-    pub little_told : (a : ℕ) → k ≤ 8 → at + k ≤ length s → (a ≡ le_value (take (min k 8) (drop at s))) × (a < 256 ^ min k 8)
-        → (r : Ranged) → r ≡ ranged (fault_of storage a 0) (temporal_of storage a 0)
+    pub little_told : (a : ℕ) → k ≤ 8 → at + k ≤ length s → a ≡ le_value (take (min k 8) (drop at s)) → a < 256 ^ min k 8
+        → (r : Result Temporal ℕ) → r ≡ ranged (fault_of storage a 0) (temporal_of storage a 0)
         → ranged_told r (at + k) place ≡ read_temporal storage place s at
-    little_told a h there x r g =
+    little_told a h there x y r g =
         let n = little_size storage k e b in
-        let a₁ = whole_little storage s at a k e h b x.0 x.1 in
+        let a₁ = whole_little storage s at a k e h b x y in
         let f₁ = units_little storage (take (temporal_size storage) (drop at s)) b in
         let there₁ : at + temporal_size storage ≤ length s = rw (← n) there in
-        rw n (told a 0 there₁ a₁.0 f₁.0 r g)
+        rw n (read_judged storage place s at a 0 there₁ a₁.0 f₁.0 r g)
 
     pub little_short : length s < at + k → read_temporal storage place s at ≡ refuse 9 place
     little_short h = read_short storage place s at (rw (← little_size storage k e b) h)

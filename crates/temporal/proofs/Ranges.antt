@@ -1,7 +1,8 @@
 -- Ranges: a judgement with no part out of range says that each is in it, and the other way round; and so does the domain's test. Assumes
 -- nothing.
-use Prim.Native.Nat.{ℕ, suc, ◌≤◌}
-use mathlib.Core.Path.{◌≡◌, refl, sym}
+use Rattle.std.specs.Prelude.{Result, Ok, Err, IfOk, IfErr, is_ok}
+use Prim.Native.Nat.{ℕ, suc, ◌≤◌, ◌<◌}
+use mathlib.Core.Path.{◌≡◌, refl, sym, ◌∙◌}
 use mathlib.Core.Bool.{Bool, true, false, false≢true}
 use mathlib.Core.Logic.{dite}
 use native.Mathlib.Decide.{dec_le}
@@ -99,6 +100,10 @@ day_first y mo d o h =
     (λ b. simp (lt-leb mo 12 (omega arith))))
     (λ a. simp (lt-leb y 9999 (omega arith)))
 
+-- and it is told
+pub day_out : (y mo d o p : ℕ) → p ≡ day_fault y mo d 0 → 0 < p → day_fault y mo d o ≡ p
+day_out y mo d o p e h = day_first y mo d o (λ z. omega arith) ∙ sym e
+
 -- the two judges agree: no part is out of range exactly where all are in it
 bool_same : (a : Bool) (n : ℕ) → (a ≡ true → n ≡ 0) → (n ≡ 0 → a ≡ true) → a ≡ eqb n 0
 bool_same true n f g = sym (eq-eqb n 0 (f refl))
@@ -111,3 +116,8 @@ clock_same top h m s u = bool_same _ _ (λ e. clock_none (clock_of top h m s u e
 -- the same of a day
 pub day_same : (y mo d : ℕ) → in_day y mo d ≡ eqb (day_fault y mo d 0) 0
 day_same y mo d = bool_same _ _ (λ e. day_none 0 (day_of y mo d e)) (λ e. day_in (day_clear y mo d 0 e).0)
+
+-- a judge's answer says whether there is a fault
+pub judged_ok : (r : Result (Unit {0}) ℕ) (n : ℕ) → IfOk r (λ _. n ≡ 0) → IfErr r (λ part. (part ≡ n) × (0 < part)) → is_ok r ≡ eqb n 0
+judged_ok (Ok x) n a b = sym (eq-eqb n 0 a)
+judged_ok (Err p) n a b = sym (ne_eqb n 0 (λ e. omega arith))

@@ -1,29 +1,39 @@
 -- What the functions of the crate do, step by step, is what the definitions say. Assumes nothing.
+use Rattle.std.specs.Prelude.{Result, Ok, Err}
 use Prim.Native.Nat.{ℕ, zero, suc, ◌+◌, ◌^◌, ◌≤◌, ◌<◌, min}
 use mathlib.Core.Path.{◌≡◌, refl, sym}
-use mathlib.Core.Bool.{true, false, true≢false}
+use mathlib.Core.Bool.{Bool, true, false, cond, true≢false}
 use mathlib.Core.List.{List, [], ◌∷◌, ◌++◌}
 use native.Mathlib.Nat.{zero-add, suc-add, add-zero, min-eq_left}
 use native.Mathlib.Omega.{arith}
-use borrow.Author.Tests.{le-leb, lt-leb}
+use borrow.Author.Tests.{le-leb, lt-leb, leb-true, leb-false}
 use lib.ListN.{length, take, drop}
 use lib.Seq.{take-take, drop-drop, take-nil}
-use lib.Dec.{eqb}
-use Rattle.wire.specs.Outcome.{Outcome, ok, refuse, refused, out_of}
+use lib.Dec.{eqb, leb}
+use Rattle.wire.specs.declared.refusal.Refusal.{Refusal}
+use Rattle.wire.specs.Outcome.{Outcome, ok, refuse, refused, why, out_of}
+use Rattle.wire.proofs.Outcomes.{test_is_ok, test_refuses}
 use Rattle.wire.specs.Number.{le_value, be_value, le_bytes, be_bytes}
 use Rattle.wire.specs.Stored.{answer_of, left_of}
-use Rattle.wire.proofs.Outcomes.{by_test}
 use Rattle.wire.proofs.Stores.{Wrote}
 use Rattle.temporal.specs.declared.storage.Storage.{Storage}
 use Rattle.temporal.specs.declared.storage.Storage.TheVariants.{Timestamp, OldTime, OldDatetime, Newdate, Timestamp2, Datetime2}
 use Rattle.temporal.specs.declared.storage.Storage.TheVariants.{Time2}
 use Rattle.temporal.specs.declared.parts.Temporal.{Temporal}
-use Rattle.temporal.specs.declared.judge.Ranged.TheVariants.{In, Out}
 use Rattle.temporal.specs.Storage.{whole_bytes, fraction_size, is_big, temporal_of, fault_of, whole_of, units_of}
-use Rattle.temporal.specs.Inner.Ranged.{ranged}
+use Rattle.temporal.specs.Inner.Ranged.{ranged, ranged_told}
 use Rattle.temporal.specs.Domains.{temporal_domain}
 use Rattle.temporal.specs.Reading.{temporal_size, whole_in, units_in, temporal_fault, temporal_decode, temporal_bytes, read_temporal}
 use Rattle.temporal.specs.Reading.{write_temporal}
+
+-- ---- the bytes of an image are there up to their end, or they end early
+pub ends : (s : List ℕ) (at n place next : ℕ) → cond (leb (at + n) (length s)) (ok (at + n)) (refuse 9 place) ≡ ok next
+    → (at + n ≤ length s) × (next ≡ at + n)
+ends s at n place next e = let x = test_is_ok (leb (at + n) (length s)) (at + n) _ next e in (leb-true _ _ x.0, sym x.1)
+
+pub ends_not : (s : List ℕ) (at n place : ℕ) (w : Refusal) → cond (leb (at + n) (length s)) (ok (at + n)) (refuse 9 place) ≡ refused w
+    → (length s < at + n) × (w ≡ why 9 place)
+ends_not s at n place w e = let x = test_refuses (leb (at + n) (length s)) (at + n) _ w e in (leb-false _ _ x.0, sym x.1)
 
 -- ---- the two numbers of the bytes at a place
 -- the part after k bytes, of k + w
@@ -81,26 +91,20 @@ unfolding units_in
 units_little storage b e = rw (e, little_whole storage e) (refl, omega arith)
 
 -- ---- what was judged is what is read
+-- a judgement, told: by its test
+told_by : (b : Bool) (place part : ℕ) (t : Temporal) (next : ℕ)
+    → ranged_told (cond b (Ok t) (Err part)) next place ≡ cond b (ok (t, next)) (refused (out_of place part))
+told_by true place part t next = refl
+told_by false place part t next = refl
+
 module _ (storage : Storage) (place : ℕ) (s : List ℕ) (at a f : ℕ) (there : at + temporal_size storage ≤ length s)
     (x : a ≡ whole_in storage (take (temporal_size storage) (drop at s))) (y : f ≡ units_in storage (take (temporal_size storage) (drop at s)))
   where
-    -- all parts in range
-    pub read_in : (t : Temporal) → ranged (fault_of storage a f) (temporal_of storage a f) ≡ In t
-        → read_temporal storage place s at ≡ ok (t, at + temporal_size storage)
+    pub read_judged : (r : Result Temporal ℕ) → r ≡ ranged (fault_of storage a f) (temporal_of storage a f)
+        → ranged_told r (at + temporal_size storage) place ≡ read_temporal storage place s at
     unfolding read_temporal temporal_fault temporal_decode
-    read_in t e =
-        by_test (eqb (fault_of storage a f) 0) _ _ _ e
-        (λ z g. let p : temporal_of storage a f ≡ t = cc in rw (le-leb _ _ there, ← x, ← y, z, p))
-        (λ z g. let q : ◌≡◌ {A = ℕ} 0 1 = cc in absurd (omega arith))
-
-    -- one that is not
-    pub read_out : (n : ℕ) → ranged (fault_of storage a f) (temporal_of storage a f) ≡ Out n
-        → read_temporal storage place s at ≡ refused (out_of place n)
-    unfolding read_temporal temporal_fault temporal_decode
-    read_out n e =
-        by_test (eqb (fault_of storage a f) 0) _ _ _ e
-        (λ z g. let q : ◌≡◌ {A = ℕ} 0 1 = cc in absurd (omega arith))
-        (λ z g. let p : fault_of storage a f ≡ n = cc in rw (le-leb _ _ there, ← x, ← y, z, p))
+    read_judged r e =
+        rw (e, le-leb _ _ there, ← x, ← y) (told_by (eqb (fault_of storage a f) 0) place (fault_of storage a f) (temporal_of storage a f) _)
 
 -- bytes missing
 pub read_short : (storage : Storage) (place : ℕ) (s : List ℕ) (at : ℕ) → length s < at + temporal_size storage

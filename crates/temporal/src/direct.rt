@@ -1,32 +1,30 @@
 // The temporals of types 14, 17, 18 and 19, each read by a function of its own, with constant widths: for a loop that knows its column's
 // type. Only that loop calls them, and `read_temporal` must not: a function with a single caller the compiler puts whole into that caller.
-ghost use Rattle.std.specs.Prelude.{◌≡◌, ◌≤◌, ◌<◌, ◌^◌, take, drop};
+ghost use Rattle.std.specs.Prelude.{◌≡◌, ◌+◌, ◌≤◌, ◌<◌, ◌^◌, length, take, drop, IfOk, IfErr};
 ghost use Rattle.wire.specs.Number.{be_value};
-ghost use Rattle.wire.specs.Outcome.{refused, why};
+ghost use Rattle.wire.specs.Outcome.{why};
 ghost use Rattle.temporal.specs.declared.storage.Storage.TheVariants.{Newdate, Timestamp2, Datetime2, Time2};
-ghost use Rattle.temporal.specs.Inner.Ranged.{ranged_told};
+ghost use Rattle.temporal.specs.Fraction.{fraction_bytes};
+ghost use Rattle.temporal.specs.Inner.Stored.{StoredAt};
 ghost use Rattle.temporal.specs.Reading.{read_temporal};
 
-use crate::fraction::fraction_bytes;
-use crate::judge::{Ranged, date_of};
+use crate::fraction::Width;
+use crate::judge::date_of;
 use crate::misc::{
     datetime_from_packed, my_datetime_packed_from_binary, my_time_packed_from_binary,
     my_timestamp_from_binary, time_from_packed,
 };
 use crate::parts::Temporal;
-use wire::refusal::IMAGE_SHORT;
-use wire::{Refusal, refuse, refuse_part};
+use crate::read::{answer, end_of};
+use crate::stored::Stored;
+use wire::Refusal;
 
-// The date at `at`; place is what a refusal tells.
+// The date at `at`, and the place after it; place is what a refusal tells.
 pub fn read_newdate(s: &[u8], at: usize, place: usize) -> Result<(Temporal, usize), Refusal>
     ensures { result ≡ read_temporal Newdate place s.now at }
 {
-    if !wire::has_room(s.len(), at, 3) {
-        return short(place);
-    }
-    let whole = wire::read_le(s, at, 3);
-    let next = at + 3;
-    answer(date_of(whole), next, place)
+    let next = end_of(s, at, 3, place)?;
+    answer(date_of(wire::read_le(s, at, 3)), next, place)
 }
 
 // The seconds at `at`, of a column that declares m0 digits.
@@ -38,16 +36,8 @@ pub fn read_timestamp2(
 ) -> Result<(Temporal, usize), Refusal>
     ensures { result ≡ read_temporal (Timestamp2 m0) place s.now at }
 {
-    let w = fraction_bytes(m0);
-    let size = 4 + w;
-    if !wire::has_room(s.len(), at, size) {
-        return short(place);
-    }
-    let whole = wire::read_be(s, at, 4);
-    let middle = at + 4;
-    let units = units_at(w, s, middle);
-    let next = at + size;
-    answer(my_timestamp_from_binary(w, whole, units), next, place)
+    let (stored, next) = stored_at::<4>(m0, s, at, place)?;
+    answer(my_timestamp_from_binary(stored), next, place)
 }
 
 // The datetime.
@@ -59,72 +49,54 @@ pub fn read_datetime2(
 ) -> Result<(Temporal, usize), Refusal>
     ensures { result ≡ read_temporal (Datetime2 m0) place s.now at }
 {
-    let w = fraction_bytes(m0);
-    let size = 5 + w;
-    if !wire::has_room(s.len(), at, size) {
-        return short(place);
-    }
-    let whole = wire::read_be(s, at, 5);
-    let middle = at + 5;
-    let units = units_at(w, s, middle);
-    let next = at + size;
-    answer(
-        datetime_from_packed(my_datetime_packed_from_binary(w, whole, units)),
-        next,
-        place,
-    )
+    let (stored, next) = stored_at::<5>(m0, s, at, place)?;
+    let packed = my_datetime_packed_from_binary(stored);
+    answer(datetime_from_packed(packed), next, place)
 }
 
 // The time.
 pub fn read_time2(m0: u8, s: &[u8], at: usize, place: usize) -> Result<(Temporal, usize), Refusal>
     ensures { result ≡ read_temporal (Time2 m0) place s.now at }
 {
-    let w = fraction_bytes(m0);
-    let size = 3 + w;
-    if !wire::has_room(s.len(), at, size) {
-        return short(place);
-    }
-    let whole = wire::read_be(s, at, 3);
-    let middle = at + 3;
-    let units = units_at(w, s, middle);
-    let next = at + size;
-    answer(
-        time_from_packed(my_time_packed_from_binary(w, whole, units)),
+    let (stored, next) = stored_at::<3>(m0, s, at, place)?;
+    let packed = my_time_packed_from_binary(stored);
+    answer(time_from_packed(packed), next, place)
+}
+
+// The numbers of WHOLE bytes at `at` and of a fraction of m0 digits behind them, and the place after both.
+fn stored_at<const WHOLE: usize>(
+    m0: u8,
+    s: &[u8],
+    at: usize,
+    place: usize,
+) -> Result<(Stored, usize), Refusal>
+    requires { WHOLE ≤ 8 }
+    ensures read { IfOk result (λ x. StoredAt WHOLE (fraction_bytes m0) s.now at x.0 x.1) }
+    ensures short { IfErr result (λ r. (r ≡ why 9 place) × (length s.now < at + (WHOLE + fraction_bytes m0))) }
+{
+    let width = Width::of_digits(m0);
+    let next = end_of(s, at, WHOLE + width.bytes, place)?;
+    let whole = wire::read_be(s, at, WHOLE);
+    let units = units_at(width, s, at + WHOLE);
+    Ok((
+        Stored {
+            whole,
+            units,
+            width,
+        },
         next,
-        place,
-    )
+    ))
 }
 
-// The number of the w bytes of a fraction.
-fn units_at(w: usize, s: &[u8], at: usize) -> u64
-    requires { w ≤ 3 }
-    ensures { (result ≡ be_value (take w (drop at s.now))) × (result < 256 ^ w) }
+// The number of the bytes of a fraction. Each width is a constant where it is read.
+#[tactic(auto, unfolding(wire::specs::Number::be_value))]
+fn units_at(width: Width, s: &[u8], at: usize) -> u64
+    ensures { (result ≡ be_value (take width.bytes (drop at s.now))) × (result < 256 ^ width.bytes) }
 {
-    if w == 0 {
-        return 0;
-    }
-    if w == 1 {
-        return wire::read_be(s, at, 1);
-    }
-    if w == 2 {
-        return wire::read_be(s, at, 2);
-    }
-    wire::read_be(s, at, 3)
-}
-
-// Bytes are missing.
-fn short(place: usize) -> Result<(Temporal, usize), Refusal>
-    ensures { result ≡ refused (why 9 place) }
-{
-    Err(refuse(IMAGE_SHORT, place))
-}
-
-// They are all there: what they say, and the place after them, unless a part is out of range.
-fn answer(ranged: Ranged, next: usize, place: usize) -> Result<(Temporal, usize), Refusal>
-    ensures { result ≡ ranged_told ranged next place }
-{
-    match ranged {
-        Ranged::In(temporal) => Ok((temporal, next)),
-        Ranged::Out(part) => Err(refuse_part(place, part)),
+    match width.bytes {
+        0 => 0,
+        1 => wire::read_be(s, at, 1),
+        2 => wire::read_be(s, at, 2),
+        _ => wire::read_be(s, at, 3),
     }
 }

@@ -1,138 +1,81 @@
 // Which temporals a column can hold, by their ranges and units alone.
-ghost use Rattle.std.specs.Prelude.{◌≡◌, ◌&&◌, ◌+◌, ◌≤◌, eqb};
-ghost use Rattle.temporal.specs.Ranges.{in_day, in_clock};
-ghost use Rattle.temporal.specs.Storage.{is_seconds, is_date, is_datetime, is_time, seconds_in, date_in, datetime_in, time_in};
-ghost use Rattle.temporal.specs.Domains.{in_units, seconds_domain, date_domain, datetime_domain, time_domain, temporal_domain};
+#![tactic(auto, using(wire::proofs::Rules::tests), unfolding(crate::specs::Domains::seconds_domain, crate::specs::Domains::date_domain, crate::specs::Domains::datetime_domain, crate::specs::Domains::time_domain, crate::specs::Domains::temporal_domain, crate::specs::Storage::temporal_tag, crate::specs::Storage::seconds_in, crate::specs::Storage::date_in, crate::specs::Storage::datetime_in, crate::specs::Storage::time_in))]
 
-use crate::fraction::{fraction_bytes, unit};
-use crate::judge::{clock_fault, day_fault};
-use crate::parts::{Temporal, Time};
+ghost use Rattle.std.specs.Prelude.{◌≡◌, ◌&&◌, ◌+◌, eqb};
+ghost use Rattle.temporal.specs.Ranges.{in_day, in_clock};
+ghost use Rattle.temporal.specs.Domains.{seconds_domain, date_domain, datetime_domain, time_domain, temporal_domain};
+
+use crate::fraction::Width;
+use crate::judge::{check_clock, check_day};
+use crate::parts::{Date, Datetime, Seconds, Temporal, Time};
 use crate::storage::Storage;
 
 // Whether a column of this storage can hold the temporal.
 pub fn in_domain(storage: Storage, temporal: Temporal) -> bool
     ensures { result ≡ temporal_domain storage temporal }
 {
-    match storage {
-        Storage::Timestamp => holds_seconds(0, temporal),
-        Storage::OldTime => holds_old_time(temporal),
-        Storage::OldDatetime => holds_datetime(0, temporal),
-        Storage::Newdate => holds_date(temporal),
-        Storage::Timestamp2 { m0 } => holds_seconds(fraction_bytes(m0), temporal),
-        Storage::Datetime2 { m0 } => holds_datetime(fraction_bytes(m0), temporal),
-        Storage::Time2 { m0 } => holds_time(fraction_bytes(m0), temporal),
+    match (storage, temporal) {
+        (Storage::Timestamp, Temporal::Seconds(t)) => holds_seconds(Width::NONE, t),
+        // TIME has no bit for a sign.
+        (Storage::OldTime, Temporal::Time(t)) => !t.negative && holds_time(Width::NONE, t),
+        (Storage::OldDatetime, Temporal::Datetime(m)) => holds_datetime(Width::NONE, m),
+        (Storage::Newdate, Temporal::Date(d)) => holds_date(d),
+        (Storage::Timestamp2 { m0 }, Temporal::Seconds(t)) => {
+            holds_seconds(Width::of_digits(m0), t)
+        }
+        (Storage::Datetime2 { m0 }, Temporal::Datetime(m)) => {
+            holds_datetime(Width::of_digits(m0), m)
+        }
+        (Storage::Time2 { m0 }, Temporal::Time(t)) => holds_time(Width::of_digits(m0), t),
+        _ => false,
     }
 }
 
-fn holds_seconds(w: usize, temporal: Temporal) -> bool
-    requires { w ≤ 3 }
-    ensures { result ≡ is_seconds temporal && seconds_domain w (seconds_in temporal) }
+fn holds_seconds(width: Width, t: Seconds) -> bool
+    ensures { result ≡ seconds_domain width.bytes t }
 {
-    let Temporal::Seconds(t) = temporal else {
-        return false;
-    };
-    if 999_999 < t.micros {
-        return false;
-    }
-    in_units(w, t.micros)
+    t.micros <= 999_999 && width.has_units(t.micros)
 }
 
-fn holds_date(temporal: Temporal) -> bool
-    ensures { result ≡ is_date temporal && date_domain (date_in temporal) }
+fn holds_date(d: Date) -> bool
+    ensures { result ≡ date_domain d }
 {
-    let Temporal::Date(d) = temporal else {
-        return false;
-    };
     in_day(d.year, d.month, d.day)
 }
 
-fn holds_datetime(w: usize, temporal: Temporal) -> bool
-    requires { w ≤ 3 }
-    ensures { result ≡ is_datetime temporal && datetime_domain w (datetime_in temporal) }
+fn holds_datetime(width: Width, m: Datetime) -> bool
+    ensures { result ≡ datetime_domain width.bytes m }
 {
-    let Temporal::Datetime(m) = temporal else {
-        return false;
-    };
-    if !in_day(m.year, m.month, m.day) {
-        return false;
-    }
-    let hour = m.hour as u16;
-    if !in_clock(23, hour, m.minute, m.second, m.micros) {
-        return false;
-    }
-    in_units(w, m.micros)
+    in_day(m.year, m.month, m.day)
+        && in_clock(23, u16::from(m.hour), m.minute, m.second, m.micros)
+        && width.has_units(m.micros)
 }
 
-fn holds_time(w: usize, temporal: Temporal) -> bool
-    requires { w ≤ 3 }
-    ensures { result ≡ is_time temporal && time_domain w (time_in temporal) }
+fn holds_time(width: Width, t: Time) -> bool
+    ensures { result ≡ time_domain width.bytes t }
 {
-    let Temporal::Time(t) = temporal else {
-        return false;
-    };
-    if !in_clock(838, t.hours, t.minutes, t.seconds, t.micros) {
-        return false;
-    }
-    if negative_zero(t) {
-        return false;
-    }
-    in_units(w, t.micros)
-}
-
-// TIME has no bit for a sign.
-fn holds_old_time(temporal: Temporal) -> bool
-    ensures { result ≡ temporal_domain Storage.OldTime temporal }
-{
-    let Temporal::Time(t) = temporal else {
-        return false;
-    };
-    if t.negative {
-        return false;
-    }
-    holds_time(0, temporal)
+    in_clock(838, t.hours, t.minutes, t.seconds, t.micros)
+        && width.has_units(t.micros)
+        && !negative_zero(t)
 }
 
 // Whether a date is in range.
 fn in_day(y: u16, mo: u8, d: u8) -> bool
     ensures { result ≡ in_day y mo d }
 {
-    let year = y as u64;
-    let month = mo as u64;
-    let day = d as u64;
-    day_fault(year, month, day) == 0
+    check_day(u64::from(y), u64::from(mo), u64::from(d)).is_ok()
 }
 
 // Whether a clock is in range. Hours go up to top.
 fn in_clock(top: u64, h: u16, m: u8, s: u8, u: u32) -> bool
     ensures { result ≡ in_clock top h m s u }
 {
-    let hours = h as u64;
-    let minutes = m as u64;
-    let seconds = s as u64;
-    let micros = u as u64;
-    clock_fault(top, hours, minutes, seconds, micros) == 0
+    check_clock(top, u64::from(h), u64::from(m), u64::from(s), u64::from(u)).is_ok()
 }
 
 // Whether a negative time has all parts zero: it would be read as one that is not negative.
 fn negative_zero(t: Time) -> bool
     ensures { result ≡ t.negative && eqb (t.hours + t.minutes + t.seconds + t.micros) 0 }
 {
-    if t.negative {
-        let h = t.hours as u64;
-        let m = t.minutes as u64;
-        let s = t.seconds as u64;
-        let u = t.micros as u64;
-        let sum = h + m + s + u;
-        return sum == 0;
-    }
-    false
-}
-
-// Whether the microseconds are whole units of a fraction of w bytes.
-fn in_units(w: usize, micros: u32) -> bool
-    requires { w ≤ 3 }
-    ensures { result ≡ in_units w micros }
-{
-    let u = micros as u64;
-    u % unit(w) == 0
+    t.negative && t.hours == 0 && t.minutes == 0 && t.seconds == 0 && t.micros == 0
 }

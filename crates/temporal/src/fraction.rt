@@ -1,53 +1,70 @@
 // The fraction of a second: how many bytes it takes, and what one unit of it is.
-ghost use Rattle.std.specs.Prelude.{◌≡◌, ◌≤◌, ◌^◌};
+ghost use Rattle.std.specs.Prelude.{◌≡◌, ◌/◌, ◌^◌, ◌≤◌};
 ghost use Rattle.temporal.specs.Fraction.{fraction_bytes, unit_of};
+ghost use Rattle.temporal.specs.Domains.{in_units};
 
-// Of a column that declares m0 digits.
-pub(crate) fn fraction_bytes(m0: u8) -> usize
-    ensures { (result ≡ fraction_bytes m0) × (result ≤ 3) }
-{
-    if m0 == 0 {
-        return 0;
-    }
-    if m0 <= 2 {
-        return 1;
-    }
-    if m0 <= 4 {
-        return 2;
-    }
-    3
+// How many bytes a fraction takes.
+#[derive(Clone, Copy)]
+pub(crate) struct Width {
+    pub(crate) bytes: usize,
+    pub(crate) ghost few: { bytes ≤ 3 },
 }
 
-// Microseconds in one unit of a fraction of w bytes.
-pub(crate) fn unit(w: usize) -> u64
-    requires { w ≤ 3 }
-    ensures { result ≡ unit_of w }
-{
-    if w == 0 {
-        return 1_000_000;
-    }
-    if w == 1 {
-        return 10_000;
-    }
-    if w == 2 {
-        return 100;
-    }
-    1
-}
+impl Width {
+    // Of whole seconds.
+    pub(crate) const NONE: Width = Width { bytes: 0 };
 
-// How many fractions w bytes tell apart.
-pub(crate) fn span(w: usize) -> u64
-    requires { w ≤ 3 }
-    ensures { result ≡ 256 ^ w }
-{
-    if w == 0 {
-        return 1;
+    // Of a column that declares m0 digits.
+    #[tactic(auto, using(wire::proofs::Rules::tests), unfolding(crate::specs::Fraction::fraction_bytes))]
+    pub(crate) fn of_digits(m0: u8) -> Width
+        ensures { result.bytes ≡ fraction_bytes m0 }
+    {
+        let bytes = match m0 {
+            0 => 0,
+            1..=2 => 1,
+            3..=4 => 2,
+            _ => 3,
+        };
+        Width { bytes }
     }
-    if w == 1 {
-        return 0x100;
+
+    // Microseconds in one unit.
+    #[tactic(auto, unfolding(crate::specs::Fraction::unit_of))]
+    pub(crate) fn unit(self) -> u64
+        ensures { result ≡ unit_of self.bytes }
+    {
+        match self.bytes {
+            0 => 1_000_000,
+            1 => 10_000,
+            2 => 100,
+            _ => 1,
+        }
     }
-    if w == 2 {
-        return 0x1_0000;
+
+    // How many fractions its bytes tell apart.
+    pub(crate) fn span(self) -> u64
+        ensures { result ≡ 256 ^ self.bytes }
+    {
+        match self.bytes {
+            0 => 1,
+            1 => 0x100,
+            2 => 0x1_0000,
+            _ => 0x100_0000,
+        }
     }
-    0x100_0000
+    // How many whole units the microseconds are.
+    #[tactic(auto, using(crate::proofs::Units::unit_positive))]
+    pub(crate) fn units_of(self, micros: u32) -> u64
+        ensures { result ≡ micros / unit_of self.bytes }
+    {
+        u64::from(micros) / self.unit()
+    }
+
+    // Whether they are whole units.
+    #[tactic(auto, using(crate::proofs::Units::unit_positive))]
+    pub(crate) fn has_units(self, micros: u32) -> bool
+        ensures { result ≡ in_units self.bytes micros }
+    {
+        u64::from(micros) % self.unit() == 0
+    }
 }

@@ -1,5 +1,6 @@
-// The parts of a number, and whether each is in its range. Bits and decimals differ in their radices alone.
-ghost use Rattle.std.specs.Prelude.{◌≡◌, ◌<◌};
+// The parts of a number, and whether each is in its range. Bits and decimals differ in their radices alone. The error is the first part out
+// of range, by its number in a refusal, which C reads.
+ghost use Rattle.std.specs.Prelude.{◌≡◌, ◌<◌, ◌≤◌, IfOk, IfErr};
 ghost use Rattle.temporal.specs.Ranges.{clock_fault, day_fault};
 ghost use Rattle.temporal.specs.Times.{time_by};
 ghost use Rattle.temporal.specs.Datetimes.{datetime_by, date_of};
@@ -8,76 +9,77 @@ ghost use Rattle.temporal.specs.Inner.Ranged.{ranged_time, ranged_datetime, rang
 use crate::parts::{Date, Datetime, Temporal, Time};
 use wire::refusal::{DAY, FRACTION, HOUR, MINUTE, MONTH, SECOND, YEAR};
 
-// A temporal, or its first part out of range.
-#[derive(Clone, Copy)]
-pub(crate) enum Ranged {
-    In(Temporal),
-    Out(u8),
-}
-
-// The first part out of range, or 0. Hours go up to top.
-pub(crate) fn clock_fault(top: u64, h: u64, m: u64, s: u64, u: u64) -> u8
-    ensures { result ≡ clock_fault top h m s u }
+// A clock whose hours go up to top.
+#[tactic(auto, using(wire::proofs::Rules::tests), unfolding(crate::specs::Ranges::clock_fault))]
+pub(crate) fn check_clock(top: u64, h: u64, m: u64, s: u64, u: u64) -> Result<(), u8>
+    ensures clear { IfOk result (λ _. clock_fault top h m s u ≡ 0) }
+    ensures within { IfOk result (λ _. (h ≤ top) × (m ≤ 59) × (s ≤ 59) × (u ≤ 999999)) }
+    ensures first { IfErr result (λ part. (part ≡ clock_fault top h m s u) × (0 < part)) }
 {
     if top < h {
-        return HOUR;
+        return Err(HOUR);
     }
     if 59 < m {
-        return MINUTE;
+        return Err(MINUTE);
     }
     if 59 < s {
-        return SECOND;
+        return Err(SECOND);
     }
     if 999_999 < u {
-        return FRACTION;
+        return Err(FRACTION);
     }
-    0
+    Ok(())
 }
 
-// The same of a date.
-pub(crate) fn day_fault(y: u64, mo: u64, d: u64) -> u8
-    ensures { result ≡ day_fault y mo d 0 }
+// A date.
+#[tactic(auto, using(wire::proofs::Rules::tests), unfolding(crate::specs::Ranges::day_fault))]
+pub(crate) fn check_day(y: u64, mo: u64, d: u64) -> Result<(), u8>
+    ensures clear { IfOk result (λ _. day_fault y mo d 0 ≡ 0) }
+    ensures within { IfOk result (λ _. (y ≤ 9999) × (mo ≤ 12) × (d ≤ 31)) }
+    ensures first { IfErr result (λ part. (part ≡ day_fault y mo d 0) × (0 < part)) }
 {
     if 9999 < y {
-        return YEAR;
+        return Err(YEAR);
     }
     if 12 < mo {
-        return MONTH;
+        return Err(MONTH);
     }
     if 31 < d {
-        return DAY;
+        return Err(DAY);
     }
-    0
+    Ok(())
 }
 
 // The time of a whole part n, whose minutes and seconds have this radix, and of u microseconds.
-pub(crate) fn time_by(radix: u64, negative: bool, n: u64, u: u64) -> Ranged
+#[tactic(auto, using(wire::proofs::Rules::tests), unfolding(crate::specs::Times::time_by))]
+pub(crate) fn time_by(radix: u64, negative: bool, n: u64, u: u64) -> Result<Temporal, u8>
     requires { 0 < radix }
     ensures { result ≡ ranged_time (time_by radix negative n u) }
 {
     let h = n / radix / radix;
     let m = n / radix % radix;
     let s = n % radix;
-    let part = clock_fault(838, h, m, s, u);
-    if part != 0 {
-        return Ranged::Out(part);
-    }
-    let hours = h as u16;
-    let minutes = m as u8;
-    let seconds = s as u8;
-    let micros = u as u32;
-    Ranged::In(Temporal::Time(Time {
+    check_clock(838, h, m, s, u)?;
+    Ok(Temporal::Time(Time {
         negative,
-        hours,
-        minutes,
-        seconds,
-        micros,
+        hours: h as u16,
+        minutes: m as u8,
+        seconds: s as u8,
+        micros: u as u32,
     }))
 }
 
 // The datetime of a whole part n and of u microseconds; radix is that of seconds and minutes; hours, days and months are the radices of
 // these.
-pub(crate) fn datetime_by(radix: u64, hours: u64, days: u64, months: u64, n: u64, u: u64) -> Ranged
+#[tactic(auto, unfolding(crate::specs::Datetimes::datetime_by))]
+pub(crate) fn datetime_by(
+    radix: u64,
+    hours: u64,
+    days: u64,
+    months: u64,
+    n: u64,
+    u: u64,
+) -> Result<Temporal, u8>
     requires { (0 < radix) × (0 < hours) × (0 < days) × (0 < months) }
     ensures { result ≡ ranged_datetime (datetime_by radix hours days months n u) }
 {
@@ -97,49 +99,36 @@ pub(crate) fn datetime_by(radix: u64, hours: u64, days: u64, months: u64, n: u64
 }
 
 // The datetime of these parts.
-fn datetime_of(y: u64, mo: u64, d: u64, h: u64, mi: u64, s: u64, u: u64) -> Ranged
+#[tactic(auto, using(wire::proofs::Rules::tests))]
+fn datetime_of(y: u64, mo: u64, d: u64, h: u64, mi: u64, s: u64, u: u64) -> Result<Temporal, u8>
     ensures { result ≡ ranged_datetime record { year = y; month = mo; day = d; hour = h; minute = mi; second = s; micros = u } }
 {
-    let first = day_fault(y, mo, d);
-    if first != 0 {
-        return Ranged::Out(first);
-    }
-    let then = clock_fault(23, h, mi, s, u);
-    if then != 0 {
-        return Ranged::Out(then);
-    }
-    let year = y as u16;
-    let month = mo as u8;
-    let day = d as u8;
-    let hour = h as u8;
-    let minute = mi as u8;
-    let second = s as u8;
-    let micros = u as u32;
-    Ranged::In(Temporal::Datetime(Datetime {
-        year,
-        month,
-        day,
-        hour,
-        minute,
-        second,
-        micros,
+    check_day(y, mo, d)?;
+    check_clock(23, h, mi, s, u)?;
+    Ok(Temporal::Datetime(Datetime {
+        year: y as u16,
+        month: mo as u8,
+        day: d as u8,
+        hour: h as u8,
+        minute: mi as u8,
+        second: s as u8,
+        micros: u as u32,
     }))
 }
 
 // The date of a number: day 5 bits, month 4, then the year.
-pub(crate) fn date_of(n: u64) -> Ranged
+#[tactic(auto, using(wire::proofs::Rules::tests), unfolding(crate::specs::Datetimes::date_of))]
+pub(crate) fn date_of(n: u64) -> Result<Temporal, u8>
     ensures { result ≡ ranged_date (date_of n) }
 {
     let to_months = n / 32;
     let y = to_months / 16;
     let mo = to_months % 16;
     let d = n % 32;
-    let part = day_fault(y, mo, d);
-    if part != 0 {
-        return Ranged::Out(part);
-    }
-    let year = y as u16;
-    let month = mo as u8;
-    let day = d as u8;
-    Ranged::In(Temporal::Date(Date { year, month, day }))
+    check_day(y, mo, d)?;
+    Ok(Temporal::Date(Date {
+        year: y as u16,
+        month: mo as u8,
+        day: d as u8,
+    }))
 }

@@ -8,8 +8,8 @@ mod judge;
 mod misc;
 mod parts;
 mod read;
-mod sort;
 mod storage;
+mod stored;
 mod write;
 
 pub use direct::{read_datetime2, read_newdate, read_time2, read_timestamp2};

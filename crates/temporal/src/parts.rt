@@ -1,14 +1,14 @@
 // The parts of a temporal, numbers all.
 
 // Seconds since 1970, and microseconds.
-#[derive(Clone, Copy)]
+#[derive(Clone, Copy, Debug, PartialEq, Eq)]
 pub struct Seconds {
     pub seconds: u32,
     pub micros: u32,
 }
 
 // A day of the calendar.
-#[derive(Clone, Copy)]
+#[derive(Clone, Copy, Debug, PartialEq, Eq)]
 pub struct Date {
     pub year: u16,
     pub month: u8,
@@ -16,7 +16,7 @@ pub struct Date {
 }
 
 // A date and a time of that day.
-#[derive(Clone, Copy)]
+#[derive(Clone, Copy, Debug, PartialEq, Eq)]
 pub struct Datetime {
     pub year: u16,
     pub month: u8,
@@ -28,7 +28,7 @@ pub struct Datetime {
 }
 
 // A span of time, or a time of day. The Rust splits its hours into days and hours; here they stay hours.
-#[derive(Clone, Copy)]
+#[derive(Clone, Copy, Debug, PartialEq, Eq)]
 pub struct Time {
     pub negative: bool,
     pub hours: u16,
@@ -38,7 +38,7 @@ pub struct Time {
 }
 
 // A temporal is of one of these sorts.
-#[derive(Clone, Copy)]
+#[derive(Clone, Copy, Debug, PartialEq, Eq)]
 pub enum Temporal {
     Seconds(Seconds),
     Date(Date),

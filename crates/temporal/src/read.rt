@@ -1,17 +1,18 @@
 // A stored temporal read: its bytes first, then its ranges.
-ghost use Rattle.std.specs.Prelude.{◌≡◌, ◌+◌, ◌≤◌, ◌<◌, ◌^◌, length, take, drop};
+ghost use Rattle.std.specs.Prelude.{◌≡◌, ◌+◌, ◌≤◌, ◌<◌, ◌^◌, cond, length, take, drop, leb};
+ghost use Rattle.wire.specs.Outcome.{ok, refuse};
 ghost use Rattle.temporal.specs.Storage.{whole_bytes, fraction_size, temporal_of, fault_of};
-ghost use Rattle.temporal.specs.Inner.Ranged.{ranged};
+ghost use Rattle.temporal.specs.Inner.Ranged.{ranged, ranged_told};
 ghost use Rattle.temporal.specs.Reading.{temporal_size, whole_in, units_in, read_temporal};
 
-use crate::fraction::fraction_bytes;
-use crate::judge::{Ranged, date_of, datetime_by, time_by};
+use crate::judge::{date_of, datetime_by, time_by};
 use crate::misc::{
     datetime_from_packed, my_datetime_packed_from_binary, my_time_packed_from_binary,
     my_timestamp_from_binary, time_from_packed,
 };
 use crate::parts::Temporal;
-use crate::storage::{Storage, fraction_size, is_big, temporal_size, whole_bytes};
+use crate::storage::{Storage, fraction_width, is_big, temporal_size, whole_bytes};
+use crate::stored::Stored;
 use wire::refusal::IMAGE_SHORT;
 use wire::{Refusal, refuse, refuse_part};
 
@@ -24,64 +25,73 @@ pub fn read_temporal(
 ) -> Result<(Temporal, usize), Refusal>
     ensures { result ≡ read_temporal storage place s.now at }
 {
-    let size = temporal_size(storage);
-    if !wire::has_room(s.len(), at, size) {
-        return Err(refuse(IMAGE_SHORT, place));
-    }
-    let whole = whole_at(storage, s, at);
-    let fraction = fraction_at(storage, s, at);
-    let next = at + size;
-    match judge(storage, whole, fraction) {
-        Ranged::In(temporal) => Ok((temporal, next)),
-        Ranged::Out(part) => Err(refuse_part(place, part)),
-    }
+    let next = end_of(s, at, temporal_size(storage), place)?;
+    let stored = stored_in(storage, s, at);
+    answer(judge(storage, stored), next, place)
 }
 
-// The number that the whole part of the bytes at `at` is.
-fn whole_at(storage: Storage, s: &[u8], at: usize) -> u64
-    ensures { (result ≡ whole_in storage (take (temporal_size storage) (drop at s.now))) × (result < 256 ^ whole_bytes storage) }
+// The place after the bytes of an image, if they are all there.
+pub(crate) fn end_of(s: &[u8], at: usize, size: usize, place: usize) -> Result<usize, Refusal>
+    ensures { result ≡ cond (leb (at + size) (length s.now)) (ok (at + size)) (refuse 9 place) }
 {
-    let k = whole_bytes(storage);
-    if is_big(storage) {
-        return wire::read_be(s, at, k);
+    if wire::has_room(s.len(), at, size) {
+        return Ok(at + size);
     }
-    wire::read_le(s, at, k)
+    Err(refuse(IMAGE_SHORT, place))
 }
 
-// The number that their fraction is.
-fn fraction_at(storage: Storage, s: &[u8], at: usize) -> u64
+// They are all there: what they say, and the place after them, unless a part is out of range.
+pub(crate) fn answer(
+    ranged: Result<Temporal, u8>,
+    next: usize,
+    place: usize,
+) -> Result<(Temporal, usize), Refusal>
+    ensures { result ≡ ranged_told ranged next place }
+{
+    match ranged {
+        Ok(temporal) => Ok((temporal, next)),
+        Err(part) => Err(refuse_part(place, part)),
+    }
+}
+
+// The numbers that the bytes at `at` are.
+fn stored_in(storage: Storage, s: &[u8], at: usize) -> Stored
     requires { at + temporal_size storage ≤ length s.now }
-    ensures { (result ≡ units_in storage (take (temporal_size storage) (drop at s.now))) × (result < 256 ^ fraction_size storage) }
+    ensures whole { (result.whole ≡ whole_in storage (take (temporal_size storage) (drop at s.now))) × (result.whole < 256 ^ whole_bytes storage) }
+    ensures units { result.units ≡ units_in storage (take (temporal_size storage) (drop at s.now)) }
+    ensures width { result.width.bytes ≡ fraction_size storage }
 {
     let k = whole_bytes(storage);
-    let w = fraction_size(storage);
+    let width = fraction_width(storage);
     if is_big(storage) {
-        let middle = at + k;
-        return wire::read_be(s, middle, w);
+        let whole = wire::read_be(s, at, k);
+        let units = wire::read_be(s, at + k, width.bytes);
+        return Stored {
+            whole,
+            units,
+            width,
+        };
     }
-    0
+    Stored {
+        whole: wire::read_le(s, at, k),
+        units: 0,
+        width,
+    }
 }
 
 // What a stored whole part and fraction say.
-fn judge(storage: Storage, whole: u64, fraction: u64) -> Ranged
-    requires { (whole < 256 ^ whole_bytes storage) × (fraction < 256 ^ fraction_size storage) }
-    ensures { result ≡ ranged (fault_of storage whole fraction) (temporal_of storage whole fraction) }
+#[tactic(auto, unfolding(crate::specs::Storage::whole_bytes, crate::specs::Storage::fraction_size, crate::specs::Storage::temporal_of, crate::specs::Storage::fault_of, crate::specs::Times::time2_of, crate::specs::Datetimes::datetime_of, crate::specs::Datetimes::datetime2_of, crate::specs::Datetimes::datetime2_fault))]
+fn judge(storage: Storage, stored: Stored) -> Result<Temporal, u8>
+    requires whole { stored.whole < 256 ^ whole_bytes storage }
+    requires width { stored.width.bytes ≡ fraction_size storage }
+    ensures { result ≡ ranged (fault_of storage stored.whole stored.units) (temporal_of storage stored.whole stored.units) }
 {
     match storage {
-        Storage::Timestamp => my_timestamp_from_binary(0, whole, 0),
-        Storage::OldTime => time_by(100, false, whole, 0),
-        Storage::OldDatetime => datetime_by(100, 100, 100, 100, whole, 0),
-        Storage::Newdate => date_of(whole),
-        Storage::Timestamp2 { m0 } => my_timestamp_from_binary(fraction_bytes(m0), whole, fraction),
-        Storage::Datetime2 { m0 } => datetime_from_packed(my_datetime_packed_from_binary(
-            fraction_bytes(m0),
-            whole,
-            fraction,
-        )),
-        Storage::Time2 { m0 } => time_from_packed(my_time_packed_from_binary(
-            fraction_bytes(m0),
-            whole,
-            fraction,
-        )),
+        Storage::Timestamp | Storage::Timestamp2 { .. } => my_timestamp_from_binary(stored),
+        Storage::OldTime => time_by(100, false, stored.whole, 0),
+        Storage::OldDatetime => datetime_by(100, 100, 100, 100, stored.whole, 0),
+        Storage::Newdate => date_of(stored.whole),
+        Storage::Datetime2 { .. } => datetime_from_packed(my_datetime_packed_from_binary(stored)),
+        Storage::Time2 { .. } => time_from_packed(my_time_packed_from_binary(stored)),
     }
 }

@@ -3,10 +3,10 @@ ghost use Rattle.std.specs.Prelude.{◌≡◌, ◌≤◌};
 ghost use Rattle.temporal.specs.Storage.{whole_bytes, fraction_size, is_big};
 ghost use Rattle.temporal.specs.Reading.{temporal_size};
 
-use crate::fraction::fraction_bytes;
+use crate::fraction::Width;
 
 // Each storage has its column type above it. m0 is the number of fraction digits that the column declares; above 6 it is taken as 6.
-#[derive(Clone, Copy)]
+#[derive(Clone, Copy, Debug, PartialEq, Eq)]
 pub enum Storage {
     // 7
     Timestamp,
@@ -25,55 +25,48 @@ pub enum Storage {
 }
 
 // How many bytes a stored temporal takes.
+#[tactic(auto, unfolding(crate::specs::Reading::temporal_size))]
 pub fn temporal_size(storage: Storage) -> usize
     ensures { result ≡ temporal_size storage }
 {
-    let whole = whole_bytes(storage);
-    let fraction = fraction_size(storage);
-    whole + fraction
+    whole_bytes(storage) + fraction_width(storage).bytes
 }
 
 // How many of them are its whole part: all but the fraction.
+#[tactic(auto, unfolding(crate::specs::Storage::whole_bytes))]
 pub(crate) fn whole_bytes(storage: Storage) -> usize
     ensures { (result ≡ whole_bytes storage) × (result ≤ 8) }
 {
     match storage {
-        Storage::Timestamp => 4,
-        Storage::OldTime => 3,
+        Storage::OldTime | Storage::Newdate | Storage::Time2 { .. } => 3,
+        Storage::Timestamp | Storage::Timestamp2 { .. } => 4,
+        Storage::Datetime2 { .. } => 5,
         Storage::OldDatetime => 8,
-        Storage::Newdate => 3,
-        Storage::Timestamp2 { m0: _ } => 4,
-        Storage::Datetime2 { m0: _ } => 5,
-        Storage::Time2 { m0: _ } => 3,
     }
 }
 
 // And how many are its fraction.
-pub(crate) fn fraction_size(storage: Storage) -> usize
-    ensures { (result ≡ fraction_size storage) × (result ≤ 3) }
+#[tactic(auto, unfolding(crate::specs::Storage::fraction_size))]
+pub(crate) fn fraction_width(storage: Storage) -> Width
+    ensures { result.bytes ≡ fraction_size storage }
 {
     match storage {
-        Storage::Timestamp => 0,
-        Storage::OldTime => 0,
-        Storage::OldDatetime => 0,
-        Storage::Newdate => 0,
-        Storage::Timestamp2 { m0 } => fraction_bytes(m0),
-        Storage::Datetime2 { m0 } => fraction_bytes(m0),
-        Storage::Time2 { m0 } => fraction_bytes(m0),
+        Storage::Timestamp2 { m0 } | Storage::Datetime2 { m0 } | Storage::Time2 { m0 } => {
+            Width::of_digits(m0)
+        }
+        Storage::Timestamp | Storage::OldTime | Storage::OldDatetime | Storage::Newdate => {
+            Width::NONE
+        }
     }
 }
 
 // Whether the most significant byte comes first.
+#[tactic(auto, unfolding(crate::specs::Storage::is_big))]
 pub(crate) fn is_big(storage: Storage) -> bool
     ensures { result ≡ is_big storage }
 {
-    match storage {
-        Storage::Timestamp => false,
-        Storage::OldTime => false,
-        Storage::OldDatetime => false,
-        Storage::Newdate => false,
-        Storage::Timestamp2 { m0: _ } => true,
-        Storage::Datetime2 { m0: _ } => true,
-        Storage::Time2 { m0: _ } => true,
-    }
+    matches!(
+        storage,
+        Storage::Timestamp2 { .. } | Storage::Datetime2 { .. } | Storage::Time2 { .. }
+    )
 }

@@ -11,14 +11,9 @@ returns-then-not-in_domain c = let a = c.args in
     let z = write_none a.storage a.place a.buf.now a.at a.temporal d in
     rw z (record { result_value = ap refused c.refuse.ensures; buf_after = refl })
 
-pub whole_of-whole-requires : goal.whole_of-whole-requires
-whole_of-whole-requires c =
+pub numbers_of-whole-requires : goal.numbers_of-whole-requires
+numbers_of-whole-requires c =
     sym c.in_domain.ensures ∙ c.if-not-in_domain.false
-
-pub units_of-units-requires : goal.units_of-units-requires
-units_of-units-requires c =
-    sym c.in_domain.ensures
-    ∙ c.if-not-in_domain.false
 
 pub returns-then-is_big : goal.returns-then-is_big
 returns-then-is_big c = let a = c.args in
@@ -30,9 +25,9 @@ returns-then-is_big c = let a = c.args in
     ∙ c.if-is_big.true in
     let p = write_big a.storage a.place a.buf.now a.at a.temporal c.write_two.result _ _ _ _ _ d b
     c.whole_bytes-k.ensures.0
-    c.fraction_size-w.ensures.0
-    c.whole_of-whole.ensures
-    c.units_of-units.ensures
+    c.fraction_width-width.ensures
+    c.numbers_of-whole.ensures.0
+    c.numbers_of-whole.ensures.1
     (c.write_two.ensures.result_value, c.write_two.ensures.buf_after) in record { result_value = p.0; buf_after = p.1 }
 
 pub returns : goal.returns
@@ -42,4 +37,4 @@ returns c = let a = c.args in
     ∙ c.if-not-in_domain.false in
     let b = sym c.is_big.ensures ∙ c.if-is_big.false in
     let p = write_little a.storage a.place a.buf.now a.at a.temporal c.write_le.result _ _ _ d b c.whole_bytes-k.ensures.0 c.whole_bytes-k.ensures.1
-    c.whole_of-whole.ensures (c.write_le.ensures.result_value, c.write_le.ensures.buf_after) in record { result_value = p.0; buf_after = p.1 }
+    c.numbers_of-whole.ensures.0 (c.write_le.ensures.result_value, c.write_le.ensures.buf_after) in record { result_value = p.0; buf_after = p.1 }
