@@ -10,16 +10,13 @@ use native.Mathlib.Decide.{dec_le}
 use lib.ListN.{length, get_or, take, drop, length-drop}
 use lib.Seq.{take_all, drop-cons}
 use native.Mathlib.Numerals.{add-one}
-use Rattle.wire.specs.declared.refusal.Refusal.{Refusal}
 use Rattle.wire.specs.Number.{le_value}
 use Rattle.wire.specs.Outcome.{Outcome, ok, refused, refuse, after}
 use Rattle.wire.specs.Bits.{bytes_for, bit_lsb0}
 use Rattle.value.specs.declared.datum.Value.{Value}
-use Rattle.value.specs.declared.reading.Read.{Read}
-use Rattle.value.specs.declared.reading.Read.TheVariants.{Got, Refused}
 use Rattle.value.specs.Ops.{shape_for}
-use Rattle.value.specs.Reading.{read_value, read_told}
-use Rattle.image.specs.Split.{cursor, slots, value as value₁, step_over}
+use Rattle.value.specs.Reading.{read_value}
+use Rattle.image.specs.Split.{cursor, slots, step_over}
 use Rattle.row_plan.specs.declared.row.RowCursor.{RowCursor}
 use Rattle.row_plan.specs.Plan.{item_count, item_at, items_from, plan_slots, row_cursor, RowStepped, null, value, end, row_next, plan_step}
 
@@ -67,25 +64,19 @@ module _ (plan images : List ℕ) (c : RowCursor) {im : List ℕ} (is : im ≡ d
     unfolding step_over item_at
     row_null n = goes ∙ rw (slots_here l, n, col)
 
-    module _ (n : bit_lsb0 im c.item ≡ false) (x : Read) (q : read_told x
-        ≡ read_value (shape_for (get_or plan (3 * c.item) 0)) j im c.offset) where
+    module _ (n : bit_lsb0 im c.item ≡ false) where
       abbrev then : Outcome (Value × ℕ) → Outcome RowStepped
       then w = after w (λ y. ok (value j y.0 (row_cursor c.start (c.item + 1) y.1)))
 
-      through : (w : Outcome (Value × ℕ)) → after (after w (λ y. ok (value₁ j y.0 (cursor (j + 1) y.1)))) (λ t. ok (row_next c t))
+      through : (w : Outcome (Value × ℕ)) → after (after w (λ y. ok (value j y.0 (cursor (j + 1) y.1)))) (λ t. ok (row_next c t))
           ≡ then w
       through (ok y) = refl
       through (refused w) = refl
 
-      read : plan_step plan images c ≡ then (read_told x)
+      pub row_read : {x : Outcome (Value × ℕ)} → x ≡ read_value (shape_for (get_or plan (3 * c.item) 0)) j im c.offset
+          → plan_step plan images c ≡ then x
       unfolding step_over item_at
-      read = goes ∙ rw (slots_here l, n, sym col, sym q) (through (read_told x))
-
-      pub row_got : (v : Value) (o : ℕ) → x ≡ Got v o → plan_step plan images c ≡ ok (value j v (row_cursor c.start (c.item + 1) o))
-      row_got v o y = rw y at read
-
-      pub row_bad : (w : Refusal) → x ≡ Refused w → plan_step plan images c ≡ refused w
-      row_bad w y = rw y at read
+      row_read {x} q = goes ∙ rw (slots_here l, n, sym col, sym q) (through x)
 
 -- ---- the tests
 pub row_none : (plan images : List ℕ) (c : RowCursor) → item_count plan < c.item → plan_step plan images c ≡ refuse 14 c.item

@@ -2,7 +2,7 @@
 -- the step under that record. `Goes`: what a step answers, by what the code finds. `Puts`: a plan made in a buffer. `Makes`: what its maker
 -- answers. `NumberLaws`: a value as numbers. `EightLaws`: numbers cut out of eight bytes. `FastLaws`: values read fast. `RunLaws`: what a
 -- run does at an item, and where it turns. `ReadLaws`: a run through images, and what its caller is told. `Walked`: a run is the walk.
--- `Told`: the first cursor, room, and op 0. `Worked`: document 01's worked row, computed. `Views`: no two answers look the same on paper.
+-- `Told`: the first cursor, room, and op 0. `Worked`: document 01's worked row, computed.
 pub mod Items
 pub mod Rows
 pub mod Goes
@@ -18,4 +18,3 @@ pub mod Told
 pub mod Worked
 pub mod Writes
 pub mod PlanWrites
-pub mod Views

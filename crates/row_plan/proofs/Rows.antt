@@ -18,13 +18,13 @@ use Rattle.value.specs.Reading.{read_value}
 use Rattle.record.specs.Records.{count_of, record_valid}
 use Rattle.image.specs.declared.cursor.Cursor.{Cursor}
 use Rattle.image.specs.Present.{present, present_from, count_bits, first_from}
-use Rattle.image.specs.Split.{Slot, cursor, slots_at, ColumnStepped, null as null₁, value as value₁, step_over, slots_left, step_from}
+use Rattle.image.specs.Split.{Slot, cursor, slots_at, ColumnStepped, step_over, slots_left, step_from}
 use Rattle.image.proofs.PresenceLaws.Firsts.{present_at, first_is, slot_at, slots_end, slots_first, count_set, count_not, count_none}
 use Rattle.image.proofs.CursorLaws.Heads.{Over, head_is, null_bytes}
 use Rattle.image.proofs.PresenceLaws.Presents.{present_length}
 use Rattle.row_plan.specs.declared.row.RowCursor.{RowCursor}
 use Rattle.row_plan.specs.Plan.{plan_of, item_count, plan_slots, row_cursor, row_next, plan_step, row_at}
-use Rattle.row_plan.specs.Plan.{rows_next}
+use Rattle.row_plan.specs.Plan.{rows_next, null, value}
 use Rattle.row_plan.proofs.Items.{items_from_lem, plan_count, kept_present}
 
 -- ---- the present columns behind the first ones
@@ -95,13 +95,13 @@ alike_more : (p : List ℕ) (start : ℕ) (c : RowCursor) (im : List ℕ) (i : S
 unfolding step_over row_at
 alike_more p start c im i is o s k = go i.null
   where
-    read : (x : Outcome (Value × ℕ)) → Alike p start c (after x (λ x. ok (value₁ i.present.column x.0 (cursor
+    read : (x : Outcome (Value × ℕ)) → Alike p start c (after x (λ x. ok (value i.present.column x.0 (cursor
         (i.present.column + 1) x.1))))
     read (ok x) = rw (s, k)
     read (refused w) = refl
 
-    go : (b : Bool) → Alike p start c (cond b (ok (null₁ i.present.column (cursor (i.present.column + 1) o)))
-        (after (read_value i.present.shape i.present.column im o) (λ x. ok (value₁ i.present.column x.0 (cursor
+    go : (b : Bool) → Alike p start c (cond b (ok (null i.present.column (cursor (i.present.column + 1) o)))
+        (after (read_value i.present.shape i.present.column im o) (λ x. ok (value i.present.column x.0 (cursor
         (i.present.column + 1) x.1)))))
     go true = rw (s, k)
     go false = read (read_value i.present.shape i.present.column im o)

@@ -21,7 +21,7 @@ use Rattle.value.specs.declared.datum.Value.{Value}
 use Rattle.value.specs.declared.datum.Value.TheVariants.{Null}
 use Rattle.value.specs.Ops.{shape_for}
 use Rattle.value.specs.Reading.{read_value}
-use Rattle.image.specs.Split.{cursor, null as null₁, value as value₁, step_over}
+use Rattle.image.specs.Split.{cursor, step_over}
 use Rattle.image.proofs.EndLaws.Ends.{value_within}
 use Rattle.row_plan.specs.declared.row.RowCursor.{RowCursor}
 use Rattle.row_plan.specs.Plan.{item_count, item_at, row_cursor, RowStepped, null, value, row_next, plan_step}
@@ -102,14 +102,14 @@ module _ (plan images : List ℕ) (items : ℕ) (c : RowCursor) (t : Stands plan
   column = le_value (take 2 (drop (3 * c.item + 1) plan))
 
   through : (x : Outcome (Value × ℕ))
-      → after (after x (λ y. ok (value₁ column y.0 (cursor (column + 1) y.1)))) (λ t. ok (row_next c t))
+      → after (after x (λ y. ok (value column y.0 (cursor (column + 1) y.1)))) (λ t. ok (row_next c t))
       ≡ after x (λ y. ok (value column y.0 (row_cursor c.start (c.item + 1) y.1)))
   through (ok y) = refl
   through (refused w) = refl
 
   over : (b : Bool)
-      → after (cond b (ok (null₁ column (cursor (column + 1) c.offset)))
-      (after read_here (λ y. ok (value₁ column y.0 (cursor (column + 1) y.1))))) (λ t. ok (row_next c t))
+      → after (cond b (ok (null column (cursor (column + 1) c.offset)))
+      (after read_here (λ y. ok (value column y.0 (cursor (column + 1) y.1))))) (λ t. ok (row_next c t))
       ≡ step_of column c b read_here
   over true = refl
   over false = through read_here

@@ -7,12 +7,10 @@ use native.Mathlib.Omega.{arith}
 use borrow.Author.Tests.{eq-eqb, ne_eqb}
 use lib.ListN.{length, get_or, take, drop}
 use Rattle.wire.specs.declared.refusal.Refusal.{Refusal}
-use Rattle.wire.specs.declared.store.Written.{Written}
-use Rattle.wire.specs.declared.store.Written.TheVariants.{Done, Refused}
 use Rattle.wire.specs.Outcome.{Outcome, ok, refused, refuse, after}
 use Rattle.wire.specs.Number.{le_value}
 use Rattle.wire.specs.Bits.{bytes_for, bit_lsb0}
-use Rattle.wire.specs.Stored.{store, answer_of, left_of, written_told}
+use Rattle.wire.specs.Stored.{store, answer_of, left_of}
 use Rattle.wire.proofs.Outcomes.{after_after}
 use Rattle.wire.proofs.Stores.{store_full}
 use Rattle.value.specs.declared.datum.Value.{Value}
@@ -28,10 +26,8 @@ use Rattle.image.specs.Rows.{is_null}
 use Rattle.image.specs.Puts.{slot_bytes, put_over}
 use Rattle.image.proofs.PutLaws.Puts.{store_none}
 use Rattle.row_plan.specs.declared.put.ItemCursor.{ItemCursor}
-use Rattle.row_plan.specs.declared.put.ItemPut.{ItemPut}
-use Rattle.row_plan.specs.declared.put.ItemPut.TheVariants.{Next, Refused as Refused₁}
 use Rattle.row_plan.specs.Plan.{item_count, item_at, plan_slots}
-use Rattle.row_plan.specs.Puts.{item_cursor, plan_put, item_put_told}
+use Rattle.row_plan.specs.Puts.{item_cursor, plan_put}
 use Rattle.row_plan.proofs.Goes.{slots_at_lem, slots_over}
 
 -- ---- which values are NULL, by their sort
@@ -61,13 +57,13 @@ other_sort lent (Value.Temporal t) n = refl
 other_sort lent (Bytes p) n = refl
 
 -- ---- the answer a of a call that writes, and the buffer x that it leaves, are those of w
-abbrev pub Wrote : List ℕ → Outcome (ItemCursor × List ℕ) → ItemPut → List ℕ → Type 0
-Wrote buf w a x = (item_put_told a ≡ answer_of w) × (x ≡ left_of w buf)
+abbrev pub Wrote : List ℕ → Outcome (ItemCursor × List ℕ) → Outcome ItemCursor → List ℕ → Type 0
+Wrote buf w a x = (a ≡ answer_of w) × (x ≡ left_of w buf)
 
-pub wrote_none : {w : Outcome (ItemCursor × List ℕ)} {z : Refusal} (buf : List ℕ) → w ≡ refused z → Wrote buf w (Refused₁ z) buf
+pub wrote_none : {w : Outcome (ItemCursor × List ℕ)} {z : Refusal} (buf : List ℕ) → w ≡ refused z → Wrote buf w (refused z) buf
 wrote_none buf e = rw e (refl, refl)
 
-pub wrote_next : {w : Outcome (ItemCursor × List ℕ)} {c : ItemCursor} {x : List ℕ} (buf : List ℕ) → w ≡ ok (c, x) → Wrote buf w (Next c) x
+pub wrote_next : {w : Outcome (ItemCursor × List ℕ)} {c : ItemCursor} {x : List ℕ} (buf : List ℕ) → w ≡ ok (c, x) → Wrote buf w (ok c) x
 wrote_next buf e = rw e (refl, refl)
 
 -- the cursor behind a value takes the place after it
@@ -145,17 +141,10 @@ module _ (plan nulls : List ℕ) (c : ItemCursor) (lent : List ℕ) (v : Value) 
             (λ x. ok (cursor (j + 1) x.0, x.1))))
             ∙ told_behind c j (after (stored_bytes (shape_for (get_or plan (3 * c.item) 0)) j lent v) (λ b. store b buf c.offset)))
 
-        module _ (a : Written) (x : List ℕ) (q : written_told a ≡ answer_of written) (y : x ≡ left_of written buf) where
-          answer_is : answer_of put ≡ after (written_told a) (λ m. ok (item_cursor (c.item + 1) m))
-          answer_is =
-              ap answer_of put_value ∙ behind_answer (c.item + 1) written
-              ∙ ap (λ (w : Outcome ℕ). after w (λ m. ok (item_cursor (c.item + 1) m))) (sym q)
-
-          left_is : x ≡ left_of put buf
-          left_is = y ∙ sym (ap (λ (o : Outcome (ItemCursor × List ℕ)). left_of o buf) put_value ∙ behind_left (c.item + 1) buf written)
-
-          pub put_done : (m : ℕ) → a ≡ Done m → Wrote buf put (Next (item_cursor (c.item + 1) m)) x
-          put_done m z = (sym (rw z at answer_is), left_is)
-
-          pub put_bad : (w : Refusal) → a ≡ Refused w → Wrote buf put (Refused₁ w) x
-          put_bad w z = (sym (rw z at answer_is), left_is)
+        pub put_written : {a : Outcome ℕ} {x : List ℕ} → a ≡ answer_of written → x ≡ left_of written buf
+            → Wrote buf put (after a (λ m. ok (item_cursor (c.item + 1) m))) x
+        put_written q y = (
+          sym (ap answer_of put_value ∙ behind_answer (c.item + 1) written
+              ∙ ap (λ (w : Outcome ℕ). after w (λ m. ok (item_cursor (c.item + 1) m))) (sym q)),
+          y ∙ sym (ap (λ (o : Outcome (ItemCursor × List ℕ)). left_of o buf) put_value ∙ behind_left (c.item + 1) buf written),
+        )

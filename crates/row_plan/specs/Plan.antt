@@ -1,20 +1,17 @@
 -- A plan: three bytes for each present column, its op and its place in the table. Any bytes are a plan: a step by it looks at no record and
 -- tests nothing of the plan again. Assumes nothing.
 use Rattle.std.specs.Prelude.{ℕ, zero, suc, ◌+◌, ◌-◌, ◌*◌, ◌/◌, cond, List, [], ◌∷◌, ◌++◌, length, get_or, take, drop, ltb}
-use Rattle.wire.specs.Outcome.{Outcome, ok, refused, refuse, after}
+use Rattle.wire.specs.Outcome.{Outcome, ok, refuse, after}
 use Rattle.wire.specs.Number.{le_value, le_bytes}
 use Rattle.wire.specs.Bits.{bytes_for}
 use Rattle.wire.specs.Stored.{store}
-use Rattle.value.specs.declared.datum.Value.{Value}
 use Rattle.value.specs.Ops.{shape_for, op_of}
 use Rattle.image.specs.declared.cursor.Cursor.{Cursor}
 use Rattle.image.specs.Present.{Present, present, count_bits}
-use Rattle.image.specs.Split.{Slot, slots, head_of, ColumnStepped, null as null₁, value as value₁, end as end₁, step_over}
+use Rattle.image.specs.declared.step.Step.{Step}
+use Rattle.image.specs.Split.{Slot, slots, head_of, ColumnStepped, step_over}
+pub use Rattle.image.specs.declared.step.Step.TheVariants.{Null as null, Value as value, End as end}
 use Rattle.row_plan.specs.declared.row.RowCursor.{RowCursor}
-use Rattle.row_plan.specs.declared.row.RowStep.{RowStep}
-use Rattle.row_plan.specs.declared.row.RowStep.TheVariants.{Null, Value as Value₁, End, Refused}
-use Rattle.row_plan.specs.declared.make.Planned.{Planned}
-use Rattle.row_plan.specs.declared.make.Planned.TheVariants.{Made, Refused as Refused₁}
 
 -- ---- the bytes of a plan
 unfoldable pub item_bytes : Present → List ℕ
@@ -59,16 +56,14 @@ plan_slots plan image k = slots (items_from (item_count plan - k) plan k) k imag
 abbrev pub row_cursor : ℕ → ℕ → ℕ → RowCursor
 row_cursor start item offset = record { start = start; item = item; offset = offset }
 
-pub data RowStepped : Type 0 where
-  null : ℕ → RowCursor → RowStepped
-  value : ℕ → Value → RowCursor → RowStepped
-  end : ℕ → RowStepped
+abbrev pub RowStepped : Type 0
+RowStepped = Step RowCursor
 
 -- a step over slots told with the cursor's next item in place of a column
 abbrev pub row_next : RowCursor → ColumnStepped → RowStepped
-row_next c (null₁ j n) = null j (row_cursor c.start (c.item + 1) n.offset)
-row_next c (value₁ j v n) = value j v (row_cursor c.start (c.item + 1) n.offset)
-row_next c (end₁ used) = end used
+row_next c (null j n) = null j (row_cursor c.start (c.item + 1) n.offset)
+row_next c (value j v n) = value j v (row_cursor c.start (c.item + 1) n.offset)
+row_next c (end used) = end used
 
 -- from any cursor, by any plan: 14 for an item above their count; 9 at 0 for null bits that are not whole; 9 at the item for an offset past
 -- the image
@@ -86,17 +81,6 @@ unfolding count_bits
 row_at p start c = row_cursor start (count_bits p c.column) c.offset
 
 abbrev pub rows_next : List ℕ → ℕ → ColumnStepped → RowStepped
-rows_next p start (null₁ j n) = null j (row_at p start n)
-rows_next p start (value₁ j v n) = value j v (row_at p start n)
-rows_next p start (end₁ used) = end used
-
--- ---- what the answers say
-abbrev pub row_step_told : RowStep → Outcome RowStepped
-row_step_told (Null column next) = ok (null column next)
-row_step_told (Value₁ column v next) = ok (value column v next)
-row_step_told (End used) = ok (end used)
-row_step_told (Refused r) = refused r
-
-abbrev pub planned_told : Planned → Outcome (ℕ × ℕ)
-planned_told (Made len items) = ok (len, items)
-planned_told (Refused₁ r) = refused r
+rows_next p start (null j n) = null j (row_at p start n)
+rows_next p start (value j v n) = value j v (row_at p start n)
+rows_next p start (end used) = end used

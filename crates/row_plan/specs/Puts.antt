@@ -9,8 +9,6 @@ use Rattle.image.specs.Split.{cursor}
 use Rattle.image.specs.Puts.{start_image, put_over}
 use Rattle.image.specs.WriteRow.{LentValue, left_then}
 use Rattle.row_plan.specs.declared.put.ItemCursor.{ItemCursor}
-use Rattle.row_plan.specs.declared.put.ItemPut.{ItemPut}
-use Rattle.row_plan.specs.declared.put.ItemPut.TheVariants.{Next, Refused}
 use Rattle.row_plan.specs.Plan.{item_count, plan_slots, plan_of}
 
 abbrev pub item_cursor : ℕ → ℕ → ItemCursor
@@ -57,8 +55,3 @@ plan_left profile presence nulls gs buf =
 unfoldable pub item_of : List ℕ → Cursor → ItemCursor
 unfolding count_bits
 item_of presence c = item_cursor (count_bits presence c.column) c.offset
-
--- ---- what the answer says
-abbrev pub item_put_told : ItemPut → Outcome ItemCursor
-item_put_told (Next c) = ok c
-item_put_told (Refused r) = refused r

@@ -8,8 +8,6 @@ use Rattle.value.specs.declared.datum.Value.{Value}
 use Rattle.value.specs.declared.datum.Value.TheVariants.{Null, Int, Uint, Float, Double, Year, Bytes}
 use Rattle.value_parts.specs.Parts.{sort_of, parts_of, padded}
 use Rattle.row_plan.specs.declared.row.RowCursor.{RowCursor}
-use Rattle.row_plan.specs.declared.run.Run.{Run}
-use Rattle.row_plan.specs.declared.run.Run.TheVariants.{Ran, Refused}
 use Rattle.row_plan.specs.Plan.{item_count, row_cursor, RowStepped, null, value, end, plan_step}
 
 -- ---- a value in numbers
@@ -75,8 +73,3 @@ run_answer w =
 unfoldable pub read_run : List ℕ → List ℕ → RowCursor → List ℕ → Outcome ((ℕ × RowCursor) × List ℕ)
 unfolding run_from
 read_run plan images c buf = cond (ltb (length buf) 8) (refuse 8 0) (run_answer (run_from (length buf / 8) plan images c 0 buf))
-
--- ---- what the answer says
-abbrev pub ran_told : Run → Outcome (ℕ × RowCursor)
-ran_told (Ran values next) = ok (values, next)
-ran_told (Refused r) = refused r

@@ -10,7 +10,7 @@ mod put;
 mod row;
 mod run;
 
-pub use make::{Planned, make_plan};
-pub use put::{ItemCursor, ItemPut};
-pub use row::{RowCursor, RowStep};
-pub use run::{Run, VALUE_NUMBERS};
+pub use make::make_plan;
+pub use put::ItemCursor;
+pub use row::RowCursor;
+pub use run::VALUE_NUMBERS;

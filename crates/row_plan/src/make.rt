@@ -4,21 +4,13 @@ ghost use Rattle.wire.specs.Number.{le_bytes};
 ghost use Rattle.wire.specs.Stored.{stored, answer_of, left_of};
 ghost use Rattle.record.specs.Records.{count_of};
 ghost use Rattle.image.specs.Present.{present};
-ghost use Rattle.row_plan.specs.Plan.{plan_of, make_plan, planned_told};
+ghost use Rattle.row_plan.specs.Plan.{plan_of, make_plan};
 
-use image::HeadRead;
 use wire::Refusal;
 use wire::refusal::NO_ROOM;
 
 // Bytes of the plan for each present column: its op, and its place in the table in two bytes.
 pub(crate) const ITEM_BYTES: usize = 3;
-
-// How many bytes the plan has, and how many items, one for each present column.
-#[derive(Clone, Copy)]
-pub enum Planned {
-    Made { len: usize, items: usize },
-    Refused(Refusal),
-}
 
 // One item, where there is room for it.
 fn put_item(op: u8, column: usize, plan: &mut [u8], at: usize)
@@ -26,7 +18,7 @@ fn put_item(op: u8, column: usize, plan: &mut [u8], at: usize)
     ensures { plan.new ≡ stored (op ∷ le_bytes 2 column) plan.old at }
 {
     plan[at] = op;
-    wire::write_le(2, column as u64, plan, at + 1);
+    let _ = wire::write_le(2, column as u64, plan, at + 1);
 }
 
 // The plan stored at the start of a buffer that has room for it.
@@ -50,21 +42,23 @@ fn put_plan(profile: &[u8], presence: &[u8], columns: usize, plan: &mut [u8])
     }
 }
 
-// Makes the plan of a record and presence bits at the start of a lent buffer: refusals 11 and 12, then 8.
-pub fn make_plan(profile: &[u8], presence: &[u8], plan: &mut [u8]) -> Planned
-    ensures result_value { planned_told result ≡ answer_of (make_plan profile.now presence.now plan.old) }
+// Makes the plan of a record and presence bits at the start of a lent buffer: refusals 11 and 12, then 8. It answers how many bytes the plan
+// has, and how many items, one for each present column.
+pub fn make_plan(
+    profile: &[u8],
+    presence: &[u8],
+    plan: &mut [u8],
+) -> Result<(usize, usize), Refusal>
+    ensures result_value { result ≡ answer_of (make_plan profile.now presence.now plan.old) }
     ensures plan_after { plan.new
         ≡ left_of (make_plan profile.now presence.now plan.old) plan.old }
 {
-    let head = match image::read_head(profile, presence) {
-        HeadRead::Read(head) => head,
-        HeadRead::Refused(r) => return Planned::Refused(r),
-    };
+    let head = image::read_head(profile, presence)?;
     let items = head.present;
     let len = ITEM_BYTES * items;
     if plan.len() < len {
-        return Planned::Refused(wire::refuse(NO_ROOM, 0));
+        return Err(wire::refuse(NO_ROOM, 0));
     }
     put_plan(profile, presence, head.columns, plan);
-    Planned::Made { len, items }
+    Ok((len, items))
 }

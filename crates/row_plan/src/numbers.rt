@@ -1,16 +1,15 @@
 // A value read by its op and told as numbers. The shapes of integers and temporals have readers of their own here, which never make a
 // `Value`: each is called at one place, so that the compiler puts it there whole. All other shapes are read as everywhere, and then told.
 ghost use Rattle.std.specs.Prelude.{◌≡◌, ℕ, ◌+◌, ◌≤◌, ◌<◌, ◌^◌, length};
-ghost use Rattle.wire.specs.Outcome.{after, ok, why};
-ghost use Rattle.temporal.specs.Reading.{temporal_told};
+ghost use Rattle.wire.specs.Outcome.{after, ok};
 ghost use Rattle.value.specs.declared.shape.Shape.TheVariants.{Unsigned, Signed};
 ghost use Rattle.value.specs.Ops.{shape_for};
 ghost use Rattle.value.specs.Reading.{read_value};
 ghost use Rattle.row_plan.specs.Runs.{value_numbers};
 ghost use Rattle.row_plan.specs.Inner.Numbers.{listed, numbers_told, numbered, start_in};
 
-use temporal::{Temporal, TemporalRead};
-use value::{Read, Value};
+use temporal::Temporal;
+use value::Value;
 use value_parts::sort::{
     BYTES, DATE, DATETIME, DOUBLE, FLOAT, INT, NULL, SECONDS, TIME, UINT, YEAR,
 };
@@ -30,20 +29,6 @@ pub(crate) struct Numbers {
     pub(crate) g: u64,
 }
 
-// The numbers of a value and the place after it, or why there is none.
-#[derive(Clone, Copy)]
-pub(crate) enum NumbersRead {
-    Got { numbers: Numbers, next: usize },
-    Refused(Refusal),
-}
-
-// The bytes end early.
-fn short(place: usize) -> NumbersRead
-    ensures { result ≡ NumbersRead.Refused (why 9 place) }
-{
-    NumbersRead::Refused(wire::refuse(IMAGE_SHORT, place))
-}
-
 // The numbers of a value that has one part, or none: then n is 0.
 pub(crate) fn one(sort: u64, n: u64) -> Numbers
     ensures { result ≡ record { sort = sort; a = n; b = 0; c = 0; d = 0; e = 0; f = 0; g = 0 } }
@@ -61,33 +46,27 @@ pub(crate) fn one(sort: u64, n: u64) -> Numbers
 }
 
 // An integer has no bytes, so that its numbers are the same wherever its image starts.
-fn number_unsigned(k: usize, s: &[u8], at: usize, place: usize) -> NumbersRead
+fn number_unsigned(k: usize, s: &[u8], at: usize, place: usize) -> Result<(Numbers, usize), Refusal>
     requires { (0 < k) × (k ≤ 8) }
     ensures { (by : ℕ) → numbers_told result ≡ numbered by (read_value (Unsigned k) place s.now at) }
 {
     if !wire::has_room(s.len(), at, k) {
-        return short(place);
+        return Err(wire::refuse(IMAGE_SHORT, place));
     }
     let next = at + k;
-    NumbersRead::Got {
-        numbers: one(UINT, wire::read_le(s, at, k)),
-        next,
-    }
+    Ok((one(UINT, wire::read_le(s, at, k)), next))
 }
 
-fn number_signed(k: usize, s: &[u8], at: usize, place: usize) -> NumbersRead
+fn number_signed(k: usize, s: &[u8], at: usize, place: usize) -> Result<(Numbers, usize), Refusal>
     requires { (0 < k) × (k ≤ 8) }
     ensures { (by : ℕ) → numbers_told result ≡ numbered by (read_value (Signed k) place s.now at) }
 {
     if !wire::has_room(s.len(), at, k) {
-        return short(place);
+        return Err(wire::refuse(IMAGE_SHORT, place));
     }
     let next = at + k;
     let z = wire::signed_of(k, wire::read_le(s, at, k));
-    NumbersRead::Got {
-        numbers: one(INT, wire::twos_of(8, z)),
-        next,
-    }
+    Ok((one(INT, wire::twos_of(8, z)), next))
 }
 
 fn temporal_numbers(t: Temporal) -> Numbers
@@ -137,16 +116,11 @@ fn temporal_numbers(t: Temporal) -> Numbers
     }
 }
 
-fn number_timed(read: TemporalRead) -> NumbersRead
-    ensures { (by : ℕ) → numbers_told result ≡ after (temporal_told read) (λ x. ok (value_numbers by (Value.Temporal x.0), x.1)) }
+fn number_timed(read: Result<(Temporal, usize), Refusal>) -> Result<(Numbers, usize), Refusal>
+    ensures { (by : ℕ) → numbers_told result ≡ after read (λ x. ok (value_numbers by (Value.Temporal x.0), x.1)) }
 {
-    match read {
-        TemporalRead::Read { temporal, next } => NumbersRead::Got {
-            numbers: temporal_numbers(temporal),
-            next,
-        },
-        TemporalRead::Refused(r) => NumbersRead::Refused(r),
-    }
+    let (temporal, next) = read?;
+    Ok((temporal_numbers(temporal), next))
 }
 
 // The numbers of a value of an image that starts at `by` among the images.
@@ -177,22 +151,29 @@ fn value_numbers(value: Value, by: usize) -> Numbers
 
 // A value of any op, by way of a `Value`. From a place within the image its bytes start within the image, so that their start, moved by
 // `by`, fits a number.
-fn number_value(op: u8, s: &[u8], at: usize, place: usize, by: usize) -> NumbersRead
+fn number_value(
+    op: u8,
+    s: &[u8],
+    at: usize,
+    place: usize,
+    by: usize,
+) -> Result<(Numbers, usize), Refusal>
     requires at_in_bounds { at ≤ length s.now }
     requires s_bound { by + length s.now < 2 ^ 64 }
     ensures { numbers_told result ≡ numbered by (read_value (shape_for op) place s.now at) }
 {
-    match value::read_op(op, s, at, place) {
-        Read::Got { value, next } => NumbersRead::Got {
-            numbers: value_numbers(value, by),
-            next,
-        },
-        Read::Refused(r) => NumbersRead::Refused(r),
-    }
+    let (value, next) = value::read_op(op, s, at, place)?;
+    Ok((value_numbers(value, by), next))
 }
 
 // A value of any op, of an image that starts at `by` among the images: integers and temporals by their readers, all others as everywhere.
-pub(crate) fn number_op(op: u8, s: &[u8], at: usize, place: usize, by: usize) -> NumbersRead
+pub(crate) fn number_op(
+    op: u8,
+    s: &[u8],
+    at: usize,
+    place: usize,
+    by: usize,
+) -> Result<(Numbers, usize), Refusal>
     requires at_in_bounds { at ≤ length s.now }
     requires s_bound { by + length s.now < 2 ^ 64 }
     ensures { numbers_told result ≡ numbered by (read_value (shape_for op) place s.now at) }

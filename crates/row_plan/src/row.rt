@@ -1,10 +1,10 @@
 // A step by a plan.
 ghost use Rattle.std.specs.Prelude.{◌≡◌, ◌+◌, ◌≤◌, ◌<◌, min, length, get_or, take, drop};
 ghost use Rattle.wire.specs.Number.{le_value};
-ghost use Rattle.row_plan.specs.Plan.{row_step_told, plan_step};
+ghost use Rattle.row_plan.specs.Plan.{plan_step};
 
 use crate::make::ITEM_BYTES;
-use value::{Read, Value};
+use image::Step;
 use wire::Refusal;
 use wire::refusal::{IMAGE_SHORT, NO_COLUMN};
 
@@ -14,23 +14,6 @@ pub struct RowCursor {
     pub start: usize,
     pub item: usize,
     pub offset: usize,
-}
-
-#[derive(Clone, Copy)]
-pub enum RowStep {
-    Null {
-        column: usize,
-        next: RowCursor,
-    },
-    Value {
-        column: usize,
-        value: Value,
-        next: RowCursor,
-    },
-    End {
-        used: usize,
-    },
-    Refused(Refusal),
 }
 
 pub(crate) fn least(a: usize, b: usize) -> usize
@@ -57,51 +40,49 @@ pub(crate) fn column_at(plan: &[u8], at: usize) -> usize
 
 impl RowCursor {
     // The next item of the plan from this cursor on. Any plan and any cursor obey the same rule.
-    pub fn step(self, plan: &[u8], images: &[u8]) -> RowStep
-        ensures { row_step_told result ≡ plan_step plan.now images.now self }
+    pub fn step(self, plan: &[u8], images: &[u8]) -> Result<Step<RowCursor>, Refusal>
+        ensures { result ≡ plan_step plan.now images.now self }
     {
         let start = self.start;
         let item = self.item;
         let offset = self.offset;
         let items = plan.len() / ITEM_BYTES;
         if items < item {
-            return RowStep::Refused(wire::refuse(NO_COLUMN, item));
+            return Err(wire::refuse(NO_COLUMN, item));
         }
         let from = least(start, images.len());
         let image = &images[from..];
         if image.len() < wire::bytes_for(items) {
-            return RowStep::Refused(wire::refuse(IMAGE_SHORT, 0));
+            return Err(wire::refuse(IMAGE_SHORT, 0));
         }
         if image.len() < offset {
-            return RowStep::Refused(wire::refuse(IMAGE_SHORT, item));
+            return Err(wire::refuse(IMAGE_SHORT, item));
         }
         if item == items {
-            return RowStep::End { used: offset };
+            return Ok(Step::End { used: offset });
         }
         let at = ITEM_BYTES * item;
         let column = column_at(plan, at);
         let behind = item + 1;
         if wire::bit_lsb0(image, item) {
-            return RowStep::Null {
+            return Ok(Step::Null {
                 column,
                 next: RowCursor {
                     start,
                     item: behind,
                     offset,
                 },
-            };
+            });
         }
-        match value::read_op(plan[at], image, offset, column) {
-            Read::Got { value, next } => RowStep::Value {
-                column,
-                value,
-                next: RowCursor {
-                    start,
-                    item: behind,
-                    offset: next,
-                },
+        let (value, next) = value::read_op(plan[at], image, offset, column)?;
+        Ok(Step::Value {
+            column,
+            value,
+            next: RowCursor {
+                start,
+                item: behind,
+                offset: next,
             },
-            Read::Refused(r) => RowStep::Refused(r),
-        }
+        })
     }
 }

@@ -2,14 +2,14 @@
 ghost use Rattle.std.specs.Prelude.{◌≡◌, ◌+◌, ◌-◌, ◌*◌, ◌/◌, ◌≤◌, ◌<◌, ◌^◌, length};
 ghost use Rattle.wire.specs.Bits.{bit_lsb0};
 ghost use Rattle.wire.specs.Stored.{stored, answer_of, left_of};
-ghost use Rattle.row_plan.specs.Runs.{turned, is_over, run_from, read_run, ran_told};
+ghost use Rattle.row_plan.specs.Runs.{turned, is_over, run_from, read_run};
 ghost use Rattle.row_plan.specs.Inner.Numbers.{listed, numbers_told, item_numbers};
 ghost use Rattle.row_plan.specs.Inner.Fast.{TookItem};
-ghost use Rattle.row_plan.specs.Inner.Paused.{row_gate, gate_told, paused_run, Further, Stands, Running, stop_answer};
+ghost use Rattle.row_plan.specs.Inner.Paused.{row_gate, paused_run, Further, Stands, Running, stop_answer};
 
 use crate::fast::take_op;
 use crate::make::ITEM_BYTES;
-use crate::numbers::{Numbers, NumbersRead, number_op, one};
+use crate::numbers::{Numbers, number_op, one};
 use crate::row::{RowCursor, column_at, least};
 use value_parts::sort::NULL;
 use wire::Refusal;
@@ -18,25 +18,12 @@ use wire::refusal::{IMAGE_SHORT, NO_COLUMN, NO_ROOM};
 // How many numbers a value has: its sort and seven parts.
 pub const VALUE_NUMBERS: usize = 8;
 
-// How many values were stored, and the cursor of the next.
-#[derive(Clone, Copy)]
-pub enum Run {
-    Ran { values: usize, next: RowCursor },
-    Refused(Refusal),
-}
-
 // Where a run left an image: at its end or at that of the room, or at a value that is refused.
 #[derive(Clone, Copy)]
-pub(crate) enum Paused {
-    On {
-        values: usize,
-        next: RowCursor,
-    },
-    Stopped {
-        values: usize,
-        next: RowCursor,
-        why: Refusal,
-    },
+pub(crate) struct Paused {
+    pub(crate) values: usize,
+    pub(crate) next: RowCursor,
+    pub(crate) stop: Result<(), Refusal>,
 }
 
 // How far an image was read fast: how many values are stored, and where the next stands.
@@ -45,13 +32,6 @@ pub(crate) struct Reached {
     pub(crate) values: usize,
     pub(crate) item: usize,
     pub(crate) offset: usize,
-}
-
-// Whether there may be a value at a cursor.
-#[derive(Clone, Copy)]
-pub(crate) enum Gate {
-    Open,
-    Refused(Refusal),
 }
 
 // The numbers of a value, stored where there is room for them.
@@ -70,16 +50,19 @@ pub(crate) fn put(n: Numbers, out: &mut [u64], at: usize)
 }
 
 // The numbers of one item, in an image that starts at `by`.
-fn number_item(plan: &[u8], image: &[u8], by: usize, item: usize, offset: usize) -> NumbersRead
+fn number_item(
+    plan: &[u8],
+    image: &[u8],
+    by: usize,
+    item: usize,
+    offset: usize,
+) -> Result<(Numbers, usize), Refusal>
     requires item_in_bounds { (3 * item + 3 ≤ length plan.now) × (offset ≤ length image.now) }
     requires image_bound { by + length image.now < 2 ^ 64 }
     ensures { numbers_told result ≡ item_numbers plan.now image.now by item offset }
 {
     if wire::bit_lsb0(image, item) {
-        return NumbersRead::Got {
-            numbers: one(NULL, 0),
-            next: offset,
-        };
+        return Ok((one(NULL, 0), offset));
     }
     let at = ITEM_BYTES * item;
     number_op(plan[at], image, offset, column_at(plan, at), by)
@@ -186,7 +169,11 @@ fn run_image(
     let mut values = had;
     while values < room {
         if at.item == items {
-            return Paused::On { values, next: at };
+            return Paused {
+                values,
+                next: at,
+                stop: Ok(()),
+            };
         }
         let far = take_items(at, plan, images, items, room, values, out);
         values = far.values;
@@ -202,7 +189,7 @@ fn run_image(
             continue;
         }
         match number_item(plan, image, start, far.item, far.offset) {
-            NumbersRead::Got { numbers, next } => {
+            Ok((numbers, next)) => {
                 put(numbers, out, VALUE_NUMBERS * far.values);
                 at = RowCursor {
                     start,
@@ -210,17 +197,21 @@ fn run_image(
                     offset: next,
                 };
             }
-            NumbersRead::Refused(why) => {
-                return Paused::Stopped {
+            Err(why) => {
+                return Paused {
                     values,
                     next: at,
-                    why,
+                    stop: Err(why),
                 };
             }
         }
         values += 1;
     }
-    Paused::On { values, next: at }
+    Paused {
+        values,
+        next: at,
+        stop: Ok(()),
+    }
 }
 
 // How many bytes of the images stand from a place on.
@@ -262,42 +253,48 @@ fn is_over(c: RowCursor, images: &[u8]) -> bool
 }
 
 // The tests before the values of an image: refusals 14 and 9.
-fn test_image(c: RowCursor, items: usize, images: &[u8]) -> Gate
-    ensures { gate_told result ≡ row_gate items (length images.now - c.start) c }
+fn test_image(c: RowCursor, items: usize, images: &[u8]) -> Result<(), Refusal>
+    ensures { result ≡ row_gate items (length images.now - c.start) c }
 {
     if items < c.item {
-        return Gate::Refused(wire::refuse(NO_COLUMN, c.item));
+        return Err(wire::refuse(NO_COLUMN, c.item));
     }
     let left = rest(images, c.start);
     if left < wire::bytes_for(items) {
-        return Gate::Refused(wire::refuse(IMAGE_SHORT, 0));
+        return Err(wire::refuse(IMAGE_SHORT, 0));
     }
     if left < c.offset {
-        return Gate::Refused(wire::refuse(IMAGE_SHORT, c.item));
+        return Err(wire::refuse(IMAGE_SHORT, c.item));
     }
-    Gate::Open
+    Ok(())
 }
 
 // A run that met a refusal: told only if no value stands before it.
-fn stopped(values: usize, next: RowCursor, why: Refusal) -> Run
-    ensures { ran_told result ≡ stop_answer values next why }
+fn stopped(values: usize, next: RowCursor, why: Refusal) -> Result<(usize, RowCursor), Refusal>
+    ensures { result ≡ stop_answer values next why }
 {
     if values == 0 {
-        return Run::Refused(why);
+        return Err(why);
     }
-    Run::Ran { values, next }
+    Ok((values, next))
 }
 
 impl RowCursor {
     // Stores as many values as out holds, each as its sort and seven parts, from this cursor on, through images laid end to end. It stops
-    // at the room, at the end of the images, or before a value that is refused; it refuses only if that is the first.
-    pub fn read(self, plan: &[u8], images: &[u8], out: &mut [u64]) -> Run
-        ensures result_value { ran_told result ≡ answer_of (read_run plan.now images.now self out.old) }
+    // at the room, at the end of the images, or before a value that is refused; it refuses only if that is the first. It answers how many
+    // values were stored, and the cursor of the next.
+    pub fn read(
+        self,
+        plan: &[u8],
+        images: &[u8],
+        out: &mut [u64],
+    ) -> Result<(usize, RowCursor), Refusal>
+        ensures result_value { result ≡ answer_of (read_run plan.now images.now self out.old) }
         ensures out_after { out.new
             ≡ left_of (read_run plan.now images.now self out.old) out.old }
     {
         if out.len() < VALUE_NUMBERS {
-            return Run::Refused(wire::refuse(NO_ROOM, 0));
+            return Err(wire::refuse(NO_ROOM, 0));
         }
         let items = plan.len() / ITEM_BYTES;
         let room = out.len() / VALUE_NUMBERS;
@@ -306,23 +303,21 @@ impl RowCursor {
         while values < room {
             let here = turned(at, plan, images);
             if is_over(here, images) {
-                return Run::Ran { values, next: here };
+                return Ok((values, here));
             }
-            match test_image(here, items, images) {
-                Gate::Open => {}
-                Gate::Refused(why) => return stopped(values, here, why),
+            if let Err(why) = test_image(here, items, images) {
+                return stopped(values, here, why);
             }
             if here.item == items {
-                return Run::Ran { values, next: here };
+                return Ok((values, here));
             }
-            match run_image(here, plan, images, items, room, values, out) {
-                Paused::On { values: v, next } => {
-                    values = v;
-                    at = next;
-                }
-                Paused::Stopped { values, next, why } => return stopped(values, next, why),
+            let paused = run_image(here, plan, images, items, room, values, out);
+            if let Err(why) = paused.stop {
+                return stopped(paused.values, paused.next, why);
             }
+            values = paused.values;
+            at = paused.next;
         }
-        Run::Ran { values, next: at }
+        Ok((values, at))
     }
 }

@@ -8,17 +8,15 @@ use Rattle.value.specs.declared.datum.Value.TheVariants.{Null, Int, Uint, Float,
 use Rattle.value.specs.Ops.{shape_for}
 use Rattle.value.specs.Reading.{read_value}
 use Rattle.row_plan.specs.declared.numbers.Numbers.{Numbers}
-use Rattle.row_plan.specs.declared.numbers.NumbersRead.{NumbersRead}
-use Rattle.row_plan.specs.declared.numbers.NumbersRead.TheVariants.{Got, Refused}
 use Rattle.row_plan.specs.Runs.{value_numbers}
 
 -- the eight numbers in their order
 abbrev pub listed : Numbers → List ℕ
 listed n = n.sort ∷ (n.a ∷ (n.b ∷ (n.c ∷ (n.d ∷ (n.e ∷ (n.f ∷ (n.g ∷ [])))))))
 
-abbrev pub numbers_told : NumbersRead → Outcome (List ℕ × ℕ)
-numbers_told (Got n next) = ok (listed n, next)
-numbers_told (Refused r) = refused r
+abbrev pub numbers_told : Outcome (Numbers × ℕ) → Outcome (List ℕ × ℕ)
+numbers_told (ok x) = ok (listed x.0, x.1)
+numbers_told (refused r) = refused r
 
 -- the numbers of a value that was read
 abbrev pub numbered : ℕ → Outcome (Value × ℕ) → Outcome (List ℕ × ℕ)

@@ -5,9 +5,6 @@ use Rattle.wire.specs.Outcome.{Outcome, ok, refused, refuse}
 use Rattle.wire.specs.Bits.{bytes_for}
 use Rattle.row_plan.specs.declared.row.RowCursor.{RowCursor}
 use Rattle.row_plan.specs.declared.run.Paused.{Paused}
-use Rattle.row_plan.specs.declared.run.Paused.TheVariants.{On, Stopped}
-use Rattle.row_plan.specs.declared.run.Gate.{Gate}
-use Rattle.row_plan.specs.declared.run.Gate.TheVariants.{Open, Refused}
 use Rattle.row_plan.specs.Plan.{item_count, row_cursor}
 use Rattle.row_plan.specs.Runs.{RowRan, ran, run_from}
 
@@ -17,10 +14,6 @@ row_gate items left c =
     cond (ltb items c.item) (refuse 14 c.item)
     (cond (ltb left (bytes_for items)) (refuse 9 0)
     (cond (ltb left c.offset) (refuse 9 c.item) (ok tt)))
-
-abbrev pub gate_told : Gate → Outcome (Unit {0})
-gate_told Open = ok tt
-gate_told (Refused r) = refused r
 
 -- a cursor at an item of an image that was tested
 pub record Stands (plan images : List ℕ) (items : ℕ) (c : RowCursor) : Type 0 where
@@ -42,15 +35,18 @@ pub record Running (plan images : List ℕ) (items room had : ℕ) (d₀ : List 
   pub goes : run_from (room - values) plan images (row_cursor here.start item offset) values d
       ≡ run_from (room - had) plan images here had d₀
 
--- the run that goes on from where it left an image
-abbrev pub paused_run : ℕ → List ℕ → List ℕ → List ℕ → Paused → RowRan
-paused_run room plan images buf (On v next) = run_from (room - v) plan images next v buf
-paused_run room plan images buf (Stopped v next w) = ran v next (refused w) buf
+-- the run that goes on from where it left an image, unless it stopped there
+abbrev pub run_past : ℕ → List ℕ → List ℕ → ℕ → RowCursor → List ℕ → Outcome (Unit {0}) → RowRan
+run_past room plan images v next buf (ok u) = run_from (room - v) plan images next v buf
+run_past room plan images v next buf (refused w) = ran v next (refused w) buf
 
--- a run that goes on has stored a value at least, and no more than there is room for
-abbrev pub Further : ℕ → ℕ → Paused → Type 0
-Further had room (On v next) = (had < v) × (v ≤ room)
-Further had room (Stopped v next w) = v ≤ room
+abbrev pub paused_run : ℕ → List ℕ → List ℕ → List ℕ → Paused → RowRan
+paused_run room plan images buf p = run_past room plan images p.values p.next buf p.stop
+
+-- no more values are stored than there is room for, and one at least by a run that goes on
+pub record Further (had room : ℕ) (p : Paused) : Type 0 where
+  pub most : p.values ≤ room
+  pub more : p.stop ≡ ok tt → had < p.values
 
 -- what a run tells that stopped at a refusal
 abbrev pub stop_answer : ℕ → RowCursor → Refusal → Outcome (ℕ × RowCursor)

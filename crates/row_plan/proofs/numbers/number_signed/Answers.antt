@@ -7,11 +7,11 @@ use mir.ValLaws.{to_z-of_z}
 use lib.ListN.{length, take, drop}
 use Rattle.wire.specs.Number.{le_value}
 use Rattle.wire.specs.Signed.{signed_of, twos_of}
-use Rattle.wire.specs.Outcome.{ok}
+use Rattle.wire.specs.Outcome.{ok, refused}
 use Rattle.wire.proofs.Stores.{room, no_room}
 use Rattle.value.proofs.Readers.{narrow}
 use Rattle.row_plan.specs.declared.numbers.Numbers.{Numbers}
-use Rattle.row_plan.specs.Inner.Numbers.{listed, numbers_told}
+use Rattle.row_plan.specs.Inner.Numbers.{listed}
 use Rattle.row_plan.proofs.NumberLaws.{signed_short, signed_got}
 use Rattle.row_plan.proofs.numbers.number_signed.Goals as goal
 
@@ -19,7 +19,7 @@ pub returns-then-not-has_room : goal.returns-then-not-has_room
 returns-then-not-has_room c =
     let a = c.args in
     let l = no_room _ _ _ _ c.has_room.ensures (c.if-not-has_room.true) in
-    λ by. ap numbers_told c.short.ensures
+    λ by. ap refused c.refuse.ensures
     ∙ signed_short a.k by a.place a.s.now a.at (omega arith) l
 
 pub overflow_add-next : goal.overflow_add-next

@@ -4,11 +4,11 @@ use mathlib.Core.Path.{ap, ◌∙◌}
 use native.Mathlib.Omega.{arith}
 use lib.ListN.{length, take, drop}
 use Rattle.wire.specs.Number.{le_value}
-use Rattle.wire.specs.Outcome.{ok}
+use Rattle.wire.specs.Outcome.{ok, refused}
 use Rattle.wire.proofs.Stores.{room, no_room}
 use Rattle.value.proofs.Readers.{narrow}
 use Rattle.row_plan.specs.declared.numbers.Numbers.{Numbers}
-use Rattle.row_plan.specs.Inner.Numbers.{listed, numbers_told}
+use Rattle.row_plan.specs.Inner.Numbers.{listed}
 use Rattle.row_plan.proofs.NumberLaws.{unsigned_short, unsigned_got}
 use Rattle.row_plan.proofs.numbers.number_unsigned.Goals as goal
 
@@ -16,7 +16,7 @@ pub returns-then-not-has_room : goal.returns-then-not-has_room
 returns-then-not-has_room c =
     let a = c.args in
     let l = no_room _ _ _ _ c.has_room.ensures (c.if-not-has_room.true) in
-    λ by. ap numbers_told c.short.ensures
+    λ by. ap refused c.refuse.ensures
     ∙ unsigned_short a.k by a.place a.s.now a.at (omega arith) l
 
 pub overflow_add-next : goal.overflow_add-next

@@ -5,7 +5,6 @@ use mathlib.Core.List.{List}
 use native.Mathlib.Omega.{arith}
 use Rattle.wire.specs.Outcome.{ok}
 use Rattle.value.specs.Ops.{shape_for}
-use Rattle.value.specs.Reading.{read_told}
 use Rattle.row_plan.specs.Inner.Numbers.{numbered}
 use Rattle.row_plan.proofs.NumberLaws.{value_inside}
 use Rattle.row_plan.proofs.numbers.number_value.Goals as goal
@@ -13,17 +12,11 @@ use Rattle.row_plan.proofs.numbers.number_value.Goals as goal
 pub value_numbers-requires : goal.value_numbers-requires
 value_numbers-requires c =
     let a = c.args in
-    let e = sym c.read_op.ensures ∙ ap read_told c.in-Got.is in
-    let i = value_inside (shape_for a.op) a.place a.s.now a.at _ (omega arith) e in
+    let i = value_inside (shape_for a.op) a.place a.s.now a.at _ (omega arith) (sym c.in_ok-value.ensures) in
     omega (arith, i.start)
 
-pub returns-in-Got : goal.returns-in-Got
-returns-in-Got c =
+pub returns : goal.returns
+returns c =
     let a = c.args in
-    ap (λ (ns : List ℕ). ok (ns, c.in-Got.next)) c.value_numbers.ensures
-    ∙ ap (numbered a.by) (sym (ap read_told c.in-Got.is) ∙ c.read_op.ensures)
-
-pub returns-in-Refused : goal.returns-in-Refused
-returns-in-Refused c =
-    let a = c.args in
-    ap (numbered a.by) (sym (ap read_told c.in-Refused.is) ∙ c.read_op.ensures)
+    ap (λ (ns : List ℕ). ok (ns, c.in_ok-value.next)) c.value_numbers.ensures
+    ∙ ap (numbered a.by) c.in_ok-value.ensures

@@ -2,6 +2,7 @@ use Prim.Native.Nat.{◌≤◌}
 use mathlib.Core.Path.{refl, sym, ap, ◌∙◌}
 use native.Mathlib.Omega.{arith}
 use lib.ListN.{length}
+use Rattle.wire.proofs.Outcomes.{ok_not_refused}
 use Rattle.row_plan.specs.Inner.Numbers.{numbers_told}
 use Rattle.row_plan.proofs.Goes.{rest_is}
 use Rattle.row_plan.proofs.RunLaws.{along_goes, along_stands, along_join, run_begin, run_turn, run_stop, above_had, item_fits, part_fits, part_holds}
@@ -28,7 +29,7 @@ shape_of-out-then-at-items c = c.loop-values.invariant.run.same
 
 pub returns-then-at-items : goal.returns-then-at-items
 returns-then-at-items c = let a = c.args in
-    record { result_after = along_goes a.plan.now a.images.now a.items a.room a.had a.out.now a.here c.loop-values.out c.loop-values.at c.loop-values.values c.loop-values.invariant; further = (above_had _ _ _ _ c.loop-values.invariant.run.more c.loop-values.invariant.run.first c.if-at-items.true, c.loop-values.invariant.run.most) }
+    record { result_after = along_goes a.plan.now a.images.now a.items a.room a.had a.out.now a.here c.loop-values.out c.loop-values.at c.loop-values.values c.loop-values.invariant; further = record { most = c.loop-values.invariant.run.most; more = λ e. above_had _ _ _ _ c.loop-values.invariant.run.more c.loop-values.invariant.run.first c.if-at-items.true } }
 
 pub take_items-far-requires : goal.take_items-far-requires
 take_items-far-requires c = let a = c.args in
@@ -113,16 +114,16 @@ overflow_add-at c = omega (
   c.ranges,
 )
 
-pub shape_of-out-in-Refused : goal.shape_of-out-in-Refused
-shape_of-out-in-Refused c = c.take_items-far.ensures.same ∙ c.loop-values.invariant.run.same
+pub shape_of-out-in-Err : goal.shape_of-out-in-Err
+shape_of-out-in-Err c = c.take_items-far.ensures.same ∙ c.loop-values.invariant.run.same
 
-pub returns-in-Refused : goal.returns-in-Refused
-returns-in-Refused c = let a = c.args in
+pub returns-in-Err : goal.returns-in-Err
+returns-in-Err c = let a = c.args in
     let t = c.requires.stands in
     let j = along_join a.plan.now a.images.now a.items a.room a.had a.out.now a.here c.loop-values.out c.loop-values.at c.loop-values.values
     c.loop-values.invariant _ _ _ _ c.take_items-far.ensures in
     let is = rest_is a.images.now a.here.start a.here.start (omega (arith, t.nulls, t.item)) in
-    let e = sym c.number_item.ensures ∙ ap numbers_told c.in-Refused.is in record {
+    let e = sym c.number_item.ensures ∙ ap numbers_told c.in-Err.is in record {
       result_after = run_stop a.plan.now a.images.now a.items a.room a.had a.out.now a.here t _ _ _ _ j.run (omega (
         arith,
         j.run.most,
@@ -132,7 +133,7 @@ returns-in-Refused c = let a = c.args in
         j.run.counted,
         c.if-far-items.false,
       )) is _ e;
-      further = j.run.most;
+      further = record { most = j.run.most; more = λ e. absurd (ok_not_refused (sym e)) };
     }
 
 pub overflow_add-values : goal.overflow_add-values
@@ -158,7 +159,7 @@ loop-values-preserved c = let a = c.args in
     let j = along_join a.plan.now a.images.now a.items a.room a.had a.out.now a.here c.loop-values.out c.loop-values.at c.loop-values.values
     c.loop-values.invariant _ _ _ _ c.take_items-far.ensures in
     let is = rest_is a.images.now a.here.start a.here.start (omega (arith, t.nulls, t.item)) in
-    let e = sym c.number_item.ensures ∙ ap numbers_told c.in-Got.is in
+    let e = sym c.number_item.ensures ∙ ap numbers_told c.in-Ok.is in
     record {
       run = run_turn a.plan.now a.images.now a.items a.room a.had a.out.now a.here t _ _ _ _ j.run (omega
           (arith, j.run.most, c.if-far-room.false)) (omega (
@@ -174,4 +175,4 @@ shape_of-out c = c.loop-values.invariant.run.same
 
 pub returns : goal.returns
 returns c = let a = c.args in
-    record { result_after = along_goes a.plan.now a.images.now a.items a.room a.had a.out.now a.here c.loop-values.out c.loop-values.at c.loop-values.values c.loop-values.invariant; further = (omega (arith, c.loop-values-test.false, c.requires.had_lt_room.0), c.loop-values.invariant.run.most) }
+    record { result_after = along_goes a.plan.now a.images.now a.items a.room a.had a.out.now a.here c.loop-values.out c.loop-values.at c.loop-values.values c.loop-values.invariant; further = record { most = c.loop-values.invariant.run.most; more = λ e. omega (arith, c.loop-values-test.false, c.requires.had_lt_room.0) } }

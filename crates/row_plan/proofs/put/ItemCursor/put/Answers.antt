@@ -1,8 +1,9 @@
 use mathlib.Core.Path.{sym, ap, ◌∙◌}
 use native.Mathlib.Omega.{arith}
+use Rattle.std.proofs.lemmas.Result.{err_from_is_err_and}
 use Rattle.wire.specs.Outcome.{refused}
 use Rattle.row_plan.proofs.Writes.{null_sort, other_sort, wrote_none, wrote_next, put_bits, put_over_lem, put_unmarked, put_marked}
-use Rattle.row_plan.proofs.Writes.{put_null_full, put_null_goes, put_done, put_bad}
+use Rattle.row_plan.proofs.Writes.{put_null_full, put_null_goes, put_written}
 use Rattle.row_plan.proofs.put.ItemCursor.put.Goals as goal
 
 pub returns-then-nulls-bytes_for : goal.returns-then-nulls-bytes_for
@@ -65,9 +66,9 @@ returns-then-is_marked c = let a = c.args in
     (other_sort a.lent.now a.value (λ e. c.if-sort_of-eq-NULL.false (c.sort_of.ensures ∙ e)))
     (sym c.bit_lsb0-is_marked.ensures ∙ c.if-is_marked.true) ∙ ap refused (sym c.refuse-then-is_marked.ensures)) in record { result_value = p.0; buf_after = p.1 }
 
-pub returns-in-Done : goal.returns-in-Done
-returns-in-Done c = let a = c.args in
-    let p = put_done a.plan.now a.nulls.now a.self a.lent.now a.value a.buf.now
+pub returns-in_err-next : goal.returns-in_err-next
+returns-in_err-next c = let a = c.args in
+    let w = put_written a.plan.now a.nulls.now a.self a.lent.now a.value a.buf.now
     (omega (
       arith,
       c.bytes_for.ensures,
@@ -75,11 +76,13 @@ returns-in-Done c = let a = c.args in
     )) (omega arith) c.column_at-column.ensures
     (other_sort a.lent.now a.value (λ e. c.if-sort_of-eq-NULL.false (c.sort_of.ensures ∙ e)))
     (sym c.bit_lsb0-is_marked.ensures ∙ c.if-is_marked.false)
-    c.write_op.result _ c.write_op.ensures.result_value c.write_op.ensures.buf_after _ c.in-Done.is in record { result_value = p.0; buf_after = p.1 }
+    c.in_err-next.ensures.result_value c.in_err-next.ensures.buf_after in
+    let p = err_from_is_err_and c.from_residual.result c.from_residual.ensures.1 in
+    rw (p.1, p.2) (record { result_value = w.0; buf_after = w.1 })
 
-pub returns-in-Refused : goal.returns-in-Refused
-returns-in-Refused c = let a = c.args in
-    let p = put_bad a.plan.now a.nulls.now a.self a.lent.now a.value a.buf.now
+pub returns : goal.returns
+returns c = let a = c.args in
+    let p = put_written a.plan.now a.nulls.now a.self a.lent.now a.value a.buf.now
     (omega (
       arith,
       c.bytes_for.ensures,
@@ -87,4 +90,4 @@ returns-in-Refused c = let a = c.args in
     )) (omega arith) c.column_at-column.ensures
     (other_sort a.lent.now a.value (λ e. c.if-sort_of-eq-NULL.false (c.sort_of.ensures ∙ e)))
     (sym c.bit_lsb0-is_marked.ensures ∙ c.if-is_marked.false)
-    c.write_op.result _ c.write_op.ensures.result_value c.write_op.ensures.buf_after _ c.in-Refused.is in record { result_value = p.0; buf_after = p.1 }
+    c.in_ok-next.ensures.result_value c.in_ok-next.ensures.buf_after in record { result_value = p.0; buf_after = p.1 }

@@ -1,11 +1,11 @@
 use Prim.Native.Nat.{ℕ}
-use mathlib.Core.Path.{refl, sym, ap, subst, ◌∙◌}
+use mathlib.Core.Path.{refl, sym, ap, ◌∙◌}
 use mathlib.Core.List.{List}
 use native.Mathlib.Omega.{arith}
 use Rattle.wire.specs.Outcome.{Outcome, refused}
 use Rattle.wire.specs.Stored.{answer_of, left_of}
 use Rattle.row_plan.specs.declared.row.RowCursor.{RowCursor}
-use Rattle.row_plan.specs.Inner.Paused.{gate_told, paused_run, Further}
+use Rattle.row_plan.specs.Inner.Paused.{run_past}
 use Rattle.row_plan.proofs.ReadLaws.{read_begin, read_full, read_over, read_refused, read_end, read_stands, read_enter}
 use Rattle.row_plan.proofs.ReadLaws.{told_ran, told_stopped, left_stopped, told_full}
 use Rattle.row_plan.proofs.row.RowCursor.read.Goals as goal
@@ -31,15 +31,15 @@ returns-then-is_over c =
     let m = told_ran a.plan.now a.images.now a.self a.out.now _ refl (omega arith) _ _ _ g in
     record { result_value = sym (ap answer_of m); out_after = sym (ap (λ (x : Outcome ((ℕ × RowCursor) × List ℕ)). left_of x a.out.now) m) }
 
-pub shape_of-out-in-Refused : goal.shape_of-out-in-Refused
-shape_of-out-in-Refused c = c.loop-values.invariant.same
+pub shape_of-out-in-Err : goal.shape_of-out-in-Err
+shape_of-out-in-Err c = c.loop-values.invariant.same
 
-pub returns-in-Refused : goal.returns-in-Refused
-returns-in-Refused c =
+pub returns-in-Err : goal.returns-in-Err
+returns-in-Err c =
     let a = c.args in
     let o = sym c.is_over.ensures
     ∙ c.if-is_over.false in
-    let t = sym c.test_image.ensures ∙ ap gate_told c.in-Refused.is in
+    let t = sym c.in-Err.ensures in
     let g = read_refused a.plan.now a.images.now _ a.out.now a.self c.loop-values.out c.loop-values.at c.loop-values.values c.loop-values.invariant
     c.loop-values-test.true
     c.turned-here.ensures o _ t in record {
@@ -48,78 +48,56 @@ returns-in-Refused c =
       out_after = left_stopped a.plan.now a.images.now a.self a.out.now _ refl (omega arith) _ _ _ _ g;
     }
 
-pub shape_of-out-then-here-items : goal.shape_of-out-then-here-items
-shape_of-out-then-here-items c = c.loop-values.invariant.same
-
 pub returns-then-here-items : goal.returns-then-here-items
 returns-then-here-items c =
     let a = c.args in
     let o = sym c.is_over.ensures
     ∙ c.if-is_over.false in
-    let t = sym c.test_image.ensures ∙ ap gate_told c.in-Open.is in
     let g = read_end a.plan.now a.images.now _ a.out.now a.self c.loop-values.out c.loop-values.at c.loop-values.values c.loop-values.invariant
     c.loop-values-test.true
-    c.turned-here.ensures o t c.if-here-items.true in
+    c.turned-here.ensures o (sym c.in_default.ensures) c.if-here-items.true in
     let m = told_ran a.plan.now a.images.now a.self a.out.now _ refl (omega arith) _ _ _ g in
     record { result_value = sym (ap answer_of m); out_after = sym (ap (λ (x : Outcome ((ℕ × RowCursor) × List ℕ)). left_of x a.out.now) m) }
 
-pub run_image-requires : goal.run_image-requires
-run_image-requires c =
+pub run_image-paused-requires : goal.run_image-paused-requires
+run_image-paused-requires c =
     let a = c.args
     in
     let o = sym c.is_over.ensures
     ∙ c.if-is_over.false in
-    let t = sym c.test_image.ensures
-    ∙ ap gate_told c.in-Open.is in record {
+    record {
       stands = read_stands a.plan.now a.images.now _ a.out.now a.self c.loop-values.out c.loop-values.at c.loop-values.values c.loop-values.invariant
           c.loop-values-test.true
-          c.turned-here.ensures o t _ refl c.if-here-items.false;
+          c.turned-here.ensures o (sym c.in_default.ensures) _ refl c.if-here-items.false;
       had_lt_room = (c.loop-values-test.true, omega (arith, c.loop-values.invariant.same));
     }
 
-pub loop-values-smaller : goal.loop-values-smaller
-loop-values-smaller c =
-    let f = subst (Further _ _) c.in-On.is c.run_image.ensures.further in
-    omega (arith, f.0, f.1)
+pub returns-in-Err-stop : goal.returns-in-Err-stop
+returns-in-Err-stop c =
+    let a = c.args in
+    let o = sym c.is_over.ensures ∙ c.if-is_over.false in
+    let p = sym c.run_image-paused.ensures.result_after
+    ∙ ap (run_past _ a.plan.now a.images.now _ _ _) c.in-Err-stop.is in
+    let g = sym (read_enter a.plan.now a.images.now _ a.out.now a.self c.loop-values.out c.loop-values.at c.loop-values.values c.loop-values.invariant
+    c.loop-values-test.true c.turned-here.ensures o (sym c.in_default.ensures) c.if-here-items.false) ∙ p in record {
+      result_value = c.stopped-in-Err-stop.ensures ∙ told_stopped a.plan.now a.images.now a.self a.out.now _ refl
+          (omega arith) _ _ _ _ g;
+      out_after = left_stopped a.plan.now a.images.now a.self a.out.now _ refl (omega arith) _ _ _ _ g;
+    }
 
 pub loop-values-preserved : goal.loop-values-preserved
 loop-values-preserved c =
     let a = c.args in
     let o = sym c.is_over.ensures ∙ c.if-is_over.false in
-    let t = sym c.test_image.ensures
-    ∙ ap gate_told c.in-Open.is in
-    let f = subst (Further _ _) c.in-On.is c.run_image.ensures.further in
-    let p = sym (ap (paused_run _ a.plan.now a.images.now _) c.in-On.is)
-    ∙ c.run_image.ensures.result_after in
+    let p = sym (ap (run_past _ a.plan.now a.images.now _ _ _) c.in_default-stop.is)
+    ∙ c.run_image-paused.ensures.result_after in
     record {
-      most = f.1;
-      same = c.run_image.auto.out ∙ c.loop-values.invariant.same;
+      most = c.run_image-paused.ensures.further.most;
+      same = c.run_image-paused.auto.out ∙ c.loop-values.invariant.same;
       goes = p
           ∙ read_enter a.plan.now a.images.now _ a.out.now a.self c.loop-values.out c.loop-values.at c.loop-values.values c.loop-values.invariant
-          c.loop-values-test.true c.turned-here.ensures o t c.if-here-items.false;
+          c.loop-values-test.true c.turned-here.ensures o (sym c.in_default.ensures) c.if-here-items.false;
     }
-
-pub shape_of-out-in-Stopped : goal.shape_of-out-in-Stopped
-shape_of-out-in-Stopped c = c.run_image.auto.out
-    ∙ c.loop-values.invariant.same
-
-pub returns-in-Stopped : goal.returns-in-Stopped
-returns-in-Stopped c =
-    let a = c.args in
-    let o = sym c.is_over.ensures ∙ c.if-is_over.false in
-    let t = sym c.test_image.ensures
-    ∙ ap gate_told c.in-Open.is in
-    let p = sym c.run_image.ensures.result_after
-    ∙ ap (paused_run _ a.plan.now a.images.now _) c.in-Stopped.is in
-    let g = sym (read_enter a.plan.now a.images.now _ a.out.now a.self c.loop-values.out c.loop-values.at c.loop-values.values c.loop-values.invariant
-    c.loop-values-test.true c.turned-here.ensures o t c.if-here-items.false) ∙ p in record {
-      result_value = c.stopped-in-Stopped.ensures ∙ told_stopped a.plan.now a.images.now a.self a.out.now _ refl
-          (omega arith) _ _ _ _ g;
-      out_after = left_stopped a.plan.now a.images.now a.self a.out.now _ refl (omega arith) _ _ _ _ g;
-    }
-
-pub shape_of-out : goal.shape_of-out
-shape_of-out c = c.loop-values.invariant.same
 
 pub returns : goal.returns
 returns c =

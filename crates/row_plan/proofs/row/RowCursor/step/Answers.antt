@@ -1,7 +1,8 @@
 use mathlib.Core.Path.{sym, ap, ◌∙◌}
 use native.Mathlib.Omega.{arith}
+use Rattle.std.proofs.lemmas.Result.{err_from_is_err_and}
 use Rattle.wire.specs.Outcome.{refused}
-use Rattle.row_plan.proofs.Goes.{row_none, row_short, row_past, row_end, row_null, row_got, row_bad, rest_is}
+use Rattle.row_plan.proofs.Goes.{row_none, row_short, row_past, row_end, row_null, row_read, rest_is}
 use Rattle.row_plan.proofs.row.RowCursor.step.Goals as goal
 
 pub returns-then-items-item : goal.returns-then-items-item
@@ -33,24 +34,17 @@ returns-then-bit_lsb0 c = let a = c.args in
     (arith, c.bytes_for.ensures)) (omega arith) (omega arith)
     c.column_at-column.ensures (sym c.bit_lsb0.ensures ∙ c.if-bit_lsb0.true))
 
-pub returns-in-Got : goal.returns-in-Got
-returns-in-Got c = let a = c.args in let s = a.self in
-    let i = rest_is a.images.now s.start _
-    c.least-from.ensures in
-    sym (row_got a.plan.now a.images.now s i (omega arith) (omega
-    (arith, c.bytes_for.ensures)) (omega arith)
-    (omega arith) c.column_at-column.ensures (sym
-    c.bit_lsb0.ensures
-    ∙ c.if-bit_lsb0.false) c.read_op.result
-    c.read_op.ensures _ _ c.in-Got.is)
+pub returns-in_err-value : goal.returns-in_err-value
+returns-in_err-value c = let a = c.args in let s = a.self in
+    let i = rest_is a.images.now s.start _ c.least-from.ensures in
+    let p = err_from_is_err_and c.from_residual.result c.from_residual.ensures.1 in
+    rw (p.1, p.2) (sym (row_read a.plan.now a.images.now a.self i (omega arith) (omega
+    (arith, c.bytes_for.ensures)) (omega arith) (omega arith) c.column_at-column.ensures
+    (sym c.bit_lsb0.ensures ∙ c.if-bit_lsb0.false) c.in_err-value.ensures))
 
-pub returns-in-Refused : goal.returns-in-Refused
-returns-in-Refused c = let a = c.args in let s = a.self in
-    let i = rest_is a.images.now s.start _
-    c.least-from.ensures in
-    sym (row_bad a.plan.now a.images.now s i (omega arith) (omega
-    (arith, c.bytes_for.ensures)) (omega arith)
-    (omega arith) c.column_at-column.ensures (sym
-    c.bit_lsb0.ensures
-    ∙ c.if-bit_lsb0.false) c.read_op.result
-    c.read_op.ensures _ c.in-Refused.is)
+pub returns : goal.returns
+returns c = let a = c.args in let s = a.self in
+    let i = rest_is a.images.now s.start _ c.least-from.ensures in
+    sym (row_read a.plan.now a.images.now s i (omega arith) (omega
+    (arith, c.bytes_for.ensures)) (omega arith) (omega arith) c.column_at-column.ensures
+    (sym c.bit_lsb0.ensures ∙ c.if-bit_lsb0.false) c.in_ok-value.ensures)
