@@ -13,10 +13,11 @@ use Rattle.wire.specs.Number.{Bytes, le_value, le_bytes}
 use Rattle.wire.proofs.Inverse.{bytes_append, bytes_drop, bytes_take, le_bytes_bytes, le_back, le_sound}
 use Rattle.record.specs.declared.entry.Entry.{Entry}
 use Rattle.record.specs.Entries.{entry_holds, entry_of, entry_bytes}
-use Rattle.record.specs.Records.{most_columns, kind_for, count_of, entry_at, entry_in, entries_in, entries_hold, head_holds, record_valid}
+use Rattle.record.specs.Records.{most_columns, kind_for, count_of, entry_at, entry_in, entries_in, head_holds, record_valid}
 use Rattle.record.specs.Records.{read_record, head_bytes, entries_bytes, record_bytes}
 use Rattle.record.proofs.Looks.{entry_back}
 use Rattle.record.proofs.Heads.{kind_most}
+use Rattle.record.proofs.Turns.{all_hold}
 use Rattle.record.proofs.Valid.{Head, valid_head}
 
 -- ---- lengths
@@ -58,16 +59,6 @@ made_back es z j h c = ap entry_of (made_at es z j h) ∙ entry_back (get_or es 
 pub record Kept (e : Entry) : Type 0 where
   pub holds : entry_holds e ≡ true
   pub charset_fits : e.charset < 2 ^ 16
-
--- entries that each may be there all are
-all_hold : (m : ℕ) (r : List ℕ) (j : ℕ) → ((i : ℕ) → i < m → entry_holds (entry_in r (j + i)) ≡ true) → entries_hold m r j ≡ true
-unfolding entries_hold
-all_hold zero r j h = refl
-all_hold (suc m) r j h =
-    let z : j + 0 ≡ j = omega arith in
-    let a : entry_holds (entry_in r j) ≡ true = ap (λ (k : ℕ). entry_holds (entry_in r k)) (sym z) ∙ h 0 (omega arith) in
-    rw a (all_hold m r (suc j)
-    (λ i l. let e : suc j + i ≡ j + suc i = omega arith in ap (λ (k : ℕ). entry_holds (entry_in r k)) e ∙ h (suc i) (omega arith)))
 
 -- the head says what it should
 made_announced : (es : List Entry) → length es ≤ most_columns → le_value (take 2 (record_bytes es)) ≡ entry_at (length es)

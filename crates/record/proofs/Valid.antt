@@ -1,5 +1,5 @@
 -- What a valid record says: as many columns as its length has room for, each accepted. Assumes nothing.
-use Prim.Native.Nat.{ℕ, zero, suc, ◌+◌, ◌≤◌, ◌<◌}
+use Prim.Native.Nat.{ℕ, ◌+◌, ◌≤◌, ◌<◌}
 use mathlib.Core.Path.{◌≡◌, sym, subst}
 use mathlib.Core.Bool.{true}
 use mathlib.Core.List.{List}
@@ -12,7 +12,8 @@ use Rattle.wire.specs.Number.{le_value}
 use Rattle.wire.proofs.Outcomes.{test_is_ok, both_true}
 use Rattle.value.specs.Columns.{shape_of, is_taken}
 use Rattle.record.specs.Entries.{column_of, entry_holds}
-use Rattle.record.specs.Records.{most_columns, kind_for, count_of, entry_at, entry_in, entries_hold, head_holds, record_valid, read_record}
+use Rattle.record.proofs.Turns.{holds_at}
+use Rattle.record.specs.Records.{most_columns, kind_for, count_of, entry_at, entry_in, head_holds, record_valid, read_record}
 
 -- ---- what its head says
 pub record Head (r : List ℕ) : Type 0 where
@@ -36,18 +37,6 @@ valid_head r v =
     }
 
 -- ---- and its entries
--- each of the entries from j on may be there
-holds_at : (m : ℕ) (r : List ℕ) (j i : ℕ) → entries_hold m r j ≡ true → i < m → entry_holds (entry_in r (j + i)) ≡ true
-unfolding entries_hold
-holds_at zero r j i e h = absurd (omega arith)
-holds_at (suc m) r j zero e h =
-    let z : j ≡ j + 0 = omega arith in
-    subst (λ (k : ℕ). entry_holds (entry_in r k) ≡ true) z (both_true (entry_holds (entry_in r j)) _ e).0
-holds_at (suc m) r j (suc i) e h =
-    let z : suc j + i ≡ j + suc i = omega arith in
-    subst (λ (k : ℕ). entry_holds (entry_in r k) ≡ true) z
-    (holds_at m r (suc j) i (both_true (entry_holds (entry_in r j)) _ e).1 (omega arith))
-
 -- every entry of a valid record may be there
 pub valid_entry : (r : List ℕ) (j : ℕ) → record_valid r ≡ true → j < count_of r → entry_holds (entry_in r j) ≡ true
 unfolding record_valid

@@ -22,68 +22,50 @@ const ENTRY: usize = 6;
 // The longest record.
 pub const MOST_BYTES: usize = HEAD + ENTRY * MOST_COLUMNS;
 
-// The last column whose entry has a place that fits a machine number.
-const LAST: usize = (usize::MAX - HEAD) / ENTRY;
-
 // The byte at a place, 0 past the end.
 fn byte_at(s: &[u8], at: usize) -> u8
     ensures { result ≡ get_or s.now at 0 }
 {
-    if s.len() <= at {
-        return 0;
-    }
-    s[at]
+    s.get(at).copied().unwrap_or(0)
 }
 
 // How many columns the record says it has.
+#[tactic(auto, unfolding(crate::specs::Records::count_of))]
 fn count_in(profile: &[u8]) -> usize
     ensures { result ≡ count_of profile.now }
 {
     wire::read_le(profile, 4, 2) as usize
 }
 
-// The kind of a record of n columns.
+// The kind of a record of n columns: a number, as it is a byte of the record.
+#[tactic(auto, using(wire::proofs::Rules::tests), unfolding(crate::specs::Records::kind_for))]
 fn kind_for(n: usize) -> u8
     ensures { result ≡ kind_for n }
 {
-    if n <= MOST_KIND_1 {
-        return 1;
-    }
-    2
+    if n <= MOST_KIND_1 { 1 } else { 2 }
 }
 
 // Where the entry of a column stands. A place that fits no machine number is told as the greatest one, where no slice has a byte either, so
 // that callers need no test of their own.
+#[tactic(auto, using(wire::proofs::Rules::tests), unfolding(crate::specs::Records::entry_place))]
 pub fn entry_at(column: usize) -> usize
     ensures { result ≡ entry_place column }
 {
-    if LAST < column {
-        return usize::MAX;
-    }
-    HEAD + ENTRY * column
+    column.saturating_mul(ENTRY).saturating_add(HEAD)
 }
 
 // What the record says of a column; what lies past its end counts as zeros.
 pub fn entry_in(profile: &[u8], column: usize) -> Entry
     ensures { result ≡ entry_in profile.now column }
 {
-    let at = entry_at(column);
-    if profile.len() <= at {
-        return Entry {
-            real: 0,
-            flags: 0,
-            m0: 0,
-            m1: 0,
-            charset: 0,
-        };
-    }
-    let charset = wire::read_le(profile, at + 4, 2) as u16;
+    let at = entry_at(column).min(profile.len());
+    let bytes = &profile[at..];
     Entry {
-        real: byte_at(profile, at),
-        flags: byte_at(profile, at + 1),
-        m0: byte_at(profile, at + 2),
-        m1: byte_at(profile, at + 3),
-        charset,
+        real: byte_at(bytes, 0),
+        flags: byte_at(bytes, 1),
+        m0: byte_at(bytes, 2),
+        m1: byte_at(bytes, 3),
+        charset: wire::read_le(bytes, 4, 2) as u16,
     }
 }
 
@@ -91,34 +73,20 @@ pub fn entry_in(profile: &[u8], column: usize) -> Entry
 fn entries_hold(profile: &[u8], n: usize) -> bool
     ensures { result ≡ entries_hold n profile.now 0 }
 {
-    let mut j: usize = 0;
-    while j < n {
-        if !entry_holds(entry_in(profile, j)) {
-            return false;
-        }
-        j += 1;
-    }
-    true
+    (0..n).all(|j| entry_holds(entry_in(profile, j)))
 }
 
 // Whether the six bytes before the columns fit the rest.
+#[tactic(auto, using(wire::proofs::Rules::tests, crate::proofs::Places::place_few), unfolding(crate::specs::Records::head_holds))]
 fn head_holds(profile: &[u8]) -> bool
     ensures { result ≡ head_holds profile.now }
 {
-    if profile.len() < HEAD {
-        return false;
-    }
-    if wire::read_le(profile, 0, 2) != profile.len() as u64 {
-        return false;
-    }
     let columns = count_in(profile);
-    if wire::read_le(profile, 2, 2) != wire::wide(kind_for(columns)) {
-        return false;
-    }
-    if MOST_COLUMNS < columns {
-        return false;
-    }
-    profile.len() == entry_at(columns)
+    HEAD <= profile.len()
+        && wire::read_le(profile, 0, 2) == profile.len() as u64
+        && wire::read_le(profile, 2, 2) == u64::from(kind_for(columns))
+        && columns <= MOST_COLUMNS
+        && profile.len() == entry_at(columns)
 }
 
 // How many columns the record has, if it is valid and nothing stands after it; in one pass over it.
@@ -126,14 +94,11 @@ fn head_holds(profile: &[u8]) -> bool
 pub fn read_record(profile: &[u8]) -> Result<usize, Refusal>
     ensures { result ≡ read_record profile.now }
 {
-    if !head_holds(profile) {
-        return Err(wire::refuse(BAD_RECORD, 0));
-    }
     let columns = count_in(profile);
-    if !entries_hold(profile, columns) {
-        return Err(wire::refuse(BAD_RECORD, 0));
+    if head_holds(profile) && entries_hold(profile, columns) {
+        return Ok(columns);
     }
-    Ok(columns)
+    Err(wire::refuse(BAD_RECORD, 0))
 }
 
 // Writes the six bytes before the columns, at the buffer's start.
@@ -141,18 +106,9 @@ pub fn write_head(n: u16, buf: &mut [u8]) -> Result<usize, Refusal>
     ensures result_value { result ≡ answer_of (store (head_bytes n) buf.old 0) }
     ensures buf_after { buf.new ≡ left_of (store (head_bytes n) buf.old 0) buf.old }
 {
-    let size = entry_at(n as usize);
-    let low = (size % 256) as u8;
-    let high = (size / 256 % 256) as u8;
-    let columns_low = (n % 256) as u8;
-    let columns_high = (n / 256 % 256) as u8;
-    let bytes = [
-        low,
-        high,
-        kind_for(n as usize),
-        0,
-        columns_low,
-        columns_high,
-    ];
+    let columns = usize::from(n);
+    let [size_low, size_high, ..] = entry_at(columns).to_le_bytes();
+    let [low, high] = n.to_le_bytes();
+    let bytes = [size_low, size_high, kind_for(columns), 0, low, high];
     wire::write_bytes(&bytes, buf, 0)
 }
