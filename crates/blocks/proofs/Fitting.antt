@@ -2,12 +2,9 @@
 use Prim.Native.Nat.{ℕ, ◌+◌, ◌-◌, ◌≤◌, ◌<◌}
 use mathlib.Core.Path.{◌≡◌, refl, sym, ap, subst, ◌∙◌}
 use mathlib.Core.Bool.{Bool, true, false, cond, ◌&&◌}
-use mathlib.Core.List.{List, [], ◌∷◌, ◌++◌, append-nil}
-use native.Mathlib.Nat.{sub-zero}
+use mathlib.Core.List.{List, [], ◌++◌, append-nil}
 use native.Mathlib.Omega.{arith}
 use borrow.Author.Tests.{le-leb, lt-leb, lt-ltb, le-ltb, eq-eqb, ne_eqb, leb-true, eqb-true, ltb-false}
-use types.Run.{OneOf, miss}
-use denote.Enum.Declared.{tag_of}
 use lib.ListN.{length, take, drop, length-drop}
 use lib.Seq.{length-take-le}
 use lib.Dec.{leb, ltb, eqb}
@@ -15,7 +12,7 @@ use Rattle.wire.specs.declared.refusal.Refusal.{Refusal}
 use Rattle.wire.specs.Outcome.{Outcome, ok, refused, refuse, after, why}
 use Rattle.wire.specs.Bits.{bytes_for, bit_lsb0}
 use Rattle.wire.specs.Stored.{answer_of}
-use Rattle.wire.proofs.Outcomes.{both_true, same_ok, after_is_ok, test_is_ok}
+use Rattle.wire.proofs.Outcomes.{both_true, same_ok, ok_not_refused, after_is_ok, test_is_ok}
 use Rattle.value.specs.declared.shape.Shape.{Shape}
 use Rattle.value.specs.declared.shape.Shape.TheVariants.{NotTaken}
 use Rattle.value.specs.declared.column.Column.{Column}
@@ -28,28 +25,21 @@ use Rattle.record.specs.Entries.{column_of}
 use Rattle.record.specs.Records.{count_of, entry_in, record_valid, read_record}
 use Rattle.record.proofs.Valid.{valid_few, read_valid}
 use Rattle.image.specs.declared.cursor.Head.{Head}
-use Rattle.image.specs.declared.room.Room.{Room}
-use Rattle.image.specs.declared.room.Room.TheVariants.{Bytes, Refused as Refused₁}
 use Rattle.image.specs.Present.{count_bits, shape_at}
 use Rattle.image.specs.Split.{slots_at, head_of}
-use Rattle.image.specs.Room.{image_room, read_room, room_told}
+use Rattle.image.specs.Room.{image_room, read_room}
 use Rattle.image.proofs.CursorLaws.Heads.{head_tested, head_is}
 use Rattle.image.proofs.PresenceLaws.Firsts.{count_at_most}
 use Rattle.image.proofs.RoomLaws.Adds.{room_small}
 use Rattle.blocks.specs.declared.state.Phase.{Phase}
 use Rattle.blocks.specs.declared.state.Phase.TheVariants.{Open, Long, Closed}
 use Rattle.blocks.specs.declared.state.Arriving.{Arriving}
-use Rattle.blocks.specs.declared.state.Arrival.TheVariants.{End, Refused}
-use Rattle.blocks.specs.declared.state.Given.{Given}
-use Rattle.blocks.specs.declared.turn.Turn.{Turn}
-use Rattle.blocks.specs.declared.turn.Turn.TheVariants.{Wait, Long as Long₁, Whole}
-use Rattle.blocks.specs.contracts.turn.Turn.{the_type as turn_type}
-use Rattle.blocks.specs.States.{opened, longed, more, part, shut_with, given_of, ended_of}
-use Rattle.blocks.specs.Turns.{turn_of}
+use Rattle.blocks.specs.States.{opened, longed, more, part, BlockGiven}
+use Rattle.blocks.specs.Turns.{TurnSaid, wait, long, whole, turn_of}
 use Rattle.blocks.specs.Fits.{is_long, fits_in, is_counted, is_fit}
-use Rattle.blocks.specs.Gives.{Handed, parted, give_open, give_long, give_in, given_fit, head_carry}
-use Rattle.blocks.specs.Ends.{end_in, ended_fit}
-use Rattle.blocks.specs.Inner.Hands.{Heads, turn_by, turn_told, held_shape, Sits, Tested, Numbered, due_from, end_open}
+use Rattle.blocks.specs.Gives.{Handed, parted, give_open, give_long, give_in, given_fit, head_carry, give_block}
+use Rattle.blocks.specs.Ends.{end_in, ended_fit, end_blocks}
+use Rattle.blocks.specs.Inner.Hands.{Heads, turn_by, held_shape, Sits, Tested, Numbered, end_open}
 use Rattle.blocks.proofs.Hands.{turn_head}
 use Rattle.blocks.proofs.Values.{Answers}
 use Rattle.blocks.proofs.Heldings.{is_wait, is_long_of, waits_turn, longs_turn, end_open_is}
@@ -85,12 +75,11 @@ module _ (r p : List ℕ) (v : record_valid r ≡ true) (l : length p ≡ bytes_
   unfolding read_room
   room_read = rw (head_is r p (record { valid = v; bits = l }))
 
-  pub in_room : (x : Room) (n used : ℕ) → room_told x ≡ read_room r p → x ≡ Bytes n → leb used n ≡ leb used (image_room r p)
-  in_room x n used e f = ap (leb used) (same_ok (sym (ap room_told f) ∙ e ∙ room_read))
+  pub in_room : (n : ℕ) → ok n ≡ read_room r p → n ≡ image_room r p
+  in_room n e = same_ok (e ∙ room_read)
 
-  pub not_refused : (x : Room) (w : Refusal) → room_told x ≡ read_room r p → x ≡ Refused₁ w → ⊥
-  not_refused x w e f =
-      let z : ok (image_room r p) ≡ refused w = sym (sym (ap room_told f) ∙ e ∙ room_read) in let y : ◌≡◌ {A = ℕ} 0 1 = cc in omega arith
+  pub not_refused : (w : Refusal) → refused w ≡ read_room r p → ⊥
+  not_refused w e = ok_not_refused (sym room_read ∙ sym e)
 
 -- ---- the value in progress
 module _ (r p carry : List ℕ) (n : ℕ) (at : Arriving) where
@@ -108,9 +97,9 @@ module _ (r p carry : List ℕ) (n : ℕ) (at : Arriving) where
 
   module _ {b c : Bool} {rank : ℕ} (h : at.column ≡ n → ⊥) (e : b ≡ bit_lsb0 p at.column) (f : b ≡ true)
       (g : rank ≡ count_bits p at.column)
-      (i : c ≡ bit_lsb0 (take (at.held - 0) carry) rank) where
+      (i : c ≡ bit_lsb0 (take at.held carry) rank) where
     bit_is : bit_lsb0 y (count_bits p at.column) ≡ c
-    bit_is = sym (i ∙ ap (λ (k : ℕ). bit_lsb0 (take k carry) rank) (sub-zero at.held) ∙ ap (bit_lsb0 y) g)
+    bit_is = sym (i ∙ ap (bit_lsb0 y) g)
 
     pub shape_null : c ≡ true → NotTaken 0 ≡ held_shape r p (take at.held carry) n at.column
     unfolding held_shape
@@ -133,10 +122,10 @@ module _ (r p carry : List ℕ) (n : ℕ) (at : Arriving) where
       go false true false = sized (column_of (entry_in r at.column))
       go false false c = tt
 
-  pub held_turn_is : (nb : ℕ) (t : Turn) {sh : Shape} {head : List ℕ} → at.held ≤ length carry → nb ≤ at.held
+  pub held_turn_is : (nb : ℕ) (t : TurnSaid) {sh : Shape} {head : List ℕ} → at.held ≤ length carry → nb ≤ at.held
       → sh ≡ held_shape r p (take at.held carry) n at.column → Heads (take at.held carry ++ []) nb head 8
-      → turn_told t ≡ turn_by (length carry - nb) (prefix sh) (at.held - nb) (need sh head)
-      → turn_told t ≡ turn_of (length carry - nb) (held_shape r p (take at.held carry) n at.column) (drop nb (take at.held carry))
+      → t ≡ turn_by (length carry - nb) (prefix sh) (at.held - nb) (need sh head)
+      → t ≡ turn_of (length carry - nb) (held_shape r p (take at.held carry) n at.column) (drop nb (take at.held carry))
   held_turn_is nb t {sh} {head} f l e h u =
       let m : length y ≡ at.held = length-take-le at.held carry f in
       let k : length (drop nb y) ≡ at.held - nb = length-drop nb y ∙ ap (λ (z : ℕ). z - nb) m in
@@ -146,15 +135,15 @@ module _ (r p carry : List ℕ) (n : ℕ) (at : Arriving) where
       ∙ ap (λ (s : Shape). turn_of (length carry - nb) s (drop nb y)) e
 
 -- ---- the Open phase
-pub other_turn : (t : Turn) → OneOf (1 ∷ 2 ∷ []) (tag_of turn_type t) → is_wait (turn_told t) ≡ false
-other_turn Wait o = absurd (miss (1 ∷ 2 ∷ []) 0 tt o)
-other_turn (Long₁ n) o = refl
-other_turn (Whole n) o = refl
+pub other_turn : (t : TurnSaid) → (t ≡ wait → ⊥) → is_wait t ≡ false
+other_turn wait h = absurd (h refl)
+other_turn (long n) h = refl
+other_turn (whole n) h = refl
 
-pub other_long : (t : Turn) (left : ℕ) → OneOf (0 ∷ 2 ∷ []) (tag_of turn_type t) → is_long_of left (turn_told t) ≡ false
-other_long Wait left o = refl
-other_long (Long₁ n) left o = absurd (miss (0 ∷ 2 ∷ []) 1 tt o)
-other_long (Whole n) left o = refl
+pub other_long : (t : TurnSaid) (left : ℕ) → ((n : ℕ) → t ≡ long n → ⊥) → is_long_of left t ≡ false
+other_long wait left h = refl
+other_long (long n) left h = absurd (h n refl)
+other_long (whole n) left h = refl
 
 module _ (r p carry : List ℕ) (nb : ℕ) (at : Arriving) where
   pub open_some_left : (at.left ≡ 0 → ⊥) → false ≡ fits_in Open r p nb at carry
@@ -170,19 +159,19 @@ module _ (r p carry : List ℕ) (nb : ℕ) (at : Arriving) where
   unfolding fits_in
   open_none e h = rw (eq-eqb at.left 0 e, le-ltb at.held nb (omega arith), eq-eqb at.held nb h)
 
-  module _ (n : ℕ) (c : n ≡ count_of r) (a : at.column ≤ n) (t : Turn)
-      (u : turn_told t ≡ turn_of (length carry - nb) (held_shape r p (take at.held carry) n at.column) (drop nb (take at.held carry)))
+  module _ (n : ℕ) (c : n ≡ count_of r) (a : at.column ≤ n) (t : TurnSaid)
+      (u : t ≡ turn_of (length carry - nb) (held_shape r p (take at.held carry) n at.column) (drop nb (take at.held carry)))
     where
-      turn_of_it : turn_told t
+      turn_of_it : t
           ≡ turn_of (length carry - nb) (held_shape r p (take at.held carry) (count_of r) at.column) (drop nb (take at.held carry))
       turn_of_it =
-          subst (λ (k : ℕ). turn_told t ≡ turn_of (length carry - nb) (held_shape r p (take at.held carry) k at.column)
+          subst (λ (k : ℕ). t ≡ turn_of (length carry - nb) (held_shape r p (take at.held carry) k at.column)
           (drop nb (take at.held carry))) c u
 
       among : at.column ≤ count_of r
       among = omega arith
 
-      pub open_held : {b : Bool} → at.left ≡ 0 → nb ≤ at.held → (at.held ≡ nb → ⊥) → b ≡ is_wait (turn_told t) → b
+      pub open_held : {b : Bool} → at.left ≡ 0 → nb ≤ at.held → (at.held ≡ nb → ⊥) → b ≡ is_wait t → b
           ≡ fits_in Open r p nb at carry
       unfolding fits_in
       open_held e l h f =
@@ -195,7 +184,7 @@ module _ (r p carry : List ℕ) (nb : ℕ) (at : Arriving) where
 
       pub long_held : {b : Bool} {sh : Shape} {k : ℕ} → at.held ≤ length carry → nb ≤ at.held → sh
           ≡ held_shape r p (take at.held carry) n at.column
-          → k ≡ prefix sh → at.held - nb ≡ k → b ≡ is_long_of at.left (turn_told t) → b ≡ fits_in Long r p nb at carry
+          → k ≡ prefix sh → at.held - nb ≡ k → b ≡ is_long_of at.left t → b ≡ fits_in Long r p nb at carry
       unfolding fits_in
       long_held {b} {sh} {k} g l s m h f =
           let y = take at.held carry in
@@ -273,85 +262,48 @@ parts at nb n c x z =
     (cond z (parted at c (part at.column at.left) at.left (opened (at.column + 1) nb (at.used + at.left)))
     (parted at c (part at.column n) n (longed at.column at.held (at.left - n) (at.used + n))))
 
-module _ (r p carry block : List ℕ) (n nb : ℕ) (at : Arriving) where
-  pub given_unfit : {b : Bool} {g : Given} {w : Refusal} → b ≡ is_fit r p n nb at carry → b ≡ false → w ≡ why 21 0 → g ≡ shut_with (Refused w)
-      → Answers (given_fit r p n nb at carry block) carry g carry
-  unfolding given_fit
-  given_unfit {b} {g} {w} e f k h = rw (sym e ∙ f) (h ∙ ap (λ (z : Refusal). shut_with (Refused z)) k, refl)
+module _ (r p carry block : List ℕ) (at : Arriving) {h : Head} (t : head_carry r p carry ≡ ok h) where
+  -- behind them the call answers as the phase says
+  pub given_unfit : {b : Bool} {w : Refusal} → b ≡ is_fit r p h.columns h.nulls at carry → b ≡ false → w ≡ why 21 0
+      → Answers (give_block r p at carry block) carry (refused w) carry
+  unfolding give_block given_fit
+  given_unfit e f k = rw (t, sym e ∙ f, k) (refl, refl)
 
-  module _ {b : Bool} (e : b ≡ is_fit r p n nb at carry) (f : b ≡ true) where
-    given_in : (q : Phase) → at.phase ≡ q → given_fit r p n nb at carry block ≡ give_in q r p nb at carry block
-    unfolding given_fit
-    given_in q h = rw (sym e ∙ f) (ap (λ (z : Phase). give_in z r p nb at carry block) h)
+  module _ {b : Bool} (e : b ≡ is_fit r p h.columns h.nulls at carry) (f : b ≡ true) where
+    given_in : (q : Phase) → at.phase ≡ q → give_block r p at carry block ≡ give_in q r p h.nulls at carry block
+    unfolding give_block given_fit
+    given_in q i = rw (t, sym e ∙ f) (ap (λ (z : Phase). give_in z r p h.nulls at carry block) i)
 
-    opens : {g : Given} {c : List ℕ} → Answers (give_open r p nb at carry block) carry g c
-        → Answers (give_in Open r p nb at carry block) carry g c
+    pub given_open : {g : Outcome BlockGiven} {c : List ℕ} → at.phase ≡ Open → Answers (give_open r p h.nulls at carry block) carry g c
+        → Answers (give_block r p at carry block) carry g c
     unfolding give_in
-    opens w = w
+    given_open i w = rw (given_in Open i) w
 
-    pub given_open : {g : Given} {c : List ℕ} → at.phase ≡ Open → Answers (give_open r p nb at carry block) carry g c
-        → Answers (given_fit r p n nb at carry block) carry g c
-    given_open h w = rw (given_in Open h) (opens w)
-
-    pub given_long : {g : Given} → at.phase ≡ Long → g ≡ given_of (answer_of (give_long nb at [] block))
-        → Answers (given_fit r p n nb at carry block) carry g carry
+    pub given_long : {g : Outcome BlockGiven} → at.phase ≡ Long → g ≡ answer_of (give_long h.nulls at [] block)
+        → Answers (give_block r p at carry block) carry g carry
     unfolding give_in give_long
-    given_long {g} h w = rw (given_in Long h) (go (eqb (length block) 0) (leb at.left (length block)) w)
+    given_long {g} i w = rw (given_in Long i) (go (eqb (length block) 0) (leb at.left (length block)) w)
       where
-        go : (x z : Bool) → g ≡ given_of (answer_of (parts at nb (length block) [] x z))
-            → Answers (parts at nb (length block) carry x z) carry g carry
+        go : (x z : Bool) → g ≡ answer_of (parts at h.nulls (length block) [] x z)
+            → Answers (parts at h.nulls (length block) carry x z) carry g carry
         go true z k = (k, refl)
         go false true k = (k, refl)
         go false false k = (k, refl)
 
-    pub given_closed : {g : Given} {w : Refusal} → at.phase ≡ Closed → w ≡ why 21 0 → g ≡ shut_with (Refused w)
-        → Answers (given_fit r p n nb at carry block) carry g carry
+    pub given_closed : {w : Refusal} → at.phase ≡ Closed → w ≡ why 21 0 → Answers (give_block r p at carry block) carry (refused w) carry
     unfolding give_in
-    given_closed {g} {w} h k i = rw (given_in Closed h) (i ∙ ap (λ (z : Refusal). shut_with (Refused z)) k, refl)
+    given_closed i k = rw (given_in Closed i, k) (refl, refl)
 
-  pub ended_unfit : {b : Bool} {g : Given} {w : Refusal} → b ≡ is_fit r p n nb at carry → b ≡ false → w ≡ why 21 0 → g ≡ shut_with (Refused w)
-      → g ≡ ended_of (ended_fit r p n nb at carry)
-  unfolding ended_fit
-  ended_unfit {b} {g} {w} e f k h = h ∙ ap (λ (z : Refusal). shut_with (Refused z)) k ∙ rw (sym e ∙ f)
+    ended_in : (q : Phase) → at.phase ≡ q → end_blocks r p at carry ≡ end_in q r p h.nulls at carry
+    unfolding end_blocks ended_fit
+    ended_in q i = rw (t, sym e ∙ f) (ap (λ (z : Phase). end_in z r p h.nulls at carry) i)
 
-  module _ {b : Bool} (e : b ≡ is_fit r p n nb at carry) (f : b ≡ true) where
-    pub ended_open : {g : Given} → n ≡ count_of r → at.phase ≡ Open → g ≡ ended_of (end_open p n nb at carry) → g
-        ≡ ended_of (ended_fit r p n nb at carry)
-    unfolding ended_fit
-    ended_open {g} k h i =
-        let a = fit_numbered r p carry n nb at e f in
-        let z : end_open p n nb at carry ≡ end_in Open r p nb at carry =
-        ap (λ (m : ℕ). end_open p m nb at carry) k ∙ end_open_is r p carry nb at (omega (arith, a.among)) in
-        i ∙ ap ended_of z ∙ rw (sym e ∙ f, h)
-
-    pub ended_long : {g : Given} {w : Refusal} → at.phase ≡ Long → w ≡ why 9 at.column → g ≡ shut_with (Refused w) → g
-        ≡ ended_of (ended_fit r p n nb at carry)
-    unfolding ended_fit end_in
-    ended_long {g} {w} h k i = i ∙ ap (λ (z : Refusal). shut_with (Refused z)) k ∙ rw (sym e ∙ f, h)
-
-    pub ended_closed : {g : Given} {w : Refusal} → at.phase ≡ Closed → w ≡ why 21 0 → g ≡ shut_with (Refused w) → g
-        ≡ ended_of (ended_fit r p n nb at carry)
-    unfolding ended_fit end_in
-    ended_closed {g} {w} h k i = i ∙ ap (λ (z : Refusal). shut_with (Refused z)) k ∙ rw (sym e ∙ f, h)
-
--- the end in the Open phase
-module _ (p carry : List ℕ) (n nb : ℕ) (at : Arriving) where
-  pub end_nulls : {g : Given} {w : Refusal} → at.held < nb → w ≡ why 9 0 → g ≡ shut_with (Refused w) → g ≡ ended_of (end_open p n nb at carry)
-  unfolding end_open
-  end_nulls {g} {w} h k i = i ∙ ap (λ (z : Refusal). shut_with (Refused z)) k ∙ rw (lt-ltb at.held nb h)
-
-  module _ {due : ℕ} (l : nb ≤ at.held) (e : due ≡ due_from (n - at.column) p (take (at.held - 0) carry) at.column) where
-    due_is : due ≡ due_from (n - at.column) p (take at.held carry) at.column
-    due_is = e ∙ ap (λ (k : ℕ). due_from (n - at.column) p (take k carry) at.column) (sub-zero at.held)
-
-    pub end_end : {g : Given} → due ≡ n → g ≡ shut_with (End at.used) → g ≡ ended_of (end_open p n nb at carry)
-    unfolding end_open
-    end_end {g} h i = i ∙ rw (le-ltb at.held nb l, ← due_is, eq-eqb due n h)
-
-    pub end_due : {g : Given} {w : Refusal} → (due ≡ n → ⊥) → w ≡ why 9 due → g ≡ shut_with (Refused w) → g
-        ≡ ended_of (end_open p n nb at carry)
-    unfolding end_open
-    end_due {g} {w} h k i = i ∙ ap (λ (z : Refusal). shut_with (Refused z)) k ∙ rw (le-ltb at.held nb l, ← due_is, ne_eqb due n h)
+    pub ended_open : {g : Outcome ℕ} → h.columns ≡ count_of r → at.phase ≡ Open → g ≡ end_open p h.columns h.nulls at carry
+        → g ≡ end_blocks r p at carry
+    ended_open {g} k i w =
+        let a = fit_numbered r p carry h.columns h.nulls at e f in
+        w ∙ ap (λ (m : ℕ). end_open p m h.nulls at carry) k ∙ end_open_is r p carry h.nulls at (omega (arith, a.among))
+        ∙ sym (ended_in Open i)
 
 -- ---- the tests
 presence_of : (r p : List ℕ) {h : Head} → head_of r p ≡ ok h → length p ≡ bytes_for (count_of r)

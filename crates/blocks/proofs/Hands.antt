@@ -3,14 +3,12 @@ use Prim.Native.Nat.{ℕ, ◌+◌, ◌-◌, ◌*◌, ◌/◌, ◌%◌, ◌^◌, 
 use mathlib.Core.Path.{◌≡◌, refl, sym, ap, subst, ◌∙◌}
 use mathlib.Core.Logic.{dite}
 use mathlib.Core.Bool.{Bool, true, false, ◌&&◌}
-use mathlib.Core.List.{List, [], ◌∷◌, ◌++◌}
-use native.Mathlib.Nat.{pow-le-pow_right, zero-lt-suc, sub-zero}
+use mathlib.Core.List.{List, ◌++◌}
+use native.Mathlib.Nat.{pow-le-pow_right, zero-lt-suc}
 use native.Mathlib.Decide.{dec_le}
 use native.Mathlib.Omega.{arith}
 use borrow.Author.Tests.{lt-ltb, le-ltb, lt-leb}
-use types.Run.{OneOf, miss}
-use denote.Enum.Declared.{tag_of}
-use lib.ListN.{length, get_or, set, take, drop, length-set, length-drop, get_or-append, get_or-eq_default}
+use lib.ListN.{length, get_or, set, take, drop, length-set, length-drop, get_or-append}
 use lib.Seq.{length-take-le, get_or-take, get_or-drop, get_or-append-add, get_or-set_same, get_or-set_other, ext_get_or}
 use lib.Dec.{leb, ltb}
 use Rattle.wire.specs.Bits.{digit, bit_lsb0}
@@ -18,54 +16,25 @@ use Rattle.wire.specs.Number.{le_value}
 use Rattle.value.specs.declared.shape.Shape.TheVariants.{Unsigned, Signed, FloatBits, DoubleBits, YearByte, Timed, Fixed, Counted}
 use Rattle.value.specs.declared.shape.Shape.TheVariants.{NotTaken}
 use Rattle.value.specs.declared.shape.Shape.{Shape}
-use Rattle.value.specs.contracts.shape.Shape.{the_type as shape_type}
 use Rattle.value.specs.Shapes.{need, prefix}
 use Rattle.value.specs.Inner.Shapes.{Sized}
-use Rattle.wire.specs.Stored.{stored, store, left_of}
 use Rattle.value.proofs.Appends.{prefix_within}
 use Rattle.blocks.specs.Turns.{wait, long, whole, too_long, turn_of}
 use Rattle.blocks.specs.Inner.Hands.{turn_by, Heads}
-use Rattle.wire.proofs.Stores.{stored_none, store_fits}
 
-pub short_sum : (held len n : ℕ) → held < n → ltb len (n - held) ≡ ltb (held + len) n
-short_sum held len n h =
-    dite (dec_le (n - held) len)
-    (λ (a : n - held ≤ len). le-ltb len (n - held) a ∙ sym (le-ltb (held + len) n (omega arith)))
-    (λ a. lt-ltb len (n - held) (omega arith) ∙ sym (lt-ltb (held + len) n (omega arith)))
-
-pub byte_held : (c b : List ℕ) (held i : ℕ) → held ≤ length c → i < held → get_or c i 0 ≡ get_or (take held c ++ b) i 0
-byte_held c b held i h l = sym (get_or-append (take held c) b 0 i (omega (arith, length-take-le held c h)) ∙ get_or-take held c i 0 l)
-
-pub byte_block : (c b : List ℕ) (held i : ℕ) → held ≤ length c → held ≤ i → get_or b (i - held) 0 ≡ get_or (take held c ++ b) i 0
-byte_block c b held i h l =
-    let m : length (take held c) + (i - held) ≡ i = omega (arith, length-take-le held c h) in
-    sym (get_or-append-add (take held c) b (i - held) 0) ∙ ap (λ (k : ℕ). get_or (take held c ++ b) k 0) m
-
-pub byte_none : (c b : List ℕ) (held i : ℕ) → held ≤ length c → held ≤ i → length b ≤ i - held → 0 ≡ get_or (take held c ++ b) i 0
-byte_none c b held i h l m = sym (get_or-eq_default b 0 {n = i - held} m) ∙ byte_block c b held i h l
-
-pub bit_held : (c b : List ℕ) (held i : ℕ) → held ≤ length c → i / 8 < held → bit_lsb0 c i ≡ bit_lsb0 (take held c ++ b) i
+pub bit_held : (h b : List ℕ) (i : ℕ) → i / 8 < length h → bit_lsb0 h i ≡ bit_lsb0 (h ++ b) i
 unfolding bit_lsb0
-bit_held c b held i h l = ap (λ (x : ℕ). digit x (i % 8)) (byte_held c b held (i / 8) h l)
+bit_held h b i l = ap (λ (x : ℕ). digit x (i % 8)) (sym (get_or-append h b 0 (i / 8) l))
 
-pub bit_block : (c b : List ℕ) (held i : ℕ) → held ≤ length c → held ≤ i / 8 → bit_lsb0 b (i - 8 * held) ≡ bit_lsb0 (take held c ++ b) i
+pub bit_block : (h b : List ℕ) (i : ℕ) → length h ≤ i / 8 → bit_lsb0 b (i - 8 * length h) ≡ bit_lsb0 (h ++ b) i
 unfolding bit_lsb0
-bit_block c b held i h l =
-    let d : (i - 8 * held) / 8 ≡ i / 8 - held = omega arith in
-    let m : (i - 8 * held) % 8 ≡ i % 8 = omega arith in
-    rw (d, m) (ap (λ (x : ℕ). digit x (i % 8)) (byte_block c b held (i / 8) h l))
-
-pub commit_none : (c b : List ℕ) (held upto : ℕ) → upto ≤ held → (0 ≡ upto - held) × (c ≡ stored (take (upto - held) b) c held)
-commit_none c b held upto h =
-    let e : upto - held ≡ 0 = omega arith in
-    rw e (refl, sym (stored_none c held))
-
-pub commit_some : (c b x : List ℕ) (held upto : ℕ) → held ≤ upto → upto ≤ length c → upto ≤ held + length b
-    → x ≡ left_of (store (take (upto - held - 0) b) c held) c → x ≡ stored (take (upto - held) b) c held
-commit_some c b x held upto h f l e =
-    (rw (sub-zero (upto - held)) at e) ∙
-    let n : length (take (upto - held) b) ≡ upto - held = length-take-le (upto - held) b (omega arith) in
-    rw (store_fits c (take (upto - held) b) held (omega arith))
+bit_block h b i l =
+    let k = i / 8 - length h in
+    let d : (i - 8 * length h) / 8 ≡ k = omega arith in
+    let m : (i - 8 * length h) % 8 ≡ i % 8 = omega arith in
+    let n : length h + k ≡ i / 8 = omega arith in
+    rw (d, m) (ap (λ (x : ℕ). digit x (i % 8))
+    (sym (get_or-append-add h b k 0) ∙ ap (λ (j : ℕ). get_or (h ++ b) j 0) n))
 
 -- ---- a counted value
 pub count_small : (k v : ℕ) → k ≤ 4 → v < 256 ^ min k 8 → k + v < 18446744073709551616
@@ -79,18 +48,18 @@ pub count_is : (k : ℕ) (s : List ℕ) → k ≤ 4 → k + le_value (take (min 
 unfolding need
 count_is k s h = let m : min k 8 ≡ k = omega arith in rw m
 
--- the shapes that have no length bytes, by the tags that the last arm of a match serves
-pub no_prefix : (sh : Shape) → OneOf (0 ∷ 1 ∷ 2 ∷ 3 ∷ 4 ∷ 5 ∷ 6 ∷ 8 ∷ []) (tag_of shape_type sh) → prefix sh ≡ 0
+-- no other value has length bytes
+pub no_prefix : (sh : Shape) → ((k : ℕ) → sh ≡ Counted k → ⊥) → prefix sh ≡ 0
 unfolding prefix
-no_prefix (Unsigned k) o = refl
-no_prefix (Signed k) o = refl
-no_prefix FloatBits o = refl
-no_prefix DoubleBits o = refl
-no_prefix YearByte o = refl
-no_prefix (Timed k) o = refl
-no_prefix (Fixed n) o = refl
-no_prefix (Counted k) o = absurd (miss (0 ∷ 1 ∷ 2 ∷ 3 ∷ 4 ∷ 5 ∷ 6 ∷ 8 ∷ []) 7 tt o)
-no_prefix (NotTaken n) o = refl
+no_prefix (Unsigned k) h = refl
+no_prefix (Signed k) h = refl
+no_prefix FloatBits h = refl
+no_prefix DoubleBits h = refl
+no_prefix YearByte h = refl
+no_prefix (Timed k) h = refl
+no_prefix (Fixed n) h = refl
+no_prefix (Counted k) h = absurd (h k refl)
+no_prefix (NotTaken n) h = refl
 
 -- ---- the first eight bytes of what is at hand
 pub heads_none : (y : List ℕ) (from : ℕ) (head : List ℕ) → length head ≡ 8 → Heads y from head 0

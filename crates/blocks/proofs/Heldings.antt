@@ -1,6 +1,6 @@
 -- Whether a state is fit, by what the code finds. Assumes nothing.
 use Prim.Native.Nat.{ℕ, zero, suc, ◌+◌, ◌-◌, ◌≤◌, ◌<◌}
-use mathlib.Core.Path.{◌≡◌, refl, sym, ap, subst, ◌∙◌}
+use mathlib.Core.Path.{◌≡◌, refl, sym, ap, ◌∙◌}
 use mathlib.Core.Bool.{Bool, true, false, cond, ◌&&◌, not, true≢false}
 use mathlib.Core.Logic.{dite}
 use mathlib.Core.List.{List, [], ◌∷◌}
@@ -186,62 +186,36 @@ end_open_is r p carry nb st h =
     ap (λ (o : Outcome ℕ). cond (ltb st.held nb) (refuse 9 0) o) (sym (end_found r p (take st.held carry) st.column st.used h))
 
 -- ---- the loop over the columns that are present
-due_bit : (n j : ℕ) (p y : List ℕ) → j < n → bit_lsb0 p j ≡ false → due_from (n - j) p y j ≡ due_from (n - suc j) p y (suc j)
-unfolding due_from
-due_bit n j p y h e = let k : n - j ≡ suc (n - suc j) = omega arith in rw (k, e)
-
-due_first : (m n j : ℕ) (p y : List ℕ) → j + m ≡ n → due_from (n - j) p y j ≡ due_from (n - first_from m p j) p y (first_from m p j)
-unfolding first_from
-due_first zero n j p y h = refl
-due_first (suc m) n j p y h = go (due_first m n (suc j) p y (omega arith)) (bit_lsb0 p j) refl
-  where
-    go : due_from (n - suc j) p y (suc j) ≡ due_from (n - first_from m p (suc j)) p y (first_from m p (suc j)) → (b : Bool) → bit_lsb0 p j ≡ b
-        → due_from (n - j) p y j ≡ due_from (n - cond b j (first_from m p (suc j))) p y (cond b j (first_from m p (suc j)))
-    go i true e = refl
-    go i false e = due_bit n j p y (omega arith) e ∙ i
-
+-- the columns before j are NULL or absent
 pub record DueAt (p y : List ℕ) (column n j rank : ℕ) : Type 0 where
-  pub low : j ≤ n
   pub is_rank : rank ≡ count_bits p j
-  pub set : j < n → bit_lsb0 p j ≡ true
   pub rest : due_from (n - column) p y column ≡ due_from (n - j) p y j
 
-pub due_begin : (p y : List ℕ) (column n j rank : ℕ) → column ≤ n → rank ≡ count_bits p column → j ≡ first_from (n - column) p column
-    → DueAt p y column n j rank
-due_begin p y column n j rank h e f =
-    let i = first_is (n - column) p column in
-    let a : column + (n - column) ≡ n = omega arith in
-    subst (λ (k : ℕ). DueAt p y column n k rank) (sym f) (record {
-      low = omega (arith, i.high);
-      is_rank = e ∙ sym i.rank;
-      set = λ k. i.found (omega arith);
-      rest = due_first (n - column) n column p y a;
-    })
-
 module _ (p y : List ℕ) (column n j rank : ℕ) (d : DueAt p y column n j rank) where
-  pub due_next : (j' : ℕ) → j < n → bit_lsb0 y rank ≡ true → j' ≡ first_from (n - (j + 1)) p (j + 1) → DueAt p y column n j' (rank + 1)
+  pub due_absent : j < n → bit_lsb0 p j ≡ false → DueAt p y column n (j + 1) rank
   unfolding due_from
-  due_next j' h e f =
-      let s = d.set h in
-      let c : rank + 1 ≡ count_bits p (j + 1) =
-      let z : j + 1 ≡ suc j = omega arith in
-      let w : rank + 1 ≡ suc rank = omega arith in
-      rw (z, w) (ap suc d.is_rank ∙ sym (count_set p j s)) in
-      let w = due_begin p y (j + 1) n j' (rank + 1) (omega arith) c f in
-      let u : due_from (n - j) p y j ≡ due_from (n - (j + 1)) p y (j + 1) =
+  due_absent h e =
       let k : n - j ≡ suc (n - (j + 1)) = omega arith in
       let z : j + 1 ≡ suc j = omega arith in
-      let b : bit_lsb0 y (count_bits p j) ≡ true = ap (bit_lsb0 y) (sym d.is_rank) ∙ e in
-      rw (k, s, b, z) in
-      record { low = w.low; is_rank = w.is_rank; set = w.set; rest = d.rest ∙ u ∙ w.rest }
+      record { is_rank = d.is_rank ∙ sym (rw z (count_not p j e)); rest = d.rest ∙ rw (k, e, z) }
 
-  pub due_stop : j < n → bit_lsb0 y rank ≡ false → j ≡ due_from (n - column) p y column
-  unfolding due_from
-  due_stop h e =
-      let k : n - j ≡ suc (n - suc j) = omega arith in
-      let b : bit_lsb0 y (count_bits p j) ≡ false = ap (bit_lsb0 y) (sym d.is_rank) ∙ e in
-      sym (d.rest ∙ rw (k, d.set h, b))
+  module _ (h : j < n) (e : bit_lsb0 p j ≡ true) where
+    pub due_null : bit_lsb0 y rank ≡ true → DueAt p y column n (j + 1) (rank + 1)
+    unfolding due_from
+    due_null f =
+        let k : n - j ≡ suc (n - (j + 1)) = omega arith in
+        let z : j + 1 ≡ suc j = omega arith in
+        let w : rank + 1 ≡ suc rank = omega arith in
+        let b : bit_lsb0 y (count_bits p j) ≡ true = ap (bit_lsb0 y) (sym d.is_rank) ∙ f in
+        record { is_rank = rw (w, z) (ap suc d.is_rank ∙ sym (count_set p j e)); rest = d.rest ∙ rw (k, e, b, z) }
 
-  pub due_end : n ≤ j → j ≡ due_from (n - column) p y column
+    pub due_stop : bit_lsb0 y rank ≡ false → j ≡ due_from (n - column) p y column
+    unfolding due_from
+    due_stop f =
+        let k : n - j ≡ suc (n - suc j) = omega arith in
+        let b : bit_lsb0 y (count_bits p j) ≡ false = ap (bit_lsb0 y) (sym d.is_rank) ∙ f in
+        sym (d.rest ∙ rw (k, e, b))
+
+  pub due_end : j ≡ n → n ≡ due_from (n - column) p y column
   unfolding due_from
-  due_end h = let k : n - j ≡ 0 = omega arith in sym (d.rest ∙ rw k)
+  due_end h = let k : n - j ≡ 0 = omega arith in sym (d.rest ∙ rw k h)

@@ -4,10 +4,8 @@ use mathlib.Core.Path.{◌≡◌, sym, ap, subst, ◌∙◌}
 use mathlib.Core.Bool.{Bool, true, false}
 use mathlib.Core.List.{List, ◌++◌}
 use native.Mathlib.Omega.{arith}
-use borrow.Author.Tests.{ltb-true, ltb-false}
 use lib.ListN.{length, take, length-append}
 use lib.Seq.{length-take-le}
-use lib.Dec.{ltb}
 use Rattle.wire.specs.Bits.{bit_lsb0}
 use Rattle.wire.specs.Stored.{stored}
 use Rattle.value.specs.declared.column.Column.{Column}
@@ -19,24 +17,14 @@ use Rattle.record.proofs.Valid.{valid_column}
 use Rattle.image.specs.Present.{count_bits, first_from, shape_at}
 use Rattle.image.proofs.PresenceLaws.Firsts.{first_is, count_at_most}
 use Rattle.blocks.specs.declared.state.Arriving.{Arriving}
-use Rattle.blocks.specs.declared.state.Arrival.TheVariants.{More, Null, End}
-use Rattle.blocks.specs.declared.state.Given.{Given}
-use Rattle.blocks.specs.States.{more, null, end}
+use Rattle.blocks.specs.States.{more, null, end, BlockGiven}
+use Rattle.wire.specs.Outcome.{Outcome, ok}
 use Rattle.blocks.specs.Gives.{used_to, give_open}
 use Rattle.blocks.specs.Inner.Hands.{value_over, took_by, standing, Sits, Holds}
 use Rattle.blocks.proofs.Opens.{open_short, open_end, open_null, open_value}
 use Rattle.blocks.proofs.Values.{Answers, open_answer}
 
 module _ {r p : List ℕ} {room len columns nb : ℕ} {at : Arriving} (q : Sits r p room len columns nb at) where
-  pub short_fits : {b : Bool} → b ≡ ltb (at.held + len) nb → b ≡ true → at.held + len ≤ room
-  short_fits e f = omega (arith, q.room, ltb-true (at.held + len) nb (sym e ∙ f))
-
-  pub not_short : {b : Bool} → b ≡ ltb (at.held + len) nb → b ≡ false → nb ≤ at.held + len
-  not_short e f = ltb-false (at.held + len) nb (sym e ∙ f)
-
-  pub end_used : {k : ℕ} → nb ≤ at.held + len → k ≡ nb - at.held → at.used + k < 18446744073709551616
-  end_used h e = omega (arith, q.small)
-
   pub found_below : {f : ℕ} → f ≡ first_from (columns - at.column) p at.column → (f ≡ columns → ⊥) → f < columns
   found_below {f} e h =
       let i = first_is (columns - at.column) p at.column in
@@ -80,13 +68,12 @@ module _ {r p : List ℕ} {columns nb : ℕ} {at : Arriving} (carry block : List
   among : at.column ≤ count_of r
   among = omega (arith, q.among, q.count)
 
-  pub short_returns : {b : Bool} {next : Arriving} {g : Given} {c : List ℕ} → b ≡ ltb (held + length block) nb → b ≡ true
-      → next ≡ standing at.column (held + length block)
-      → (g ≡ took_by at (held + length block - held) More next) × (c ≡ stored (take (held + length block - held) block) carry held)
-      → Answers (give_open r p nb at carry block) carry g c
-  short_returns e f h w =
+  pub short_returns : {next : Arriving} {g : BlockGiven} {c : List ℕ} → held + length block < nb → next ≡ standing at.column (held + length block)
+      → (g ≡ took_by at (held + length block - held) more next) × (c ≡ stored (take (held + length block - held) block) carry held)
+      → Answers (give_open r p nb at carry block) carry (ok g) c
+  short_returns f h w =
       open_answer at carry block (give_open r p nb at carry block) (held + length block) more at.column (held + length block)
-      (open_short r p nb at carry block (omega (arith, y_length, ltb-true (held + length block) nb (sym e ∙ f)))) h w
+      (open_short r p nb at carry block (omega (arith, y_length))) h w
 
   module _ (l : nb ≤ held + length block) {f : ℕ} (e : f ≡ first_from (columns - at.column) p at.column) where
     found_is : f ≡ first_from (count_of r - at.column) p at.column
@@ -95,13 +82,13 @@ module _ {r p : List ℕ} {columns nb : ℕ} {at : Arriving} (carry block : List
     there : nb ≤ length y
     there = omega (arith, y_length)
 
-    pub end_returns : {k : ℕ} {next : Arriving} {g : Given} {c : List ℕ} → f ≡ columns → k ≡ nb - held → next ≡ standing at.column nb
-        → (g ≡ took_by at (nb - held) (End (at.used + k)) next) × (c ≡ stored (take (nb - held) block) carry held)
-        → Answers (give_open r p nb at carry block) carry g c
+    pub end_returns : {k : ℕ} {next : Arriving} {g : BlockGiven} {c : List ℕ} → f ≡ columns → k ≡ nb - held → next ≡ standing at.column nb
+        → (g ≡ took_by at (nb - held) (end (at.used + k)) next) × (c ≡ stored (take (nb - held) block) carry held)
+        → Answers (give_open r p nb at carry block) carry (ok g) c
     end_returns {k} {next} h i n w =
         open_answer at carry block (give_open r p nb at carry block) nb (end (used_to at nb)) at.column nb
         (open_end r p nb at carry block there among found_is (h ∙ q.count)) n
-        (w.0 ∙ ap (λ (m : ℕ). took_by at (nb - held) (End (at.used + m)) next) i, w.1)
+        (w.0 ∙ ap (λ (m : ℕ). took_by at (nb - held) (end (at.used + m)) next) i, w.1)
 
     module _ (h : f ≡ columns → ⊥) {rank : ℕ} {b : Bool} (m : rank ≡ count_bits p f) (i : b ≡ bit_lsb0 (take held carry ++ block) rank) where
       below : f < count_of r
@@ -110,14 +97,14 @@ module _ {r p : List ℕ} {columns nb : ℕ} {at : Arriving} (carry block : List
       bit_is : bit_lsb0 y (count_bits p f) ≡ b
       bit_is = sym (i ∙ ap (bit_lsb0 y) m)
 
-      pub null_returns : {next : Arriving} {g : Given} {c : List ℕ} → b ≡ true → next ≡ standing (f + 1) nb
-          → (g ≡ took_by at (nb - held) (Null f) next) × (c ≡ stored (take (nb - held) block) carry held)
-          → Answers (give_open r p nb at carry block) carry g c
+      pub null_returns : {next : Arriving} {g : BlockGiven} {c : List ℕ} → b ≡ true → next ≡ standing (f + 1) nb
+          → (g ≡ took_by at (nb - held) (null f) next) × (c ≡ stored (take (nb - held) block) carry held)
+          → Answers (give_open r p nb at carry block) carry (ok g) c
       null_returns t n w =
           open_answer at carry block (give_open r p nb at carry block) nb (null f) (f + 1) nb
           (open_null r p nb at carry block there among found_is below (bit_is ∙ t)) n w
 
-      pub value_returns : {en : Entry} {kind : Column} {g : Given} {c : List ℕ} → b ≡ false → en ≡ entry_in r f → kind ≡ column_of en
+      pub value_returns : {en : Entry} {kind : Column} {g : Outcome BlockGiven} {c : List ℕ} → b ≡ false → en ≡ entry_in r f → kind ≡ column_of en
           → Answers (value_over nb (shape_of kind) f at carry block) carry g c → Answers (give_open r p nb at carry block) carry g c
       unfolding shape_at
       value_returns {en} {kind} {g} {c} t u v w =

@@ -3,13 +3,11 @@ use Prim.Native.Nat.{ℕ, ◌+◌, ◌-◌, ◌≤◌, ◌<◌}
 use mathlib.Core.Path.{◌≡◌, refl, sym, ap, subst, ◌∙◌}
 use mathlib.Core.Bool.{Bool, true, false, cond}
 use mathlib.Core.Logic.{dite}
-use mathlib.Core.List.{List, [], ◌∷◌, ◌++◌, append-nil}
+use mathlib.Core.List.{List, [], ◌++◌, append-nil}
 use native.Mathlib.Nat.{add-zero}
 use native.Mathlib.Decide.{dec_le}
 use native.Mathlib.Omega.{arith}
 use borrow.Author.Tests.{le-leb, lt-leb, eq-eqb, ne_eqb, lt-ltb, le-ltb}
-use types.Run.{OneOf, miss}
-use denote.Enum.Declared.{tag_of}
 use lib.ListN.{length, take, drop, length-append, length-drop, take-append-drop}
 use lib.Seq.{length-take-le, take-add, drop_at, take-append-le, take-take}
 use lib.Dec.{eqb}
@@ -26,7 +24,6 @@ use Rattle.value.specs.declared.shape.Shape.TheVariants.{Unsigned, Signed, Float
 use Rattle.value.specs.declared.shape.Shape.TheVariants.{NotTaken}
 use Rattle.value.specs.declared.column.Column.{Column}
 use Rattle.value.specs.declared.datum.Value.{Value}
-use Rattle.value.specs.contracts.shape.Shape.{the_type as shape_type}
 use Rattle.value.specs.Data.{Datum, temporal}
 use Rattle.value.specs.Columns.{shape_of}
 use Rattle.value.specs.Shapes.{need, decode, fault, prefix}
@@ -36,83 +33,79 @@ use Rattle.value.proofs.Laws.{reads}
 use Rattle.value.proofs.Tables.{sized}
 use Rattle.value.proofs.Appends.{prefix_within, need_more}
 use Rattle.blocks.specs.declared.state.Arriving.{Arriving}
-use Rattle.blocks.specs.declared.state.Arrival.{Arrival}
-use Rattle.blocks.specs.declared.state.Arrival.TheVariants.{More, Value as Value₁, Part, Refused}
-use Rattle.blocks.specs.declared.state.Given.{Given}
-use Rattle.blocks.specs.declared.turn.Turn.{Turn}
-use Rattle.blocks.specs.States.{opened, longed, Arrived, value, long, arrival_of, shut_with, given_of}
+use Rattle.blocks.specs.States.{opened, longed, Arrived, more, value, long, part, BlockGiven}
 use Rattle.blocks.specs.Turns.{TurnSaid, wait, long as long₁, whole, too_long, turn_of}
 use Rattle.blocks.specs.Gives.{Handed, commit, used_to, waiting, by_turn, give_long}
-use Rattle.blocks.specs.Inner.Hands.{Heads, turn_by, turn_told, value_over, took_by, standing, longing, Holds, Wholes}
+use Rattle.blocks.specs.Inner.Hands.{Heads, turn_by, value_over, took_by, standing, longing, Holds, Wholes}
 use Rattle.blocks.proofs.Carries.{carried, carried_length, carried_before}
 use Rattle.blocks.proofs.Turned.{is_long_lem, not_long, prefix_most, read_whole}
 use Rattle.blocks.proofs.Hands.{heads_take, turn_head}
 
 -- ---- answers that take bytes up to `upto`
-abbrev pub Answers : Outcome Handed → List ℕ → Given → List ℕ → Type 0
-Answers o carry g c = (g ≡ given_of (answer_of o)) × (c ≡ left_of o carry)
+abbrev pub Answers : Outcome Handed → List ℕ → Outcome BlockGiven → List ℕ → Type 0
+Answers o carry g c = (g ≡ answer_of o) × (c ≡ left_of o carry)
 
-pub took_same : {g : Given} (at next : Arriving) (a : Arrival) {n k : ℕ} → g ≡ took_by at n a next → n ≡ k → g ≡ took_by at k a next
+pub took_same : {g : BlockGiven} (at next : Arriving) (a : Arrived) {n k : ℕ} → g ≡ took_by at n a next → n ≡ k → g ≡ took_by at k a next
 took_same at next a e f = e ∙ ap (λ (n : ℕ). took_by at n a next) f
 
 module _ (at : Arriving) (carry block : List ℕ) (o : Outcome Handed) (upto : ℕ) where
-  pub open_answer : (a : Arrived) (j h : ℕ) {g : Given} {c : List ℕ} {next : Arriving}
+  pub open_answer : (a : Arrived) (j h : ℕ) {g : BlockGiven} {c : List ℕ} {next : Arriving}
       → o ≡ ok (commit at carry block upto a (opened j h (used_to at upto))) → next ≡ standing j h
-      → (g ≡ took_by at (upto - at.held) (arrival_of a) next) × (c ≡ stored (take (upto - at.held) block) carry at.held)
-      → Answers o carry g c
+      → (g ≡ took_by at (upto - at.held) a next) × (c ≡ stored (take (upto - at.held) block) carry at.held)
+      → Answers o carry (ok g) c
   unfolding commit
   open_answer a j h {g} {c} {next} e f w =
-      rw e (w.0 ∙ ap (took_by at (upto - at.held) (arrival_of a)) f, w.1)
+      rw e (ap ok (w.0 ∙ ap (took_by at (upto - at.held) a) f), w.1)
 
-  pub long_answer : (a : Arrived) (j h left : ℕ) {g : Given} {c : List ℕ} {next : Arriving}
+  pub long_answer : (a : Arrived) (j h left : ℕ) {g : BlockGiven} {c : List ℕ} {next : Arriving}
       → o ≡ ok (commit at carry block upto a (longed j h left (used_to at upto))) → next ≡ longing j h left
-      → (g ≡ took_by at (upto - at.held) (arrival_of a) next) × (c ≡ stored (take (upto - at.held) block) carry at.held)
-      → Answers o carry g c
+      → (g ≡ took_by at (upto - at.held) a next) × (c ≡ stored (take (upto - at.held) block) carry at.held)
+      → Answers o carry (ok g) c
   unfolding commit
   long_answer a j h left {g} {c} {next} e f w =
-      rw e (w.0 ∙ ap (took_by at (upto - at.held) (arrival_of a)) f, w.1)
+      rw e (ap ok (w.0 ∙ ap (took_by at (upto - at.held) a) f), w.1)
 
-pub no_answer : {o : Outcome Handed} {carry c : List ℕ} {g : Given} {w : Refusal} → o ≡ refused w → g ≡ shut_with (Refused w) → c ≡ carry
+pub no_answer : {o : Outcome Handed} {carry c : List ℕ} {g : Outcome BlockGiven} {w : Refusal} → o ≡ refused w → g ≡ refused w → c ≡ carry
     → Answers o carry g c
 no_answer {o} {carry} {c} {g} e f k = rw e (f, k)
 
 -- ---- a part of a long value
-module _ (at : Arriving) (nb : ℕ) (block : List ℕ) {g : Given} where
-  pub part_none : length block ≡ 0 → g ≡ took_by at 0 More at → g ≡ given_of (answer_of (give_long nb at [] block))
+module _ (at : Arriving) (nb : ℕ) (block : List ℕ) {g : BlockGiven} where
+  pub part_none : length block ≡ 0 → g ≡ took_by at 0 more at → ok g ≡ answer_of (give_long nb at [] block)
   unfolding give_long
-  part_none h e = e ∙ rw (eq-eqb (length block) 0 h, add-zero at.used)
+  part_none h e = ap ok e ∙ rw (eq-eqb (length block) 0 h, add-zero at.used)
 
   pub part_last : {next : Arriving} → (length block ≡ 0 → ⊥) → at.left ≤ length block → next ≡ standing (at.column + 1) nb
-      → g ≡ took_by at at.left (Part at.column at.left) next → g ≡ given_of (answer_of (give_long nb at [] block))
+      → g ≡ took_by at at.left (part at.column at.left) next → ok g ≡ answer_of (give_long nb at [] block)
   unfolding give_long
   part_last h l f e =
-      e ∙ ap (took_by at at.left (Part at.column at.left)) f
+      ap ok (e ∙ ap (took_by at at.left (part at.column at.left)) f)
       ∙ rw (ne_eqb (length block) 0 h, le-leb at.left (length block) l)
 
   pub part_some : {next : Arriving} → (length block ≡ 0 → ⊥) → length block < at.left
       → next ≡ longing at.column at.held (at.left - length block)
-      → g ≡ took_by at (length block) (Part at.column (length block)) next → g ≡ given_of (answer_of (give_long nb at [] block))
+      → g ≡ took_by at (length block) (part at.column (length block)) next → ok g ≡ answer_of (give_long nb at [] block)
   unfolding give_long
   part_some h l f e =
-      e ∙ ap (took_by at (length block) (Part at.column (length block))) f
+      ap ok (e ∙ ap (took_by at (length block) (part at.column (length block))) f)
       ∙ rw (ne_eqb (length block) 0 h, lt-leb at.left (length block) l)
 
 -- ---- a value that is whole
 part_of : (m n : ℕ) (s : List ℕ) → m ≤ length s → take n (drop m s) ≡ drop m (take (m + n) s)
 part_of m n s h = sym (ap (drop m) (take-add m n s) ∙ drop_at (take m s) (take n (drop m s)) m (length-take-le m s h))
 
--- the shapes whose values are never refused, by the tags that the last arm of a match serves
-pub no_fault : (sh : Shape) → OneOf (0 ∷ 1 ∷ 2 ∷ 3 ∷ 4 ∷ 6 ∷ 7 ∷ 8 ∷ []) (tag_of shape_type sh) → (b : List ℕ) → fault sh b ≡ 0
+-- no value but a temporal is refused
+pub no_fault : (sh : Shape) → ((k : Storage) → sh ≡ Timed k → ⊥) → (b : List ℕ) → fault sh b ≡ 0
 unfolding fault
-no_fault (Unsigned k) o b = refl
-no_fault (Signed k) o b = refl
-no_fault FloatBits o b = refl
-no_fault DoubleBits o b = refl
-no_fault YearByte o b = refl
-no_fault (Timed k) o b = absurd (miss (0 ∷ 1 ∷ 2 ∷ 3 ∷ 4 ∷ 6 ∷ 7 ∷ 8 ∷ []) 5 tt o)
-no_fault (Fixed n) o b = refl
-no_fault (Counted k) o b = refl
-no_fault (NotTaken n) o b = refl
+no_fault (Unsigned k) h b = refl
+no_fault (Signed k) h b = refl
+no_fault FloatBits h b = refl
+no_fault DoubleBits h b = refl
+no_fault YearByte h b = refl
+no_fault (Timed k) h b = absurd (h k refl)
+no_fault (Fixed n) h b = refl
+no_fault (Counted k) h b = refl
+no_fault (NotTaken n) h b = refl
 
 module _ (sh : Shape) (carry block : List ℕ) (nb : ℕ) (at : Arriving) (j n : ℕ) (w : Wholes sh carry block nb at j n) where
   abbrev y : List ℕ
@@ -192,11 +185,11 @@ module _ (sh : Shape) (carry block : List ℕ) (nb : ℕ) (at : Arriving) (j n :
     pub stored_not : {v : Refusal} → read_value sh j c nb ≡ refused v → ⊥
     stored_not e = ok_not_refused (sym read_is ∙ e)
 
-    pub stored_returns : {v : Value} {m t : ℕ} {c' : List ℕ} {g : Given} {next : Arriving} → c' ≡ c → read_value sh j c' nb ≡ ok (v, m)
-        → t ≡ nb + n - at.held → next ≡ standing (j + 1) nb → g ≡ took_by at t (Value₁ j v) next → Answers after_it carry g c'
+    pub stored_returns : {v : Value} {m t : ℕ} {c' : List ℕ} {g : BlockGiven} {next : Arriving} → c' ≡ c → read_value sh j c' nb ≡ ok (v, m)
+        → t ≡ nb + n - at.held → next ≡ standing (j + 1) nb → g ≡ took_by at t (value j v) next → Answers after_it carry (ok g) c'
     stored_returns {v} {m} {t} {c'} {g} {next} e r k f h =
         let r' : read_value sh j c nb ≡ ok (v, m) = ap (λ (s : List ℕ). read_value sh j s nb) (sym e) ∙ r in
-        open_answer at carry block after_it (nb + n) (value j v) (j + 1) nb (stored_got r') f (took_same at next (Value₁ j v) h k, e)
+        open_answer at carry block after_it (nb + n) (value j v) (j + 1) nb (stored_got r') f (took_same at next (value j v) h k, e)
 
     pub stored_refuses : {v : Refusal} {c' : List ℕ} → c' ≡ c → read_value sh j c' nb ≡ refused v → ⊥
     stored_refuses e r = stored_not (ap (λ (s : List ℕ). read_value sh j s nb) (sym e) ∙ r)
@@ -344,11 +337,10 @@ module _ (kind : Column) (carry block head : List ℕ) (nb : ℕ) (at : Arriving
       ∙ turn_head space sh hand nb head (sized kind) h (omega (arith, hand_length, q.there)))
 
   -- by what the code has
-  pub turn_found : (t : Turn) (shape : Shape) → shape ≡ shape_of kind
-      → turn_told t ≡ turn_by (length carry - nb) (prefix shape) (at.held + length block - nb) (need shape head) → turn_of space sh rest
-      ≡ turn_told t
+  pub turn_found : (t : TurnSaid) (shape : Shape) → shape ≡ shape_of kind
+      → t ≡ turn_by (length carry - nb) (prefix shape) (at.held + length block - nb) (need shape head) → turn_of space sh rest ≡ t
   turn_found t shape e f =
-      turn_is (turn_told t) (f ∙ ap (λ (s : Shape). turn_by (length carry - nb) (prefix s) (at.held + length block - nb) (need s head)) e)
+      turn_is t (f ∙ ap (λ (s : Shape). turn_by (length carry - nb) (prefix s) (at.held + length block - nb) (need s head)) e)
 
   pub wait_fits : turn_of space sh rest ≡ wait → at.held + length block ≤ length carry
   wait_fits e =

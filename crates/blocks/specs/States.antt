@@ -1,14 +1,12 @@
 -- What a call leaves for the next, and what it answers. Assumes nothing.
 use Rattle.std.specs.Prelude.{ℕ}
 use Rattle.wire.specs.Outcome.{Outcome, ok, refused}
-use Rattle.value.specs.declared.datum.Value.{Value}
 use Rattle.blocks.specs.declared.state.Phase.TheVariants.{Open, Long, Closed}
 use Rattle.blocks.specs.declared.state.Arriving.{Arriving}
 use Rattle.blocks.specs.declared.state.Arrival.{Arrival}
-use Rattle.blocks.specs.declared.state.Arrival.TheVariants.{More, Null, Value as Value₁, Long as Long₁, Part, End, Refused}
 use Rattle.blocks.specs.declared.state.Given.{Given}
-use Rattle.blocks.specs.declared.state.Begun.{Begun}
-use Rattle.blocks.specs.declared.state.Begun.TheVariants.{Begins, Refused as Refused₁}
+pub use Rattle.blocks.specs.declared.state.BlockGiven.{BlockGiven}
+pub use Rattle.blocks.specs.declared.state.Arrival.TheVariants.{More as more, Null as null, Value as value, Long as long, Part as part, End as end}
 
 -- ---- states
 -- `held` bytes stand at the front of the carry: null bits, then the value in progress, which is that of `column`. `used` counts all bytes
@@ -28,43 +26,20 @@ abbrev pub closed : Arriving
 closed = record { phase = Closed; column = 0; held = 0; left = 0; used = 0 }
 
 -- ---- answers
--- one answer. The bytes of a value stand in the carry, those of a part at the front of the block
-pub data Arrived : Type 0 where
-  more : Arrived
-  null : ℕ → Arrived
-  value : ℕ → Value → Arrived
-  long : ℕ → ℕ → Arrived
-  part : ℕ → ℕ → Arrived
-  end : ℕ → Arrived
-
--- with the bytes taken from the front of the block, and the next state
-pub record BlockGiven : Type 0 where
-  pub arrival : Arrived
-  pub taken : ℕ
-  pub next : Arriving
-
--- ---- the answers of the code
-abbrev pub arrival_of : Arrived → Arrival
-arrival_of more = More
-arrival_of (null j) = Null j
-arrival_of (value j v) = Value₁ j v
-arrival_of (long j n) = Long₁ j n
-arrival_of (part j n) = Part j n
-arrival_of (end used) = End used
+-- one answer. The bytes of a value stand in the carry, those of a part at the front of the block. A `BlockGiven` is one with the bytes taken
+-- from the front of the block, and the next state
+abbrev pub Arrived : Type 0
+Arrived = Arrival
 
 -- a refusal takes nothing, and closes
-abbrev pub shut_with : Arrival → Given
+abbrev pub shut_with : Outcome Arrived → Given
 shut_with arrival = record { arrival = arrival; taken = 0; next = closed }
 
 abbrev pub given_of : Outcome BlockGiven → Given
-given_of (ok g) = record { arrival = arrival_of g.arrival; taken = g.taken; next = g.next }
-given_of (refused w) = shut_with (Refused w)
+given_of (ok g) = record { arrival = ok g.arrival; taken = g.taken; next = g.next }
+given_of (refused w) = shut_with (refused w)
 
 -- the end takes nothing too, and closes
 abbrev pub ended_of : Outcome ℕ → Given
-ended_of (ok used) = shut_with (End used)
-ended_of (refused w) = shut_with (Refused w)
-
-abbrev pub begun_of : Outcome Arriving → Begun
-begun_of (ok st) = Begins st
-begun_of (refused w) = Refused₁ w
+ended_of (ok used) = shut_with (ok (end used))
+ended_of (refused w) = shut_with (refused w)

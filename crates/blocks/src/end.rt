@@ -1,67 +1,76 @@
 // The call that ends the input.
-ghost use Rattle.std.specs.Prelude.{◌≡◌, ◌-◌, ◌≤◌, length};
+ghost use Rattle.std.specs.Prelude.{◌≡◌, ◌-◌, take};
 ghost use Rattle.blocks.specs.States.{ended_of};
-ghost use Rattle.blocks.specs.Ends.{ended_fit, end_blocks};
-ghost use Rattle.blocks.specs.Inner.Hands.{due_from, end_open, Tested, Numbered};
+ghost use Rattle.blocks.specs.Ends.{end_blocks};
+ghost use Rattle.blocks.specs.Inner.Hands.{due_from, end_open};
 
 use crate::fit::is_fit;
 use crate::give::read_head_carry;
-use crate::state::{Arrival, Arriving, Given, Phase, shut};
-use image::HeadRead;
+use crate::lent::{Lent, Seat};
+use crate::state::{Arriving, Given, Phase, ended_of};
+use wire::Refusal;
 use wire::refusal::{IMAGE_SHORT, UNFIT_STATE};
 
-// The first present column from `column` on that is not NULL, or n.
-fn first_due(presence: &[u8], nulls: &[u8], column: usize, n: usize) -> usize
-    requires { (column ≤ n) × (n ≤ 4096) }
-    ensures { result ≡ due_from (n - column) presence.now nulls.now column }
-{
-    let mut rank = image::count_bits(presence, column);
-    let mut j = image::first_set(presence, column, n);
-    while j < n {
-        if !wire::bit_lsb0(nulls, rank) {
-            return j;
+impl Seat<'_> {
+    // The first present column from the state's on that is not NULL, or how many columns there are.
+    fn first_due(self) -> usize
+        ensures { result
+            ≡ due_from (self.entry.lent.head.columns - self.entry.at.column) self.entry.lent.presence.now (take self.entry.at.held self.entry.carry.now)
+            self.entry.at.column }
+    {
+        let presence = self.lent.presence;
+        let columns = self.lent.head.columns;
+        let nulls = self.held();
+        let mut rank = image::count_bits(presence, self.at.column);
+        for j in self.at.column..columns {
+            if !wire::bit_lsb0(presence, j) {
+                continue;
+            }
+            if !wire::bit_lsb0(nulls, rank) {
+                return j;
+            }
+            rank += 1;
         }
-        rank += 1;
-        j = image::first_set(presence, j + 1, n);
+        columns
     }
-    j
+
+    #[tactic(auto, unfolding(crate::specs::Inner::Hands::end_open))]
+    fn end_open(self) -> Result<usize, Refusal>
+        ensures { result ≡ end_open self.entry.lent.presence.now self.entry.lent.head.columns self.entry.lent.head.nulls self.entry.at self.entry.carry.now }
+    {
+        if self.at.held < self.lent.head.nulls {
+            return Err(wire::refuse(IMAGE_SHORT, 0));
+        }
+        let due = self.first_due();
+        if due == self.lent.head.columns {
+            return Ok(self.at.used);
+        }
+        Err(wire::refuse(IMAGE_SHORT, due))
+    }
 }
 
-fn end_open(presence: &[u8], carry: &[u8], columns: usize, nulls: usize, at: Arriving) -> Given
-    requires { (columns ≤ 4096) × Numbered (length carry.now) columns at }
-    ensures { result ≡ ended_of (end_open presence.now columns nulls at carry.now) }
-{
-    let held = at.held;
-    if held < nulls {
-        return shut(Arrival::Refused(wire::refuse(IMAGE_SHORT, 0)));
-    }
-    let due = first_due(presence, &carry[0..held], at.column, columns);
-    if due == columns {
-        return shut(Arrival::End { used: at.used });
-    }
-    shut(Arrival::Refused(wire::refuse(IMAGE_SHORT, due)))
-}
-
-// Behind the tests for 11, 12 and 20.
-fn end_fit(
-    profile: &[u8],
-    presence: &[u8],
-    carry: &[u8],
-    columns: usize,
-    nulls: usize,
+#[tactic(auto, unfolding(crate::specs::Ends::end_blocks, crate::specs::Ends::ended_fit, crate::specs::Ends::end_in))]
+fn end_blocks<'a>(
+    profile: &'a [u8],
+    presence: &'a [u8],
+    carry: &'a [u8],
     at: Arriving,
-) -> Given
-    requires { Tested profile.now presence.now (length carry.now) columns nulls }
-    ensures { result ≡ ended_of (ended_fit profile.now presence.now columns nulls at carry.now) }
+) -> Result<usize, Refusal>
+    ensures { result ≡ end_blocks profile.now presence.now at carry.now }
 {
-    if !is_fit(profile, presence, carry, columns, nulls, at) {
-        return shut(Arrival::Refused(wire::refuse(UNFIT_STATE, 0)));
+    let head = read_head_carry(profile, presence, carry)?;
+    let lent = Lent {
+        profile,
+        presence,
+        head,
+    };
+    if !is_fit(lent, carry, at) {
+        return Err(wire::refuse(UNFIT_STATE, 0));
     }
-    let phase = at.phase;
-    match phase {
-        Phase::Open => end_open(presence, carry, columns, nulls, at),
-        Phase::Long => shut(Arrival::Refused(wire::refuse(IMAGE_SHORT, at.column))),
-        Phase::Closed => shut(Arrival::Refused(wire::refuse(UNFIT_STATE, 0))),
+    match at.phase {
+        Phase::Open => Seat { lent, carry, at }.end_open(),
+        Phase::Long => Err(wire::refuse(IMAGE_SHORT, at.column)),
+        Phase::Closed => Err(wire::refuse(UNFIT_STATE, 0)),
     }
 }
 
@@ -70,16 +79,6 @@ impl Arriving {
     pub fn end(self, profile: &[u8], presence: &[u8], carry: &[u8]) -> Given
         ensures { result ≡ ended_of (end_blocks profile.now presence.now self carry.now) }
     {
-        match read_head_carry(profile, presence, carry) {
-            HeadRead::Read(head) => end_fit(
-                profile,
-                presence,
-                carry,
-                head.columns,
-                head.nulls,
-                self,
-            ),
-            HeadRead::Refused(r) => shut(Arrival::Refused(r)),
-        }
+        ended_of(end_blocks(profile, presence, carry, self))
     }
 }

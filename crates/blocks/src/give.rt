@@ -1,49 +1,52 @@
 // The calls that take blocks.
 ghost use Rattle.std.specs.Prelude.{◌≡◌, [], ◌+◌, ◌<◌, length};
+ghost use Rattle.wire.specs.Outcome.{ok};
 ghost use Rattle.wire.specs.Stored.{answer_of, left_of};
-ghost use Rattle.image.specs.Split.{head_told};
-ghost use Rattle.blocks.specs.States.{given_of, begun_of};
-ghost use Rattle.blocks.specs.Gives.{give_long, given_fit, head_carry, give_block, begin_blocks};
-ghost use Rattle.blocks.specs.Inner.Hands.{Tested};
+ghost use Rattle.blocks.specs.States.{given_of};
+ghost use Rattle.blocks.specs.Gives.{give_long, head_carry, give_block, begin_blocks};
 
 use crate::fit::is_fit;
+use crate::lent::Lent;
 use crate::open::give_open;
-use crate::state::{Arrival, Arriving, Begun, Given, Phase, longing, shut, standing, took};
-use image::HeadRead;
+use crate::state::{
+    Arrival, Arriving, BlockGiven, Given, Phase, given_of, longing, standing, took,
+};
+use image::Head;
+use wire::Refusal;
 use wire::refusal::{SMALL_CARRY, UNFIT_STATE};
 
 // A carry has room for the null bits of 4,096 columns, and as much again for a value.
 pub const LEAST_CARRY: usize = 1024;
 
 // The tests before any call: refusal 11 for the record, 12 for the presence bits, 20 for the carry.
-pub(crate) fn read_head_carry(profile: &[u8], presence: &[u8], carry: &[u8]) -> HeadRead
-    ensures { head_told result ≡ head_carry profile.now presence.now carry.now }
+#[tactic(auto, using(wire::proofs::Rules::tests), unfolding(crate::specs::Gives::head_carry))]
+pub(crate) fn read_head_carry(
+    profile: &[u8],
+    presence: &[u8],
+    carry: &[u8],
+) -> Result<Head, Refusal>
+    ensures { result ≡ head_carry profile.now presence.now carry.now }
 {
-    match image::read_head(profile, presence) {
-        HeadRead::Read(head) => {
-            if carry.len() < LEAST_CARRY {
-                return HeadRead::Refused(wire::refuse(SMALL_CARRY, 0));
-            }
-            HeadRead::Read(head)
-        }
-        HeadRead::Refused(r) => HeadRead::Refused(r),
+    let head = image::read_head(profile, presence)?;
+    if carry.len() < LEAST_CARRY {
+        return Err(wire::refuse(SMALL_CARRY, 0));
     }
+    Ok(head)
 }
 
 // The first state.
-pub fn begin(profile: &[u8], presence: &[u8], carry: &[u8]) -> Begun
-    ensures { result ≡ begun_of (begin_blocks profile.now presence.now carry.now) }
+#[tactic(auto, unfolding(crate::specs::Gives::begin_blocks))]
+pub fn begin(profile: &[u8], presence: &[u8], carry: &[u8]) -> Result<Arriving, Refusal>
+    ensures { result ≡ begin_blocks profile.now presence.now carry.now }
 {
-    match read_head_carry(profile, presence, carry) {
-        HeadRead::Read(_) => Begun::Begins(standing(0, 0)),
-        HeadRead::Refused(r) => Begun::Refused(r),
-    }
+    read_head_carry(profile, presence, carry)?;
+    Ok(standing(0, 0))
 }
 
 // A part of a long value stores nothing.
-fn give_long(at: Arriving, nulls: usize, block: &[u8]) -> Given
+fn give_long(at: Arriving, nulls: usize, block: &[u8]) -> BlockGiven
     requires { (at.column < 65536) × (at.used + length block.now < 18446744073709551616) }
-    ensures { result ≡ given_of (answer_of (give_long nulls at [] block.now)) }
+    ensures { ok result ≡ answer_of (give_long nulls at [] block.now) }
 {
     let column = at.column;
     let left = at.left;
@@ -59,32 +62,31 @@ fn give_long(at: Arriving, nulls: usize, block: &[u8]) -> Given
     took(at, len, Arrival::Part { column, len }, next)
 }
 
-// Behind the tests for 11, 12 and 20.
-fn give_fit(
-    profile: &[u8],
-    presence: &[u8],
+#[tactic(auto, unfolding(crate::specs::Gives::give_block, crate::specs::Gives::given_fit, crate::specs::Gives::give_in))]
+fn give_block<'a>(
+    profile: &'a [u8],
+    presence: &'a [u8],
     carry: &mut [u8],
     block: &[u8],
-    columns: usize,
-    nulls: usize,
     at: Arriving,
-) -> Given
-    requires { Tested profile.now presence.now (length carry.old) columns nulls }
-    ensures value { result
-        ≡ given_of (answer_of (given_fit profile.now presence.now columns nulls at carry.old
-        block.now)) }
+) -> Result<BlockGiven, Refusal>
+    ensures value { result ≡ answer_of (give_block profile.now presence.now at carry.old block.now) }
     ensures carry_after { carry.new
-        ≡ left_of (given_fit profile.now presence.now columns nulls at carry.old block.now)
-        carry.old }
+        ≡ left_of (give_block profile.now presence.now at carry.old block.now) carry.old }
 {
-    if !is_fit(profile, presence, carry, columns, nulls, at) {
-        return shut(Arrival::Refused(wire::refuse(UNFIT_STATE, 0)));
+    let head = read_head_carry(profile, presence, carry)?;
+    let lent = Lent {
+        profile,
+        presence,
+        head,
+    };
+    if !is_fit(lent, carry, at) {
+        return Err(wire::refuse(UNFIT_STATE, 0));
     }
-    let phase = at.phase;
-    match phase {
-        Phase::Open => give_open(profile, presence, carry, block, columns, nulls, at),
-        Phase::Long => give_long(at, nulls, block),
-        Phase::Closed => shut(Arrival::Refused(wire::refuse(UNFIT_STATE, 0))),
+    match at.phase {
+        Phase::Open => give_open(lent, carry, block, at),
+        Phase::Long => Ok(give_long(at, head.nulls, block)),
+        Phase::Closed => Err(wire::refuse(UNFIT_STATE, 0)),
     }
 }
 
@@ -99,12 +101,6 @@ impl Arriving {
             ≡ left_of (give_block profile.now presence.now self carry.old block.now)
             carry.old }
     {
-        let head = match read_head_carry(profile, presence, carry) {
-            HeadRead::Read(head) => head,
-            HeadRead::Refused(r) => return shut(Arrival::Refused(r)),
-        };
-        let columns = head.columns;
-        let nulls = head.nulls;
-        give_fit(profile, presence, carry, block, columns, nulls, self)
+        given_of(give_block(profile, presence, carry, block, self))
     }
 }

@@ -5,9 +5,10 @@ mod end;
 mod fit;
 mod give;
 mod hand;
+mod lent;
 mod open;
 mod state;
 mod turn;
 
 pub use give::{LEAST_CARRY, begin};
-pub use state::{Arrival, Arriving, Begun, Given, Phase};
+pub use state::{Arrival, Arriving, Given, Phase};

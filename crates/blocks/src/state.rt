@@ -1,6 +1,6 @@
 // What a call leaves for the next, and what it answers.
 ghost use Rattle.std.specs.Prelude.{◌≡◌, ◌+◌, ◌<◌};
-ghost use Rattle.blocks.specs.States.{shut_with};
+ghost use Rattle.blocks.specs.States.{shut_with, given_of, ended_of};
 ghost use Rattle.blocks.specs.Inner.Hands.{standing, longing, took_by};
 
 use value::Value;
@@ -33,25 +33,26 @@ pub enum Arrival {
     Long { column: usize, len: usize },
     Part { column: usize, len: usize },
     End { used: usize },
-    Refused(Refusal),
 }
 
 // One answer, how many bytes were taken from the front of the block, and the state for the next call.
 #[derive(Clone, Copy)]
 pub struct Given {
+    pub arrival: Result<Arrival, Refusal>,
+    pub taken: usize,
+    pub next: Arriving,
+}
+
+// The same where nothing is refused.
+#[derive(Clone, Copy)]
+pub(crate) struct BlockGiven {
     pub arrival: Arrival,
     pub taken: usize,
     pub next: Arriving,
 }
 
-#[derive(Clone, Copy)]
-pub enum Begun {
-    Begins(Arriving),
-    Refused(Refusal),
-}
-
 // A refusal and the end take nothing, and close.
-pub(crate) fn shut(arrival: Arrival) -> Given
+fn shut(arrival: Result<Arrival, Refusal>) -> Given
     ensures { result ≡ shut_with arrival }
 {
     Given {
@@ -65,6 +66,25 @@ pub(crate) fn shut(arrival: Arrival) -> Given
             used: 0,
         },
     }
+}
+
+pub(crate) fn given_of(answer: Result<BlockGiven, Refusal>) -> Given
+    ensures { result ≡ given_of answer }
+{
+    match answer {
+        Ok(given) => Given {
+            arrival: Ok(given.arrival),
+            taken: given.taken,
+            next: given.next,
+        },
+        Err(r) => shut(Err(r)),
+    }
+}
+
+pub(crate) fn ended_of(end: Result<usize, Refusal>) -> Given
+    ensures { result ≡ ended_of end }
+{
+    shut(end.map(|used| Arrival::End { used }))
 }
 
 // The bytes used are counted where they are taken.
@@ -93,24 +113,14 @@ pub(crate) fn longing(column: usize, held: usize, left: usize) -> Arriving
 }
 
 // So many bytes are taken: `next` is the state behind them, but for the bytes used.
-pub(crate) fn took(at: Arriving, taken: usize, arrival: Arrival, next: Arriving) -> Given
+pub(crate) fn took(at: Arriving, taken: usize, arrival: Arrival, next: Arriving) -> BlockGiven
     requires { at.used + taken < 18446744073709551616 }
     ensures { result ≡ took_by at taken arrival next }
 {
-    let used = at.used;
-    let phase = next.phase;
-    let column = next.column;
-    let held = next.held;
-    let left = next.left;
-    Given {
+    let used = at.used + taken;
+    BlockGiven {
         arrival,
         taken,
-        next: Arriving {
-            phase,
-            column,
-            held,
-            left,
-            used: used + taken,
-        },
+        next: Arriving { used, ..next },
     }
 }

@@ -1,8 +1,8 @@
 // What the bytes at hand say of a value.
-ghost use Rattle.std.specs.Prelude.{◌≡◌, ◌&&◌, ◌≤◌, leb, ltb};
+ghost use Rattle.std.specs.Prelude.{◌≡◌, ◌≤◌};
 ghost use Rattle.value.specs.Shapes.{need, prefix};
 ghost use Rattle.value.specs.Inner.Shapes.{Sized};
-ghost use Rattle.blocks.specs.Inner.Hands.{turn_by, turn_told};
+ghost use Rattle.blocks.specs.Inner.Hands.{turn_by};
 
 use temporal::temporal_size;
 use value::Shape;
@@ -15,6 +15,7 @@ pub(crate) enum Turn {
 }
 
 // How many bytes tell the length of a value.
+#[tactic(auto, unfolding(value::specs::Shapes::prefix))]
 pub(crate) fn prefix_of(shape: Shape) -> usize
     ensures { result ≡ prefix shape }
 {
@@ -25,18 +26,17 @@ pub(crate) fn prefix_of(shape: Shape) -> usize
 }
 
 // How many bytes the value takes that begins with `head`; its length bytes are among these eight.
+#[tactic(auto, unfolding(value::specs::Shapes::need))]
 pub(crate) fn need_of(shape: Shape, head: &[u8]) -> usize
     requires { Sized shape }
     ensures { result ≡ need shape head.now }
 {
     match shape {
-        Shape::Unsigned(k) => k,
-        Shape::Signed(k) => k,
+        Shape::Unsigned(k) | Shape::Signed(k) | Shape::Fixed(k) => k,
         Shape::FloatBits => 4,
         Shape::DoubleBits => 8,
         Shape::YearByte => 1,
         Shape::Timed(kind) => temporal_size(kind),
-        Shape::Fixed(n) => n,
         Shape::Counted(k) => counted_need(k, head),
         Shape::NotTaken(_) => 0,
     }
@@ -50,27 +50,18 @@ fn counted_need(k: usize, head: &[u8]) -> usize
 }
 
 // `len` bytes are at hand, the first eight of them in `head`, and the carry has room for `room`.
+#[tactic(auto, using(wire::proofs::Rules::tests), unfolding(crate::specs::Inner::Hands::turn_by))]
 pub(crate) fn turn_of(shape: Shape, head: &[u8], len: usize, room: usize) -> Turn
     requires { Sized shape }
-    ensures { turn_told result ≡ turn_by room (prefix shape) len (need shape head.now) }
+    ensures { result ≡ turn_by room (prefix shape) len (need shape head.now) }
 {
     let told = prefix_of(shape);
     let size = need_of(shape, head);
-    if is_over(told, len, room, size) {
+    if told <= len && room < size {
         return Turn::Long(size - told);
     }
     if len < size {
         return Turn::Wait;
     }
     Turn::Whole(size)
-}
-
-// Whether the length is told, and there is no room.
-fn is_over(told: usize, len: usize, room: usize, size: usize) -> bool
-    ensures { result ≡ (leb told len && ltb room size) }
-{
-    if len < told {
-        return false;
-    }
-    room < size
 }

@@ -9,12 +9,10 @@ use Rattle.value.specs.Columns.{shape_of, is_taken}
 use Rattle.value.specs.Shapes.{need}
 use Rattle.record.specs.Records.{most_columns, count_of, record_valid}
 use Rattle.image.specs.Present.{count_bits, shape_at}
-use Rattle.blocks.specs.declared.state.Phase.TheVariants.{Open, Long as Long₁}
+use Rattle.blocks.specs.declared.state.Phase.TheVariants.{Open, Long}
 use Rattle.blocks.specs.declared.state.Arriving.{Arriving}
 use Rattle.blocks.specs.declared.state.Arrival.{Arrival}
-use Rattle.blocks.specs.declared.state.Given.{Given}
-use Rattle.blocks.specs.declared.turn.Turn.{Turn}
-use Rattle.blocks.specs.declared.turn.Turn.TheVariants.{Wait, Long, Whole}
+use Rattle.blocks.specs.States.{BlockGiven}
 use Rattle.blocks.specs.Turns.{TurnSaid, wait, long, whole, turn_of}
 use Rattle.blocks.specs.Gives.{Handed, by_turn, at_hand}
 
@@ -27,11 +25,6 @@ pub record Heads (y : List ℕ) (from : ℕ) (head : List ℕ) (n : ℕ) : Type 
 unfoldable pub turn_by : ℕ → ℕ → ℕ → ℕ → TurnSaid
 turn_by room told len size = cond (leb told len && ltb room size) (long (size - told)) (cond (ltb len size) wait (whole size))
 
-abbrev pub turn_told : Turn → TurnSaid
-turn_told Wait = wait
-turn_told (Long n) = long n
-turn_told (Whole n) = whole n
-
 -- the answer for a value that is not NULL
 unfoldable pub value_over : ℕ → Shape → ℕ → Arriving → List ℕ → List ℕ → Outcome Handed
 unfolding turn_of by_turn
@@ -40,7 +33,7 @@ value_over nb sh j st carry block =
     by_turn nb sh j x st carry block (turn_of (length carry - nb) sh x)
 
 -- ---- what a call answers that takes so many bytes: `next` is the state behind it, but for the bytes used
-abbrev pub took_by : Arriving → ℕ → Arrival → Arriving → Given
+abbrev pub took_by : Arriving → ℕ → Arrival → Arriving → BlockGiven
 took_by at n arrival next = record {
   arrival = arrival;
   taken = n;
@@ -51,7 +44,7 @@ abbrev pub standing : ℕ → ℕ → Arriving
 standing column held = record { phase = Open; column = column; held = held; left = 0; used = 0 }
 
 abbrev pub longing : ℕ → ℕ → ℕ → Arriving
-longing column held left = record { phase = Long₁; column = column; held = held; left = left; used = 0 }
+longing column held left = record { phase = Long; column = column; held = held; left = left; used = 0 }
 
 -- ---- the tests for 11, 12, 20 and 21 were passed
 pub record Sits (r p : List ℕ) (carry block columns nulls : ℕ) (at : Arriving) : Type 0 where

@@ -1,21 +1,16 @@
 -- `blocks::hand::commit` meets its contract. Assumes nothing.
-use mathlib.Core.Path.{refl}
+use Prim.Native.Nat.{ℕ, ◌-◌}
+use mathlib.Core.Path.{ap, ◌∙◌}
 use native.Mathlib.Omega.{arith}
-use Rattle.blocks.proofs.Hands.{commit_none, commit_some}
+use lib.ListN.{take}
+use lib.Seq.{length-take-le}
+use Rattle.wire.proofs.Stores.{part_stored}
 use Rattle.blocks.proofs.hand.commit.Goals as goal
 
-pub returns-then-upto-held : goal.returns-then-upto-held
-returns-then-upto-held c =
-    let p = commit_none c.args.carry.now c.args.block.now
-    c.args.held c.args.upto (omega arith) in record { value = p.0; carry_after = p.1 }
-
-pub returns : goal.returns
-returns c = record {
-  value = refl;
-  carry_after = commit_some c.args.carry.now
-      c.args.block.now _
-      c.args.held
-      c.args.upto (omega arith)
-      c.requires.1
-      c.requires.2 c.write_bytes.ensures.buf_after;
-}
+pub returns-clause-carry_after : goal.returns-clause-carry_after
+returns-clause-carry_after c =
+    let a = c.args in
+    let e = c.saturating_sub-taken.ensures in
+    part_stored a.carry.now (take (a.upto - a.held) a.block.now) _ a.held _
+    (c.copy_from_slice.ensures.after ∙ ap (λ (n : ℕ). take n a.block.now) e)
+    (omega (arith, e, length-take-le (a.upto - a.held) a.block.now))
