@@ -1,4 +1,5 @@
 -- An event that was read: its sets of presence bits are of the record's length, and its images begin within it. Assumes nothing.
+use Rattle.std.specs.Prelude.{Option}
 use Prim.Native.Nat.{ℕ, ◌+◌, ◌≤◌}
 use mathlib.Core.Path.{◌≡◌, refl, sym, ap, subst, ◌∙◌}
 use mathlib.Core.Bool.{Bool, true, false, cond, ◌&&◌, not, true≢false}
@@ -26,8 +27,6 @@ use Rattle.image.specs.Walk.{walk_image}
 use Rattle.image.specs.Rows.{WalkRefusal, in_nulls, ends_early, out_of_range}
 use Rattle.image.proofs.EndLaws.Images.{no_other}
 use Rattle.rows_event.specs.declared.form.Form.{Form}
-use Rattle.rows_event.specs.declared.parts.Extra.{Extra}
-use Rattle.rows_event.specs.declared.parts.Second.{Second}
 use Rattle.rows_event.specs.declared.parts.Sets.{Sets}
 use Rattle.rows_event.specs.declared.parts.RowsParts.{RowsParts}
 use Rattle.rows_event.specs.declared.event.Rows.{Rows}
@@ -44,22 +43,22 @@ lent_length : (s : List ℕ) (at n : ℕ) → at + n ≤ length s → length (le
 lent_length s at n h = ap length (lent_is s (part at n) h) ∙ part_length s (part at n) h
 
 -- ---- the sets: of so many bytes each, and within the event
-record Sized (s : List ℕ) (n : ℕ) (first : Part) (second : Second) (images : ℕ) : Type 0 where
+record Sized (s : List ℕ) (n : ℕ) (first : Part) (second : Option Part) (images : ℕ) : Type 0 where
   before : length (lent_part s first) ≡ n
   after : is_there second ≡ true → length (second_bits s second) ≡ n
   place : images ≤ length s
 
-second_sized : (has : Bool) (n : ℕ) (s : List ℕ) (at : ℕ) (x : Second × ℕ) → at ≤ length s → second_at has n s at ≡ ok x
+second_sized : (has : Bool) (n : ℕ) (s : List ℕ) (at : ℕ) (x : Option Part × ℕ) → at ≤ length s → second_at has n s at ≡ ok x
     → (is_there x.0 ≡ true → length (second_bits s x.0) ≡ n) × (x.1 ≤ length s)
 unfolding second_at second_set
 second_sized true n s at x l e =
     let w = after_is_ok (within s at n at) _ x e in
     let h = within_ok s at n at w.0 w.1 in
     let q = same_ok w.2 in
-    subst (λ (y : Second × ℕ). (is_there y.0 ≡ true → length (second_bits s y.0) ≡ n) × (y.1 ≤ length s)) q
+    subst (λ (y : Option Part × ℕ). (is_there y.0 ≡ true → length (second_bits s y.0) ≡ n) × (y.1 ≤ length s)) q
     (λ t. lent_length s at n (omega (arith, h.0, h.1)), h.1)
 second_sized false n s at x l e =
-    subst (λ (y : Second × ℕ). (is_there y.0 ≡ true → length (second_bits s y.0) ≡ n) × (y.1 ≤ length s)) (same_ok e)
+    subst (λ (y : Option Part × ℕ). (is_there y.0 ≡ true → length (second_bits s y.0) ≡ n) × (y.1 ≤ length s)) (same_ok e)
     (λ t. absurd (true≢false (sym t)), l)
 
 sets_sized : (second : Bool) (count : ℕ) (s : List ℕ) (at : ℕ) (x : Sets) → sets_at second count s at ≡ ok x
@@ -88,7 +87,7 @@ parts_sized f s p e =
     subst (λ (y : RowsParts). Sized s (bytes_for y.sets.count) y.sets.before y.sets.after y.sets.images) (same_ok t.2) z
 
 -- ---- where the count stands: behind the extra data, if there is such
-extra_whole : (s : List ℕ) (x : Extra × ℕ) → extra_at true s 8 ≡ ok x → Whole s sized 8 x.1
+extra_whole : (s : List ℕ) (x : Option Part × ℕ) → extra_at true s 8 ≡ ok x → Whole s sized 8 x.1
 unfolding extra_at extra_data
 extra_whole s x e =
     let n = after_is_ok (read_fixed 2 s 8) _ x e in
@@ -98,17 +97,17 @@ extra_whole s x e =
     let l = ltb-false n.0.0 2 u in
     let w = after_is_ok (within s 8 n.0.0 8) _ x g in
     let i = within_ok s 8 n.0.0 8 w.0 w.1 in
-    let q : 8 + n.0.0 ≡ x.1 = sym i.0 ∙ ap (λ (y : Extra × ℕ). y.1) (same_ok w.2) in
+    let q : 8 + n.0.0 ≡ x.1 = sym i.0 ∙ ap (λ (y : Option Part × ℕ). y.1) (same_ok w.2) in
     subst (λ (y : ℕ). Whole s sized 8 y) q (all_sized (sym f.value) l (omega (arith, i.0, i.1))))
 
 -- what starts behind it
-pub behind_extra : (has : Bool) (s : List ℕ) (l : Layout) (x : Extra × ℕ) → extra_at has s 8 ≡ ok x → {f : PartForm} {q : ℕ}
+pub behind_extra : (has : Bool) (s : List ℕ) (l : Layout) (x : Option Part × ℕ) → extra_at has s 8 ≡ ok x → {f : PartForm} {q : ℕ}
     → Starts s l x.1 f q
     → Starts s (cond has (sized then l) l) 8 f q
 unfolding extra_at
 behind_extra true s l x e a = behind_part (extra_whole s x e) a
 behind_extra false s l x e {f} {q} a =
-    let z : 8 ≡ x.1 = ap (λ (y : Extra × ℕ). y.1) (same_ok e) in
+    let z : 8 ≡ x.1 = ap (λ (y : Option Part × ℕ). y.1) (same_ok e) in
     subst (λ (o : ℕ). Starts s l o f q) (sym z) a
 
 pub record CountedAt (f : Form) (s : List ℕ) (p : RowsParts) : Type 0 where

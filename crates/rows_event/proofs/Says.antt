@@ -18,8 +18,7 @@ use Rattle.wire.proofs.Outcomes.{same_ok, ok_not_refused, both_true}
 use Rattle.value.specs.Data.{Datum}
 use Rattle.record.specs.Records.{count_of, record_valid}
 use Rattle.image.specs.Present.{Present, present}
-use Rattle.image.specs.declared.end.WalkEnd.{WalkEnd}
-use Rattle.image.specs.Walk.{RowWalked as ImageWalked, walk_image, end_told}
+use Rattle.image.specs.Walk.{RowWalked as ImageWalked, walk_image}
 use Rattle.image.specs.Rows.{Says, read, short, broken as stops_at, row_bytes, answers_of}
 use Rattle.image.proofs.CursorLaws.Heads.{Over}
 use Rattle.image.proofs.EndLaws.Images.{every_image, only_says}
@@ -379,7 +378,7 @@ rows_exactly r w s _ f l (broken {ms = ms} {b = b} rest xs v d g y) = go (is_emp
         k.walked ∙ ap (with_images ms) stop ∙ ap (λ (z : List Met). record { images = z; how = refused v }) (append-nil ms)
 
 -- ---- as the code comes to an image's end: over a set and bytes that it was handed
-pub told_walk : (r p p' im im' : List ℕ) (x : WalkEnd) → p ≡ p' → im ≡ im' → end_told x ≡ (walk_image r p im).how
-    → (walk_image r p' im').how ≡ end_told x
+pub told_walk : (r p p' im im' : List ℕ) (x : Outcome ℕ) → p ≡ p' → im ≡ im' → x ≡ (walk_image r p im).how
+    → (walk_image r p' im').how ≡ x
 told_walk r p p' im im' x e f h =
     sym (ap (λ (y : List ℕ). (walk_image r y im').how) e) ∙ sym (ap (λ (y : List ℕ). (walk_image r p y).how) f) ∙ sym h

@@ -1,5 +1,6 @@
 -- A step over the images of a rows event: what it tells, and that the walk ends. Of two images in turn one takes a byte at least. Assumes
 -- nothing.
+use Rattle.std.specs.Prelude.{Option, Some, None}
 use Prim.Native.Nat.{ℕ, zero, suc, ◌+◌, ◌-◌, ◌*◌, ◌≤◌, ◌<◌}
 use mathlib.Core.Path.{◌≡◌, refl, sym, ap, subst, ◌∙◌}
 use mathlib.Core.Bool.{Bool, true, false, cond, ◌&&◌, not, true≢false}
@@ -11,6 +12,7 @@ use native.Mathlib.Omega.{arith}
 use borrow.Author.Tests.{eq-eqb, ne_eqb, ltb-false}
 use lib.ListN.{length, drop, length-drop}
 use lib.Dec.{ltb, eqb}
+use Rattle.wire.specs.declared.part.Part.{Part}
 use Rattle.wire.specs.Outcome.{Outcome, ok, refused, refuse, after}
 use Rattle.wire.specs.Bits.{bytes_for, lsb0, bit_lsb0}
 use Rattle.wire.specs.Parts.{part}
@@ -20,8 +22,6 @@ use Rattle.image.specs.Present.{count_bits}
 use Rattle.image.specs.Walk.{walk_image}
 use Rattle.image.proofs.PresenceLaws.Presents.{present_length}
 use Rattle.image.proofs.EndLaws.Used.{walk_used}
-use Rattle.rows_event.specs.declared.parts.Second.{Second}
-use Rattle.rows_event.specs.declared.parts.Second.TheVariants.{Absent, Bits}
 use Rattle.rows_event.specs.declared.event.Rows.{Rows}
 use Rattle.rows_event.specs.declared.images.Images.{Images}
 use Rattle.rows_event.specs.Images.{is_there, in_pairs, set_of, is_empty, image_met, end, is_second, behind_image, next_image, ImagesWalked}
@@ -61,9 +61,9 @@ count_empty (suc n) = rw (count_empty n, digit_none (lsb0 n))
 none_second : (r : List ℕ) (w : Rows) (s : List ℕ) → in_pairs w ≡ false → counted r w s true ≡ 0
 none_second r w s e = go w.after refl e
   where
-    go : (x : Second) → w.after ≡ x → is_there x ≡ false → counted r w s true ≡ 0
-    go Absent q e = rw q (count_empty (count_of r))
-    go (Bits p) q e = absurd (true≢false e)
+    go : (x : Option Part) → w.after ≡ x → is_there x ≡ false → counted r w s true ≡ 0
+    go None q e = rw q (count_empty (count_of r))
+    go (Some p) q e = absurd (true≢false e)
 
 -- the set of the next image has a column where that of this one has none
 turned : (r : List ℕ) (w : Rows) (s : List ℕ) (second : Bool) → is_empty r w s ≡ false → (in_pairs w ≡ false → second ≡ false)

@@ -2,22 +2,17 @@
 -- and then extra data, packed column count, presence bits, for updates a second set, then images to the end." One rule for both editions:
 -- the extra data is a part that may be absent. "Refusals: 11, then 16 for another code; 1, 2 and 15, an extra length below 2, as met; 16
 -- for a table id unlike the map's, then a column count unlike the record's (15 and 16 at their field, a code at 0)". Assumes nothing.
-use Rattle.std.specs.Prelude.{ℕ, ◌+◌, ◌-◌, Bool, true, false, cond, List, ltb, eqb}
-use Rattle.wire.specs.Outcome.{Outcome, ok, refused, refuse, after}
+use Rattle.std.specs.Prelude.{ℕ, ◌+◌, ◌-◌, Bool, true, false, cond, Option, Some, None, List, ltb, eqb}
+use Rattle.wire.specs.declared.part.Part.{Part}
+use Rattle.wire.specs.Outcome.{Outcome, ok, refuse, after}
 use Rattle.wire.specs.Bits.{bytes_for}
 use Rattle.wire.specs.Packed.{read_fixed, read_packed}
 use Rattle.wire.specs.Parts.{part, within}
 use Rattle.record.specs.Records.{read_record}
 use Rattle.rows_event.specs.declared.form.Form.{Form}
-use Rattle.rows_event.specs.declared.parts.Extra.{Extra}
-use Rattle.rows_event.specs.declared.parts.Extra.TheVariants.{Absent, Data}
-use Rattle.rows_event.specs.declared.parts.Second.{Second}
-use Rattle.rows_event.specs.declared.parts.Second.TheVariants.{Absent as Absent₁, Bits}
 use Rattle.rows_event.specs.declared.parts.Sets.{Sets}
 use Rattle.rows_event.specs.declared.parts.RowsParts.{RowsParts}
 use Rattle.rows_event.specs.declared.event.Rows.{Rows}
-use Rattle.rows_event.specs.declared.event.RowsRead.{RowsRead}
-use Rattle.rows_event.specs.declared.event.RowsRead.TheVariants.{Read as Read₅, Refused as Refused₅}
 
 -- what the code says: whether there is extra data, and whether there is a second set. 23, 24, 25 are write, update, delete, and 30, 31, 32
 -- the same in the second edition
@@ -35,28 +30,28 @@ form_of code =
     (refuse 16 0))))))
 
 -- extra data behind its length, which counts itself, and the place after it. If it is cut short, the refusal is at its length
-unfoldable pub extra_data : List ℕ → ℕ → Outcome (Extra × ℕ)
+unfoldable pub extra_data : List ℕ → ℕ → Outcome (Option Part × ℕ)
 unfolding read_fixed within
 extra_data s at =
     after (read_fixed 2 s at) (λ n.
     cond (ltb n.0 2) (refuse 15 at)
     (after (within s at n.0 at) (λ next.
-    ok (Data (part (at + 2) (n.0 - 2)), next))))
+    ok (Some (part (at + 2) (n.0 - 2)), next))))
 
 -- if the form has it
-unfoldable pub extra_at : Bool → List ℕ → ℕ → Outcome (Extra × ℕ)
+unfoldable pub extra_at : Bool → List ℕ → ℕ → Outcome (Option Part × ℕ)
 unfolding extra_data
-extra_at has s at = cond has (extra_data s at) (ok (Absent, at))
+extra_at has s at = cond has (extra_data s at) (ok (None, at))
 
 -- a second set of so many bytes, and the place after it
-unfoldable pub second_set : ℕ → List ℕ → ℕ → Outcome (Second × ℕ)
+unfoldable pub second_set : ℕ → List ℕ → ℕ → Outcome (Option Part × ℕ)
 unfolding within
-second_set bytes s at = after (within s at bytes at) (λ next. ok (Bits (part at bytes), next))
+second_set bytes s at = after (within s at bytes at) (λ next. ok (Some (part at bytes), next))
 
 -- if the form has it
-unfoldable pub second_at : Bool → ℕ → List ℕ → ℕ → Outcome (Second × ℕ)
+unfoldable pub second_at : Bool → ℕ → List ℕ → ℕ → Outcome (Option Part × ℕ)
 unfolding second_set
-second_at has bytes s at = cond has (second_set bytes s at) (ok (Absent₁, at))
+second_at has bytes s at = cond has (second_set bytes s at) (ok (None, at))
 
 -- the presence bits of so many columns: one set or two, and where the images begin
 unfoldable pub sets_at : Bool → ℕ → List ℕ → ℕ → Outcome Sets
@@ -96,7 +91,3 @@ read_rows code profile id s =
     after (form_of code) (λ f.
     after (read_parts f s) (λ p.
     fitting p id columns)))
-
-abbrev pub rows_told : RowsRead → Outcome Rows
-rows_told (Read₅ w) = ok w
-rows_told (Refused₅ v) = refused v

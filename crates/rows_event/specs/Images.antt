@@ -1,7 +1,7 @@
 -- The images of a rows event: "then images to the end. Updates hold whole pairs, before then after"; "Where no set has a column present an
 -- image takes no bytes, so any byte after the presence bits is then left over". A step over them from any cursor, and the whole walk.
 -- Assumes nothing.
-use Rattle.std.specs.Prelude.{ℕ, zero, suc, ◌+◌, ◌-◌, ◌*◌, Bool, true, false, cond, ◌&&◌, not, List, [], ◌∷◌, length, drop, ltb, eqb}
+use Rattle.std.specs.Prelude.{ℕ, zero, suc, ◌+◌, ◌-◌, ◌*◌, Bool, true, false, cond, ◌&&◌, not, Option, Some, None, List, [], ◌∷◌, length, drop, ltb, eqb}
 use Rattle.wire.specs.declared.part.Part.{Part}
 use Rattle.wire.specs.Outcome.{Outcome, ok, refused, refuse, after}
 use Rattle.wire.specs.Parts.{part, part_of, lent_part}
@@ -9,26 +9,24 @@ use Rattle.value.specs.Data.{Datum}
 use Rattle.record.specs.Records.{count_of}
 use Rattle.image.specs.Present.{count_bits}
 use Rattle.image.specs.Walk.{walk_image}
-use Rattle.rows_event.specs.declared.parts.Second.{Second}
-use Rattle.rows_event.specs.declared.parts.Second.TheVariants.{Absent, Bits}
 use Rattle.rows_event.specs.declared.event.Rows.{Rows}
 use Rattle.rows_event.specs.declared.images.Images.{Images}
-use Rattle.rows_event.specs.declared.images.ImageStep.{ImageStep}
-use Rattle.rows_event.specs.declared.images.ImageStep.TheVariants.{Image, End, Refused}
+use Rattle.rows_event.specs.declared.images.Image.{Image}
+pub use Rattle.std.specs.Prelude.{None as end}
 
 -- ---- the sets of presence bits
 -- whether there is a second, so that images come in pairs
-abbrev pub is_there : Second → Bool
-is_there Absent = false
-is_there (Bits p) = true
+abbrev pub is_there : Option Part → Bool
+is_there None = false
+is_there (Some p) = true
 
 abbrev pub in_pairs : Rows → Bool
 in_pairs w = is_there w.after
 
 -- its bits
-abbrev pub second_bits : List ℕ → Second → List ℕ
-second_bits s Absent = []
-second_bits s (Bits p) = lent_part s p
+abbrev pub second_bits : List ℕ → Option Part → List ℕ
+second_bits s None = []
+second_bits s (Some p) = lent_part s p
 
 -- the set that an image stands under: the first, or the second
 abbrev pub set_of : Rows → List ℕ → Bool → List ℕ
@@ -41,9 +39,11 @@ is_empty profile w s = eqb (count_bits (set_of w s false) (count_of profile)) 0 
 
 -- ---- one step
 -- an image, under which set it stands, and the next cursor; or the end
-pub data ImageStepped : Type 0 where
-  image_met : Part → Bool → Images → ImageStepped
-  end : ImageStepped
+abbrev pub ImageStepped : Type 0
+ImageStepped = Option (Image × Images)
+
+abbrev pub image_met : Part → Bool → Images → ImageStepped
+image_met p second next = Some (record { part = p; second = second }, next)
 
 -- a cursor's image stands under the second set only in an event that has one, whatever a made-up cursor says
 abbrev pub is_second : Rows → Images → Bool
@@ -94,7 +94,7 @@ met_image profile w s p second =
 -- what a step told, and then the walk f from its cursor
 abbrev pub images_onward : (Images → ImagesWalked) → List ℕ → Rows → List ℕ → Outcome ImageStepped → ImagesWalked
 images_onward f profile w s (ok end) = images_stopped (ok tt)
-images_onward f profile w s (ok (image_met p second c)) = with_image (met_image profile w s p second) (f c)
+images_onward f profile w s (ok (Some (image, c))) = with_image (met_image profile w s image.part image.second) (f c)
 images_onward f profile w s (refused v) = images_stopped (refused v)
 
 -- at most m steps
@@ -113,9 +113,3 @@ first_image w = record { at = w.images; second = false }
 
 abbrev pub images_of : List ℕ → Rows → List ℕ → ImagesWalked
 images_of profile w s = images_from profile w s (first_image w)
-
--- ---- what the answer of a step says
-abbrev pub image_told : ImageStep → Outcome ImageStepped
-image_told (Image p second next) = ok (image_met p second next)
-image_told End = ok end
-image_told (Refused v) = refused v

@@ -1,8 +1,6 @@
 // What the event's code says of its form.
 ghost use Rattle.std.specs.Prelude.{◌≡◌};
-ghost use Rattle.wire.specs.Outcome.{ok};
-ghost use Rattle.rows_event.specs.Events.{form, form_of};
-ghost use Rattle.rows_event.specs.Inner.Events.{form_told};
+ghost use Rattle.rows_event.specs.Events.{form_of};
 
 use wire::Refusal;
 use wire::refusal::OTHER_EVENT;
@@ -27,28 +25,16 @@ pub(crate) struct Form {
     pub second: bool,
 }
 
-#[derive(Clone, Copy)]
-pub(crate) enum FormRead {
-    Read(Form),
-    Refused(Refusal),
-}
-
-fn has_parts(extra: bool, second: bool) -> FormRead
-    ensures { form_told result ≡ ok (form extra second) }
+#[tactic(auto, using(wire::proofs::Rules::tests), unfolding(crate::specs::Events::form_of))]
+pub(crate) fn form_of(code: u64) -> Result<Form, Refusal>
+    ensures { result ≡ form_of code }
 {
-    FormRead::Read(Form { extra, second })
-}
-
-pub(crate) fn form_of(code: u64) -> FormRead
-    ensures { form_told result ≡ form_of code }
-{
-    match code {
-        WRITE_ROWS_V1 => has_parts(false, false),
-        UPDATE_ROWS_V1 => has_parts(false, true),
-        DELETE_ROWS_V1 => has_parts(false, false),
-        WRITE_ROWS => has_parts(true, false),
-        UPDATE_ROWS => has_parts(true, true),
-        DELETE_ROWS => has_parts(true, false),
-        _ => FormRead::Refused(wire::refuse(OTHER_EVENT, 0)),
-    }
+    let (extra, second) = match code {
+        WRITE_ROWS_V1 | DELETE_ROWS_V1 => (false, false),
+        UPDATE_ROWS_V1 => (false, true),
+        WRITE_ROWS | DELETE_ROWS => (true, false),
+        UPDATE_ROWS => (true, true),
+        _ => return Err(wire::refuse(OTHER_EVENT, 0)),
+    };
+    Ok(Form { extra, second })
 }

@@ -1,51 +1,34 @@
 // The images of a rows event, one after the other.
-ghost use Rattle.std.specs.Prelude.{◌≡◌, true, false, ◌&&◌, not, ◌≤◌, length, drop, eqb};
+ghost use Rattle.std.specs.Prelude.{◌≡◌, true, ◌&&◌, ◌≤◌, length, drop};
 ghost use Rattle.record.specs.Records.{record_valid};
-ghost use Rattle.rows_event.specs.Images.{is_there, in_pairs, second_bits, set_of, is_empty, image_at, next_image, image_told};
+ghost use Rattle.rows_event.specs.Images.{in_pairs, second_bits, set_of, is_empty, image_at, next_image};
 
 use crate::event::Rows;
-use crate::parts::Second;
-use image::WalkEnd;
-use record::RecordRead;
 use wire::refusal::IMAGE_SHORT;
 use wire::{Part, Refusal};
 
 // Where the walk over the images stands: an offset of the event, and whether the image there stands under the second set.
 // A walk begins with `Images { at: rows.images, second: false }`.
-#[derive(Clone, Copy)]
+#[derive(Clone, Copy, Debug, PartialEq, Eq)]
 pub struct Images {
     pub at: usize,
     pub second: bool,
 }
 
-// An image as a part of the event, and under which set it stands; or the end.
-#[derive(Clone, Copy)]
-pub enum ImageStep {
-    Image {
-        image: Part,
-        second: bool,
-        next: Images,
-    },
-    End,
-    Refused(Refusal),
+// An image as a part of the event, and under which set it stands.
+#[derive(Clone, Copy, Debug, PartialEq, Eq)]
+pub struct Image {
+    pub part: Part,
+    pub second: bool,
 }
 
-// Whether there is a second set, so that images come in pairs.
-fn is_there(second: Second) -> bool
-    ensures { result ≡ is_there second }
-{
-    match second {
-        Second::Absent => false,
-        Second::Bits(_) => true,
-    }
-}
-
-fn second_bits(event: &[u8], second: Second) -> &[u8]
+// The bits of the second set, none where there is none.
+fn second_bits(event: &[u8], second: Option<Part>) -> &[u8]
     ensures { result.now ≡ second_bits event.now second }
 {
     match second {
-        Second::Absent => &event[0..0],
-        Second::Bits(part) => wire::part_of(event, part),
+        Some(part) => wire::part_of(event, part),
+        None => &event[..0],
     }
 }
 
@@ -54,8 +37,7 @@ pub fn set_of(rows: Rows, event: &[u8], second: bool) -> &[u8]
     ensures { result.now ≡ set_of rows event.now second }
 {
     if second {
-        let after = rows.after;
-        return second_bits(event, after);
+        return second_bits(event, rows.after);
     }
     wire::part_of(event, rows.before)
 }
@@ -65,37 +47,11 @@ fn is_empty(profile: &[u8], rows: Rows, event: &[u8]) -> bool
     requires { record_valid profile.now ≡ true }
     ensures { result ≡ is_empty profile.now rows event.now }
 {
-    match record::read_record(profile) {
-        RecordRead::Valid { columns } => {
-            if image::count_bits(set_of(rows, event, false), columns) != 0 {
-                return false;
-            }
-            image::count_bits(set_of(rows, event, true), columns) == 0
-        }
-        // not met: the record is valid
-        RecordRead::Refused(_) => true,
-    }
-}
-
-// The same, behind an image that took so many bytes: one under a set with a column takes some.
-fn is_left_over(profile: &[u8], rows: Rows, event: &[u8], used: usize) -> bool
-    requires { (record_valid profile.now ≡ true) × ((used ≡ 0 → ⊥) → is_empty profile.now rows event.now ≡ false) }
-    ensures { result ≡ is_empty profile.now rows event.now }
-{
-    if used != 0 {
-        return false;
-    }
-    is_empty(profile, rows, event)
-}
-
-// Whether the walk has ended: behind the last byte, and behind whole pairs.
-fn has_ended(len: usize, at: usize, second: bool) -> bool
-    ensures { result ≡ (eqb at len && not second) }
-{
-    if at != len {
-        return false;
-    }
-    !second
+    let Ok(columns) = record::read_record(profile) else {
+        unreachable!()
+    };
+    image::count_bits(set_of(rows, event, false), columns) == 0
+        && image::count_bits(set_of(rows, event, true), columns) == 0
 }
 
 // The bytes from a place on, none where it lies past them.
@@ -103,7 +59,7 @@ fn rest_from(event: &[u8], at: usize) -> &[u8]
     ensures { result.now ≡ drop at event.now }
 {
     if event.len() < at {
-        return &event[0..0];
+        return &event[..0];
     }
     &event[at..]
 }
@@ -112,53 +68,53 @@ fn rest_from(event: &[u8], at: usize) -> &[u8]
 fn is_second(rows: Rows, second: bool) -> bool
     ensures { result ≡ (in_pairs rows && second) }
 {
-    let after = rows.after;
-    if is_there(after) {
-        return second;
-    }
-    false
+    rows.after.is_some() && second
 }
 
-// The image at a place of the event, under one of its sets.
-fn image_at(profile: &[u8], rows: Rows, event: &[u8], at: usize, second: bool) -> ImageStep
+// The image at a place of the event, under one of its sets. Where no set has a column it takes no bytes, so what is there is left over.
+fn image_at(
+    profile: &[u8],
+    rows: Rows,
+    event: &[u8],
+    at: usize,
+    second: bool,
+) -> Result<Option<(Image, Images)>, Refusal>
     requires { at ≤ length event.now }
-    ensures { image_told result ≡ image_at profile.now rows event.now at second }
+    ensures { result ≡ image_at profile.now rows event.now at second }
 {
-    let used = match image::walk_end(profile, set_of(rows, event, second), rest_from(event, at)) {
-        WalkEnd::Ends { used } => used,
-        WalkEnd::Refused(r) => return ImageStep::Refused(r),
+    let used = image::walk_end(profile, set_of(rows, event, second), rest_from(event, at))?;
+    if used == 0 && is_empty(profile, rows, event) {
+        return Err(wire::refuse(IMAGE_SHORT, 0));
+    }
+    let part = Part {
+        start: at,
+        len: used,
     };
-    if is_left_over(profile, rows, event, used) {
-        return ImageStep::Refused(wire::refuse(IMAGE_SHORT, 0));
-    }
-    let behind = at + used;
-    let turned = is_second(rows, !second);
-    ImageStep::Image {
-        image: Part {
-            start: at,
-            len: used,
-        },
-        second,
-        next: Images {
-            at: behind,
-            second: turned,
-        },
-    }
+    let next = Images {
+        at: at + used,
+        second: is_second(rows, !second),
+    };
+    Ok(Some((Image { part, second }, next)))
 }
 
 impl Images {
-    // The image at this cursor. A made-up cursor obeys the same rule, and so do made-up rows.
-    pub fn next(self, rows: Rows, profile: &[u8], event: &[u8]) -> ImageStep
-        ensures { image_told result ≡ next_image profile.now rows event.now self }
+    // The image at this cursor and the cursor behind it, or none at the end. A made-up cursor obeys the same rule, and so do made-up rows.
+    #[tactic(auto, using(wire::proofs::Rules::tests), unfolding(crate::specs::Images::next_image))]
+    pub fn next(
+        self,
+        rows: Rows,
+        profile: &[u8],
+        event: &[u8],
+    ) -> Result<Option<(Image, Images)>, Refusal>
+        ensures { result ≡ next_image profile.now rows event.now self }
     {
-        let at = self.at;
-        if event.len() < at {
-            return ImageStep::Refused(wire::refuse(IMAGE_SHORT, 0));
+        if event.len() < self.at {
+            return Err(wire::refuse(IMAGE_SHORT, 0));
         }
         let second = is_second(rows, self.second);
-        if has_ended(event.len(), at, second) {
-            return ImageStep::End;
+        if self.at == event.len() && !second {
+            return Ok(None);
         }
-        image_at(profile, rows, event, at, second)
+        image_at(profile, rows, event, self.at, second)
     }
 }

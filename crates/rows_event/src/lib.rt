@@ -7,6 +7,5 @@ mod form;
 mod images;
 mod parts;
 
-pub use event::{Rows, RowsRead, read_rows};
-pub use images::{ImageStep, Images, set_of};
-pub use parts::{Extra, Second};
+pub use event::{Rows, read_rows};
+pub use images::{Image, Images, set_of};
