@@ -11,4 +11,4 @@ mod state;
 mod turn;
 
 pub use give::{LEAST_CARRY, begin};
-pub use state::{Arrival, Arriving, Given, Phase};
+pub use state::{Arrival, Arriving, BlockGiven, Given, Phase};

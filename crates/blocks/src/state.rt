@@ -43,9 +43,9 @@ pub struct Given {
     pub next: Arriving,
 }
 
-// The same where nothing is refused.
+// The same where nothing is refused: public, since the statements of crates above name it.
 #[derive(Clone, Copy)]
-pub(crate) struct BlockGiven {
+pub struct BlockGiven {
     pub arrival: Arrival,
     pub taken: usize,
     pub next: Arriving,
