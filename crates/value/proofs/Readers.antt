@@ -77,3 +77,6 @@ timed k p s at =
     (λ h.
     let l : length (drop at s) < temporal_size k = rw length-drop (omega (arith, size_least k)) in
     rw (lt-leb (temporal_size k) (length (drop at s)) l, lt-leb (at + temporal_size k) (length s) (omega arith)))
+
+-- what a reader of the code answers with
+pub ruleset reading = (got, ends_early_lem, part_length, behind_length, timed)

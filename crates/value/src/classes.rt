@@ -1,6 +1,6 @@
 // The classes by which a map's optional fields count columns, by dialect (constants.rs: ColumnType).
-ghost use Rattle.std.specs.Prelude.{◌≡◌, ◌||◌};
-ghost use Rattle.value.specs.Classes.{is_mysql, is_mariadb, has_sign_bit, is_character, has_charset, is_enum_or_set};
+ghost use Rattle.std.specs.Prelude.{◌≡◌};
+ghost use Rattle.value.specs.Classes.{has_sign_bit, is_character, has_charset, is_enum_or_set};
 
 use crate::types::{
     MYSQL_TYPE_BLOB, MYSQL_TYPE_ENUM, MYSQL_TYPE_GEOMETRY, MYSQL_TYPE_SET, MYSQL_TYPE_STRING,
@@ -9,86 +9,53 @@ use crate::types::{
 
 // Which columns a server counts where it gives signedness bits and charsets: document 01's lists, or those that servers of this
 // name were seen to use.
-#[derive(Clone, Copy)]
+#[derive(Clone, Copy, Debug, PartialEq, Eq)]
 pub enum Dialect {
     Document,
     Mysql,
     Mariadb,
 }
 
-fn is_mysql(dialect: Dialect) -> bool
-    ensures { result ≡ is_mysql dialect }
-{
-    match dialect {
-        Dialect::Document => false,
-        Dialect::Mysql => true,
-        Dialect::Mariadb => false,
-    }
-}
-
-fn is_mariadb(dialect: Dialect) -> bool
-    ensures { result ≡ is_mariadb dialect }
-{
-    match dialect {
-        Dialect::Document => false,
-        Dialect::Mysql => false,
-        Dialect::Mariadb => true,
-    }
-}
-
-fn is_server(dialect: Dialect) -> bool
-    ensures { result ≡ (is_mysql dialect || is_mariadb dialect) }
-{
-    match dialect {
-        Dialect::Document => false,
-        Dialect::Mysql => true,
-        Dialect::Mariadb => true,
-    }
-}
-
 // Whether the dialect gives the type a signedness bit.
+#[tactic(auto, using(wire::proofs::Rules::tests), unfolding(crate::specs::Classes::has_sign_bit, crate::specs::Types::is_numeric, crate::specs::Types::family_of))]
 pub fn has_sign_bit(dialect: Dialect, kind: u8) -> bool
     ensures { result ≡ has_sign_bit dialect kind }
 {
     if kind == MYSQL_TYPE_YEAR {
-        return is_server(dialect);
+        return dialect != Dialect::Document;
     }
     is_numeric(kind)
 }
 
 // Whether columns of the real type are character columns (ColumnType::is_character_type).
+#[tactic(auto, using(wire::proofs::Rules::tests), unfolding(crate::specs::Classes::is_character))]
 pub fn is_character(real: u8) -> bool
     ensures { result ≡ is_character real }
 {
-    match real {
-        MYSQL_TYPE_VARCHAR => true,
-        MYSQL_TYPE_BLOB => true,
-        MYSQL_TYPE_VAR_STRING => true,
-        MYSQL_TYPE_STRING => true,
-        _ => false,
-    }
+    matches!(
+        real,
+        MYSQL_TYPE_VARCHAR | MYSQL_TYPE_BLOB | MYSQL_TYPE_VAR_STRING | MYSQL_TYPE_STRING
+    )
 }
 
 // Whether the dialect gives columns of the real type a charset.
+#[tactic(auto, using(wire::proofs::Rules::tests), unfolding(crate::specs::Classes::has_charset, crate::specs::Classes::is_character))]
 pub fn has_charset(dialect: Dialect, real: u8) -> bool
     ensures { result ≡ has_charset dialect real }
 {
     if real == MYSQL_TYPE_VECTOR {
-        return is_mysql(dialect);
+        return dialect == Dialect::Mysql;
     }
     if real == MYSQL_TYPE_GEOMETRY {
-        return is_mariadb(dialect);
+        return dialect == Dialect::Mariadb;
     }
     is_character(real)
 }
 
 // Whether columns of the real type are ENUM or SET columns (ColumnType::is_enum_or_set_type).
+#[tactic(auto, using(wire::proofs::Rules::tests), unfolding(crate::specs::Classes::is_enum_or_set))]
 pub fn is_enum_or_set(real: u8) -> bool
     ensures { result ≡ is_enum_or_set real }
 {
-    match real {
-        MYSQL_TYPE_ENUM => true,
-        MYSQL_TYPE_SET => true,
-        _ => false,
-    }
+    matches!(real, MYSQL_TYPE_ENUM | MYSQL_TYPE_SET)
 }

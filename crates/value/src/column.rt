@@ -1,18 +1,17 @@
 // How the values of a column are stored: what follows from its type and its metadata.
-ghost use Rattle.std.specs.Prelude.{◌≡◌, false, cond, ◌&&◌, ◌≤◌, ◌<◌, leb, eqb};
+#![tactic(auto, using(wire::proofs::Rules::tests), unfolding(crate::specs::Columns::declared_length, crate::specs::Columns::leftover_bytes, crate::specs::Columns::decimal_bytes, crate::specs::Columns::shape_in, crate::specs::Columns::shape_of, crate::specs::Columns::is_taken))]
+
+ghost use Rattle.std.specs.Prelude.{◌≡◌, false, ◌≤◌, ◌<◌};
 ghost use Rattle.value.specs.Columns.{declared_in, declared_length, length_bytes, leftover_bytes, digits_bytes, decimal_bytes, shape_if};
 ghost use Rattle.value.specs.Columns.{shape_in, shape_of, is_taken};
-ghost use Rattle.value.specs.declared.types.Family.TheVariants.{Char, Blob, Bit, Decimal, Enum, Set};
-ghost use Rattle.value.specs.declared.shape.Shape.TheVariants.{Unsigned, Signed};
 
-use crate::shape::{Shape, is_taken};
+use crate::shape::{Layout, Shape};
 use crate::types::{Family, MYSQL_TYPE_DATE, MYSQL_TYPE_STRING, family_of, or_30};
 use temporal::Storage;
 use wire::refusal::{BAD_METADATA, TYPE_NOT_TAKEN};
-use wire::wide;
 
 // What must be known of a column to read its values: its real type, its metadata, and whether an integer is unsigned.
-#[derive(Clone, Copy)]
+#[derive(Clone, Copy, Debug, PartialEq, Eq)]
 pub struct Column {
     pub real: u8,
     pub m0: u8,
@@ -22,12 +21,13 @@ pub struct Column {
 
 // The declared length of a string, in bytes; other families declare none. That of a CHAR is m1 and, above it, two bits of m0 that are kept
 // inverted.
+#[tactic(auto, using(crate::proofs::Bits::char_same), unfolding(crate::specs::Columns::declared_in))]
 fn declared_in(family: Family, m0: u8, m1: u8) -> usize
     ensures { result ≡ declared_in family m0 m1 }
 {
     match family {
-        Family::Varchar => (wide(m0) + 256 * wide(m1)) as usize,
-        Family::Char => (wide(m1) + 16 * (48 - wide(m0) / 16 % 4 * 16)) as usize,
+        Family::Varchar => usize::from(m0) + 256 * usize::from(m1),
+        Family::Char => usize::from(m1) + 16 * usize::from((m0 & 0x30) ^ 0x30),
         _ => 0,
     }
 }
@@ -43,10 +43,7 @@ pub fn declared_length(column: Column) -> usize
 fn length_bytes(declared: usize) -> usize
     ensures { result ≡ length_bytes declared }
 {
-    if declared < 256 {
-        return 1;
-    }
-    2
+    if declared < 256 { 1 } else { 2 }
 }
 
 // How many bytes the digits of a decimal beyond nines take: one for two of them, and one for the last of an odd number.
@@ -54,14 +51,14 @@ fn leftover_bytes(digits: usize) -> usize
     requires { digits < 9 }
     ensures { result ≡ leftover_bytes digits }
 {
-    (digits + 1) / 2
+    digits.div_ceil(2)
 }
 
 // How many bytes the digits on one side of a decimal's point take.
 fn digits_bytes(digits: u8) -> usize
     ensures { result ≡ digits_bytes digits }
 {
-    let n = wide(digits) as usize;
+    let n = usize::from(digits);
     n / 9 * 4 + leftover_bytes(n % 9)
 }
 
@@ -73,122 +70,32 @@ fn decimal_bytes(precision: u8, scale: u8) -> usize
     digits_bytes(precision - scale) + digits_bytes(scale)
 }
 
-// The shape, if m0 is as told and m1 is 0.
-fn if_just(m0: u8, m1: u8, told: u8, shape: Shape) -> Shape
-    ensures { result ≡ shape_if (eqb m0 told && eqb m1 0) shape }
+// The shape of a column whose metadata pass a test; there is no other.
+fn shape_if(test: bool, shape: Shape) -> Shape
+    ensures { result ≡ shape_if test shape }
 {
-    if m0 != told {
-        return Shape::NotTaken(BAD_METADATA);
-    }
-    if m1 != 0 {
-        return Shape::NotTaken(BAD_METADATA);
-    }
-    shape
-}
-
-// The shape, if m0 is a number of fraction digits and m1 is 0.
-fn if_digits(m0: u8, m1: u8, shape: Shape) -> Shape
-    ensures { result ≡ shape_if (leb m0 6 && eqb m1 0) shape }
-{
-    if 6 < m0 {
-        return Shape::NotTaken(BAD_METADATA);
-    }
-    if m1 != 0 {
-        return Shape::NotTaken(BAD_METADATA);
-    }
-    shape
-}
-
-fn integer_shape(width: usize, unsigned: bool) -> Shape
-    ensures { result ≡ cond unsigned (Unsigned width) (Signed width) }
-{
-    if unsigned {
-        return Shape::Unsigned(width);
-    }
-    Shape::Signed(width)
-}
-
-fn char_shape(m0: u8, m1: u8) -> Shape
-    ensures { result ≡ shape_in Char m0 m1 false }
-{
-    if or_30(m0) == MYSQL_TYPE_STRING {
-        return Shape::Counted(length_bytes(declared_in(Family::Char, m0, m1)));
-    }
-    Shape::NotTaken(BAD_METADATA)
-}
-
-fn blob_shape(m0: u8, m1: u8) -> Shape
-    ensures { result ≡ shape_in Blob m0 m1 false }
-{
-    if m0 < 1 {
-        return Shape::NotTaken(BAD_METADATA);
-    }
-    if 4 < m0 {
-        return Shape::NotTaken(BAD_METADATA);
-    }
-    if m1 == 0 {
-        return Shape::Counted(wide(m0) as usize);
+    if test {
+        return shape;
     }
     Shape::NotTaken(BAD_METADATA)
 }
 
 fn bit_shape(m0: u8, m1: u8) -> Shape
-    ensures { result ≡ shape_in Bit m0 m1 false }
+    ensures { result ≡ shape_in Family.Bit m0 m1 false }
 {
-    if 7 < m0 {
-        return Shape::NotTaken(BAD_METADATA);
-    }
-    let bits = (8 * wide(m1) + wide(m0)) as usize;
-    if bits < 1 {
-        return Shape::NotTaken(BAD_METADATA);
-    }
-    if 64 < bits {
-        return Shape::NotTaken(BAD_METADATA);
-    }
-    Shape::Fixed((bits + 7) / 8)
+    let bits = 8 * usize::from(m1) + usize::from(m0);
+    shape_if(
+        m0 <= 7 && matches!(bits, 1..=64),
+        Shape::Fixed(bits.div_ceil(8)),
+    )
 }
 
+// A decimal of m0 digits, m1 of them behind the point.
 fn decimal_shape(m0: u8, m1: u8) -> Shape
-    ensures { result ≡ shape_in Decimal m0 m1 false }
+    ensures { result ≡ shape_in Family.Decimal m0 m1 false }
 {
-    if m0 < 1 {
-        return Shape::NotTaken(BAD_METADATA);
-    }
-    if 65 < m0 {
-        return Shape::NotTaken(BAD_METADATA);
-    }
-    if 30 < m1 {
-        return Shape::NotTaken(BAD_METADATA);
-    }
-    if m0 < m1 {
-        return Shape::NotTaken(BAD_METADATA);
-    }
-    Shape::Fixed(decimal_bytes(m0, m1))
-}
-
-fn enum_shape(m1: u8) -> Shape
-    ensures { result ≡ shape_in Enum 0 m1 false }
-{
-    if m1 < 1 {
-        return Shape::NotTaken(BAD_METADATA);
-    }
-    if 2 < m1 {
-        return Shape::NotTaken(BAD_METADATA);
-    }
-    Shape::Unsigned(wide(m1) as usize)
-}
-
-fn set_shape(m1: u8) -> Shape
-    ensures { result ≡ shape_in Set 0 m1 false }
-{
-    if m1 < 1 {
-        return Shape::NotTaken(BAD_METADATA);
-    }
-    if m1 <= 4 {
-        return Shape::Fixed(wide(m1) as usize);
-    }
-    if m1 == 8 {
-        return Shape::Fixed(8);
+    if matches!(m0, 1..=65) && m1 <= 30 && m1 <= m0 {
+        return Shape::Fixed(decimal_bytes(m0, m1));
     }
     Shape::NotTaken(BAD_METADATA)
 }
@@ -197,26 +104,41 @@ fn set_shape(m1: u8) -> Shape
 fn shape_in(family: Family, m0: u8, m1: u8, unsigned: bool) -> Shape
     ensures { result ≡ shape_in family m0 m1 unsigned }
 {
+    let none = m0 == 0 && m1 == 0;
+    let digits = m0 <= 6 && m1 == 0;
     match family {
-        Family::Integer { width } => if_just(m0, m1, 0, integer_shape(width, unsigned)),
-        Family::Float => if_just(m0, m1, 4, Shape::FloatBits),
-        Family::Double => if_just(m0, m1, 8, Shape::DoubleBits),
-        Family::Year => if_just(m0, m1, 0, Shape::YearByte),
-        Family::Timestamp => if_just(m0, m1, 0, Shape::Timed(Storage::Timestamp)),
-        Family::Date => if_just(m0, m1, 0, Shape::Timed(Storage::Newdate)),
-        Family::Time => if_just(m0, m1, 0, Shape::Timed(Storage::OldTime)),
-        Family::Datetime => if_just(m0, m1, 0, Shape::Timed(Storage::OldDatetime)),
-        Family::Timestamp2 => if_digits(m0, m1, Shape::Timed(Storage::Timestamp2 { m0 })),
-        Family::Datetime2 => if_digits(m0, m1, Shape::Timed(Storage::Datetime2 { m0 })),
-        Family::Time2 => if_digits(m0, m1, Shape::Timed(Storage::Time2 { m0 })),
-        Family::Varchar => Shape::Counted(length_bytes(declared_in(Family::Varchar, m0, m1))),
-        Family::Char => char_shape(m0, m1),
-        Family::Blob => blob_shape(m0, m1),
-        Family::Json => if_just(m0, m1, 4, Shape::Counted(4)),
+        Family::Integer { width } => {
+            let shape = if unsigned {
+                Shape::Unsigned(width)
+            } else {
+                Shape::Signed(width)
+            };
+            shape_if(none, shape)
+        }
+        Family::Float => shape_if(m0 == 4 && m1 == 0, Shape::FloatBits),
+        Family::Double => shape_if(m0 == 8 && m1 == 0, Shape::DoubleBits),
+        Family::Year => shape_if(none, Shape::YearByte),
+        Family::Timestamp => shape_if(none, Shape::Timed(Storage::Timestamp)),
+        Family::Date => shape_if(none, Shape::Timed(Storage::Newdate)),
+        Family::Time => shape_if(none, Shape::Timed(Storage::OldTime)),
+        Family::Datetime => shape_if(none, Shape::Timed(Storage::OldDatetime)),
+        Family::Timestamp2 => shape_if(digits, Shape::Timed(Storage::Timestamp2 { m0 })),
+        Family::Datetime2 => shape_if(digits, Shape::Timed(Storage::Datetime2 { m0 })),
+        Family::Time2 => shape_if(digits, Shape::Timed(Storage::Time2 { m0 })),
+        Family::Varchar => Shape::Counted(length_bytes(declared_in(family, m0, m1))),
+        Family::Char => shape_if(
+            or_30(m0) == MYSQL_TYPE_STRING,
+            Shape::Counted(length_bytes(declared_in(family, m0, m1))),
+        ),
+        Family::Blob => shape_if(
+            matches!(m0, 1..=4) && m1 == 0,
+            Shape::Counted(usize::from(m0)),
+        ),
+        Family::Json => shape_if(m0 == 4 && m1 == 0, Shape::Counted(4)),
         Family::Bit => bit_shape(m0, m1),
         Family::Decimal => decimal_shape(m0, m1),
-        Family::Enum => enum_shape(m1),
-        Family::Set => set_shape(m1),
+        Family::Enum => shape_if(matches!(m1, 1 | 2), Shape::Unsigned(usize::from(m1))),
+        Family::Set => shape_if(matches!(m1, 1..=4 | 8), Shape::Fixed(usize::from(m1))),
         Family::Unknown => Shape::NotTaken(TYPE_NOT_TAKEN),
     }
 }
@@ -236,9 +158,19 @@ pub fn shape_of(column: Column) -> Shape
     )
 }
 
+// The same, as a shape whose width there is.
+#[tactic(auto, using(crate::proofs::Tables::sized))]
+pub(crate) fn layout_of(column: Column) -> Layout
+    ensures { result.shape ≡ shape_of column }
+{
+    Layout {
+        shape: shape_of(column),
+    }
+}
+
 // Whether there is such a column.
 pub fn is_accepted(column: Column) -> bool
     ensures { result ≡ is_taken (shape_of column) }
 {
-    is_taken(shape_of(column))
+    !matches!(shape_of(column), Shape::NotTaken(_))
 }

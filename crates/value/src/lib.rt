@@ -20,13 +20,11 @@ ghost use Rattle.value.specs.Reading.{read_value};
 ghost use Rattle.value.specs.Storing.{write_value, size_of};
 
 pub use classes::{Dialect, has_charset, has_sign_bit, is_character, is_enum_or_set};
+use column::layout_of;
 pub use column::{Column, declared_length, is_accepted, shape_of};
 pub use datum::Value;
 pub use op::{op_of, read_op, write_op};
-use reading::read_shape;
 pub use shape::Shape;
-use shape::most_of;
-use storing::{size_shape, write_shape};
 pub use types::{Family, family_of, is_known, is_numeric, metadata_bytes, real_type};
 use wire::Refusal;
 
@@ -41,7 +39,7 @@ pub fn read_value(
 ) -> Result<(Value, usize), Refusal>
     ensures { result ≡ read_value (shape_of column) place s.now at }
 {
-    read_shape(shape_of(column), s, at, place)
+    layout_of(column).read(s, at, place)
 }
 
 // Writes a value from at on; its bytes, if it has any, are in lent.
@@ -57,21 +55,21 @@ pub fn write_value(
     ensures buf_after { buf.new
         ≡ left_of (write_value (shape_of column) place lent.now value buf.old at) buf.old }
 {
-    write_shape(shape_of(column), value, lent, buf, at, place)
+    layout_of(column).write(value, lent, buf, at, place)
 }
 
 // How many bytes a value takes.
 pub fn value_size(column: Column, value: Value, lent: &[u8], place: usize) -> Result<usize, Refusal>
     ensures { result ≡ size_of (shape_of column) place lent.now value }
 {
-    size_shape(shape_of(column), value, lent, place)
+    layout_of(column).size(value, lent, place)
 }
 
 // How many bytes a value of the column takes at most, be it in the column's declared length or not; 0 where there is no such column.
 pub fn most_size(column: Column) -> u64
     ensures { result ≡ most_of (shape_of column) }
 {
-    most_of(shape_of(column))
+    layout_of(column).most()
 }
 
 // ---- a lone value: at the start of what is lent, and every place is 0

@@ -1,5 +1,6 @@
 // A column's shape as one byte, its op, made once; and a value read by its op with one dispatch, or written. The readers are those of every
-// value; here they are called with constant widths, so that the compiler makes plain loads of them.
+// value; here they are called with constant widths, so that the compiler makes plain loads of them. Ops stay numbers: they are the bytes of
+// a plan, which C lends, and the definitions shape_for and op_of number them.
 ghost use Rattle.std.specs.Prelude.{◌≡◌, ◌+◌, ◌≤◌};
 ghost use Rattle.value.specs.Ops.{shape_for, op_of, storage_op, within};
 ghost use Rattle.wire.specs.Stored.{answer_of, left_of};
@@ -8,11 +9,9 @@ ghost use Rattle.value.specs.Storing.{write_value};
 
 use crate::datum::Value;
 use crate::reading::{
-    read_counted, read_double, read_float, read_shape, read_signed, read_timed, read_unsigned,
-    read_year,
+    read_counted, read_double, read_float, read_signed, read_timed, read_unsigned, read_year,
 };
-use crate::shape::Shape;
-use crate::storing::write_shape;
+use crate::shape::{Layout, Shape};
 use temporal::Storage;
 use wire::Refusal;
 use wire::refusal::BAD_RECORD;
@@ -22,23 +21,14 @@ fn small(k: usize, most: u8, base: u8) -> u8
     requires { most + base ≤ 255 }
     ensures { result ≡ within most base k }
 {
-    if k <= (most as usize) {
-        return base + (k as u8);
+    if k <= usize::from(most) {
+        return base + k as u8;
     }
     0
 }
 
-// The same of fraction digits, of which a column declares 6 at most.
-fn digits(m0: u8, base: u8) -> u8
-    requires { 6 + base ≤ 255 }
-    ensures { result ≡ within 6 base m0 }
-{
-    if m0 <= 6 {
-        return base + m0;
-    }
-    0
-}
-
+// The op of a stored temporal; a column declares 6 fraction digits at most.
+#[tactic(auto, using(wire::proofs::Rules::tests), unfolding(crate::specs::Ops::storage_op))]
 fn storage_op(storage: Storage) -> u8
     ensures { result ≡ storage_op storage }
 {
@@ -47,24 +37,21 @@ fn storage_op(storage: Storage) -> u8
         Storage::OldTime => 22,
         Storage::OldDatetime => 23,
         Storage::Newdate => 24,
-        Storage::Timestamp2 { m0 } => digits(m0, 25),
-        Storage::Datetime2 { m0 } => digits(m0, 32),
-        Storage::Time2 { m0 } => digits(m0, 39),
+        Storage::Timestamp2 { m0 } => small(usize::from(m0), 6, 25),
+        Storage::Datetime2 { m0 } => small(usize::from(m0), 6, 32),
+        Storage::Time2 { m0 } => small(usize::from(m0), 6, 39),
     }
 }
 
 // The op of a shape; 0 for one that has none.
+#[tactic(auto, using(wire::proofs::Rules::tests), unfolding(crate::specs::Ops::op_of))]
 pub fn op_of(shape: Shape) -> u8
     ensures { result ≡ op_of shape }
 {
     match shape {
         Shape::Unsigned(k) => small(k, 8, 1),
-        Shape::Signed(k) => {
-            if 1 <= k {
-                return small(k, 8, 9);
-            }
-            0
-        }
+        Shape::Signed(0) => 0,
+        Shape::Signed(k) => small(k, 8, 9),
         Shape::FloatBits => 18,
         Shape::DoubleBits => 19,
         Shape::YearByte => 20,
@@ -75,62 +62,42 @@ pub fn op_of(shape: Shape) -> u8
     }
 }
 
-fn wide(x: u8) -> usize
-    ensures { result ≡ x }
-{
-    x as usize
-}
-
 // The shape of an op.
+#[tactic(auto, using(wire::proofs::Rules::tests), unfolding(crate::specs::Ops::shape_for))]
 fn shape_for(op: u8) -> Shape
     ensures { result ≡ shape_for op }
 {
-    if op < 1 {
-        return Shape::NotTaken(BAD_RECORD);
+    match op {
+        0 => Shape::NotTaken(BAD_RECORD),
+        1..=9 => Shape::Unsigned(usize::from(op - 1)),
+        10..=17 => Shape::Signed(usize::from(op - 9)),
+        18 => Shape::FloatBits,
+        19 => Shape::DoubleBits,
+        20 => Shape::YearByte,
+        21 => Shape::Timed(Storage::Timestamp),
+        22 => Shape::Timed(Storage::OldTime),
+        23 => Shape::Timed(Storage::OldDatetime),
+        24 => Shape::Timed(Storage::Newdate),
+        25..=31 => Shape::Timed(Storage::Timestamp2 { m0: op - 25 }),
+        32..=38 => Shape::Timed(Storage::Datetime2 { m0: op - 32 }),
+        39..=45 => Shape::Timed(Storage::Time2 { m0: op - 39 }),
+        46..=50 => Shape::Counted(usize::from(op - 46)),
+        51..=255 => Shape::Fixed(usize::from(op - 51)),
     }
-    if op < 10 {
-        return Shape::Unsigned(wide(op - 1));
+}
+
+// The same, as a shape whose width there is.
+#[tactic(auto, using(crate::proofs::Ops::sized_op))]
+fn layout_for(op: u8) -> Layout
+    ensures { result.shape ≡ shape_for op }
+{
+    Layout {
+        shape: shape_for(op),
     }
-    if op < 18 {
-        return Shape::Signed(wide(op - 9));
-    }
-    if op < 19 {
-        return Shape::FloatBits;
-    }
-    if op < 20 {
-        return Shape::DoubleBits;
-    }
-    if op < 21 {
-        return Shape::YearByte;
-    }
-    if op < 22 {
-        return Shape::Timed(Storage::Timestamp);
-    }
-    if op < 23 {
-        return Shape::Timed(Storage::OldTime);
-    }
-    if op < 24 {
-        return Shape::Timed(Storage::OldDatetime);
-    }
-    if op < 25 {
-        return Shape::Timed(Storage::Newdate);
-    }
-    if op < 32 {
-        return Shape::Timed(Storage::Timestamp2 { m0: op - 25 });
-    }
-    if op < 39 {
-        return Shape::Timed(Storage::Datetime2 { m0: op - 32 });
-    }
-    if op < 46 {
-        return Shape::Timed(Storage::Time2 { m0: op - 39 });
-    }
-    if op < 51 {
-        return Shape::Counted(wide(op - 46));
-    }
-    Shape::Fixed(wide(op - 51))
 }
 
 // The value of an op that stands at `at` of s. Shapes of integers, floats and temporals have an arm each; all others go by their shape.
+#[tactic(auto, using(wire::proofs::Rules::tests), unfolding(crate::specs::Ops::shape_for))]
 pub fn read_op(op: u8, s: &[u8], at: usize, place: usize) -> Result<(Value, usize), Refusal>
     ensures { result ≡ read_value (shape_for op) place s.now at }
 {
@@ -155,7 +122,7 @@ pub fn read_op(op: u8, s: &[u8], at: usize, place: usize) -> Result<(Value, usiz
         39..=45 => read_timed(Storage::Time2 { m0: op - 39 }, s, at, place),
         47 => read_counted(1, s, at, place),
         48 => read_counted(2, s, at, place),
-        _ => read_shape(shape_for(op), s, at, place),
+        _ => layout_for(op).read(s, at, place),
     }
 }
 
@@ -172,5 +139,5 @@ pub fn write_op(
     ensures buf_after { buf.new
         ≡ left_of (write_value (shape_for op) place lent.now value buf.old at) buf.old }
 {
-    write_shape(shape_for(op), value, lent, buf, at, place)
+    layout_for(op).write(value, lent, buf, at, place)
 }

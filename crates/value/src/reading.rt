@@ -1,46 +1,48 @@
 // A stored value read, by its shape (binlog/value.rs: BinlogValue::deserialize).
-ghost use Rattle.std.specs.Prelude.{◌≡◌, ◌-◌, ◌≤◌, ◌<◌, length};
-ghost use Rattle.value.specs.Inner.Shapes.{Sized};
+#![tactic(auto, using(crate::proofs::Readers::reading), unfolding(crate::specs::Columns::is_taken, crate::specs::Shapes::need, crate::specs::Shapes::decode, crate::specs::Shapes::fault, crate::specs::Reading::placed))]
+
+ghost use Rattle.std.specs.Prelude.{◌≡◌, ◌+◌, ◌-◌, ◌≤◌, ◌<◌, cond, length, leb};
+ghost use Rattle.wire.specs.Outcome.{ok, refuse};
 ghost use Rattle.value.specs.Reading.{read_value};
 
 use crate::datum::Value;
-use crate::shape::Shape;
+use crate::shape::{Layout, Shape};
 use crate::years::year_of;
 use temporal::Storage;
 use wire::refusal::IMAGE_SHORT;
 use wire::{Part, Refusal};
 
-// How many bytes stand from at on.
-fn rest(s: &[u8], at: usize) -> usize
-    ensures { result ≡ length s.now - at }
-{
-    if s.len() <= at {
-        return 0;
+impl Layout {
+    // The value at `at`, and the place after it; place is what a refusal tells.
+    #[tactic(auto, using(crate::proofs::Readers::no_column_lem))]
+    pub(crate) fn read(self, s: &[u8], at: usize, place: usize) -> Result<(Value, usize), Refusal>
+        ensures { result ≡ read_value self.shape place s.now at }
+    {
+        match self.shape {
+            Shape::Unsigned(k) => read_unsigned(k, s, at, place),
+            Shape::Signed(k) => read_signed(k, s, at, place),
+            Shape::FloatBits => read_float(s, at, place),
+            Shape::DoubleBits => read_double(s, at, place),
+            Shape::YearByte => read_year(s, at, place),
+            Shape::Timed(storage) => read_timed(storage, s, at, place),
+            Shape::Fixed(n) => read_fixed(n, s, at, place),
+            Shape::Counted(k) => read_counted(k, s, at, place),
+            Shape::NotTaken(n) => Err(wire::refuse(n, place)),
+        }
     }
-    s.len() - at
 }
 
-pub(crate) fn read_shape(
-    shape: Shape,
-    s: &[u8],
-    at: usize,
-    place: usize,
-) -> Result<(Value, usize), Refusal>
-    requires { Sized shape }
-    ensures { result ≡ read_value shape place s.now at }
+// The place after the n bytes from at on.
+fn behind(s: &[u8], at: usize, n: usize, place: usize) -> Result<usize, Refusal>
+    ensures { result ≡ cond (leb n (length s.now - at)) (ok (at + n)) (refuse 9 place) }
 {
-    match shape {
-        Shape::Unsigned(k) => read_unsigned(k, s, at, place),
-        Shape::Signed(k) => read_signed(k, s, at, place),
-        Shape::FloatBits => read_float(s, at, place),
-        Shape::DoubleBits => read_double(s, at, place),
-        Shape::YearByte => read_year(s, at, place),
-        Shape::Timed(storage) => read_timed(storage, s, at, place),
-        Shape::Fixed(n) => read_fixed(n, s, at, place),
-        Shape::Counted(k) => read_counted(k, s, at, place),
-        Shape::NotTaken(n) => Err(wire::refuse(n, place)),
+    if s.len().saturating_sub(at) < n {
+        return Err(wire::refuse(IMAGE_SHORT, place));
     }
+    Ok(at + n)
 }
+
+// ---- the readers of one shape each, which differ in what they make of the bytes; those of a plan's ops are called with constant widths
 
 pub(crate) fn read_unsigned(
     k: usize,
@@ -51,12 +53,8 @@ pub(crate) fn read_unsigned(
     requires { k ≤ 8 }
     ensures { result ≡ read_value (Shape.Unsigned k) place s.now at }
 {
-    if rest(s, at) < k {
-        return Err(wire::refuse(IMAGE_SHORT, place));
-    }
-    let next = at + k;
-    let value = Value::Uint(wire::read_le(s, at, k));
-    Ok((value, next))
+    let next = behind(s, at, k, place)?;
+    Ok((Value::Uint(wire::read_le(s, at, k)), next))
 }
 
 pub(crate) fn read_signed(
@@ -68,51 +66,33 @@ pub(crate) fn read_signed(
     requires { (0 < k) × (k ≤ 8) }
     ensures { result ≡ read_value (Shape.Signed k) place s.now at }
 {
-    if rest(s, at) < k {
-        return Err(wire::refuse(IMAGE_SHORT, place));
-    }
-    let next = at + k;
+    let next = behind(s, at, k, place)?;
     let x = wire::read_le(s, at, k);
-    let value = Value::Int(wire::signed_of(k, x));
-    Ok((value, next))
+    Ok((Value::Int(wire::signed_of(k, x)), next))
 }
 
 pub(crate) fn read_float(s: &[u8], at: usize, place: usize) -> Result<(Value, usize), Refusal>
     ensures { result ≡ read_value Shape.FloatBits place s.now at }
 {
-    if rest(s, at) < 4 {
-        return Err(wire::refuse(IMAGE_SHORT, place));
-    }
-    let next = at + 4;
-    let bits = wire::read_le(s, at, 4) as u32;
-    let value = Value::Float(bits);
-    Ok((value, next))
+    let next = behind(s, at, 4, place)?;
+    Ok((Value::Float(wire::read_le(s, at, 4) as u32), next))
 }
 
 pub(crate) fn read_double(s: &[u8], at: usize, place: usize) -> Result<(Value, usize), Refusal>
     ensures { result ≡ read_value Shape.DoubleBits place s.now at }
 {
-    if rest(s, at) < 8 {
-        return Err(wire::refuse(IMAGE_SHORT, place));
-    }
-    let next = at + 8;
-    let value = Value::Double(wire::read_le(s, at, 8));
-    Ok((value, next))
+    let next = behind(s, at, 8, place)?;
+    Ok((Value::Double(wire::read_le(s, at, 8)), next))
 }
 
 pub(crate) fn read_year(s: &[u8], at: usize, place: usize) -> Result<(Value, usize), Refusal>
     ensures { result ≡ read_value Shape.YearByte place s.now at }
 {
-    if rest(s, at) < 1 {
-        return Err(wire::refuse(IMAGE_SHORT, place));
-    }
-    let next = at + 1;
-    let n = wire::read_le(s, at, 1);
-    let value = Value::Year(year_of(n));
-    Ok((value, next))
+    let next = behind(s, at, 1, place)?;
+    let byte = wire::read_le(s, at, 1) as u8;
+    Ok((Value::Year(year_of(byte)), next))
 }
 
-#[tactic(auto, using(crate::proofs::Readers::timed))]
 pub(crate) fn read_timed(
     storage: Storage,
     s: &[u8],
@@ -128,12 +108,8 @@ pub(crate) fn read_timed(
 fn read_fixed(n: usize, s: &[u8], at: usize, place: usize) -> Result<(Value, usize), Refusal>
     ensures { result ≡ read_value (Shape.Fixed n) place s.now at }
 {
-    if rest(s, at) < n {
-        return Err(wire::refuse(IMAGE_SHORT, place));
-    }
-    let next = at + n;
-    let value = Value::Bytes(Part { start: at, len: n });
-    Ok((value, next))
+    let next = behind(s, at, n, place)?;
+    Ok((Value::Bytes(Part { start: at, len: n }), next))
 }
 
 pub(crate) fn read_counted(
@@ -145,15 +121,8 @@ pub(crate) fn read_counted(
     requires { k ≤ 4 }
     ensures { result ≡ read_value (Shape.Counted k) place s.now at }
 {
-    if rest(s, at) < k {
-        return Err(wire::refuse(IMAGE_SHORT, place));
-    }
-    let start = at + k;
+    let start = behind(s, at, k, place)?;
     let len = wire::read_le(s, at, k) as usize;
-    if rest(s, start) < len {
-        return Err(wire::refuse(IMAGE_SHORT, place));
-    }
-    let next = start + len;
-    let value = Value::Bytes(Part { start, len });
-    Ok((value, next))
+    let next = behind(s, start, len, place)?;
+    Ok((Value::Bytes(Part { start, len }), next))
 }

@@ -1,13 +1,12 @@
 // How a column's values are stored.
 ghost use Rattle.std.specs.Prelude.{◌≡◌, []};
-ghost use Rattle.value.specs.Columns.{is_taken, refusal_of};
 ghost use Rattle.value.specs.Shapes.{need, most_of};
-ghost use Rattle.value.specs.Inner.Shapes.{Sized};
+ghost use Rattle.value.specs.Inner.Shapes.{Sized, sized_prop};
 
 use temporal::Storage;
 use wire::top_of;
 
-#[derive(Clone, Copy)]
+#[derive(Clone, Copy, Debug, PartialEq, Eq)]
 pub enum Shape {
     // A number of so many bytes, the least significant first.
     Unsigned(usize),
@@ -22,54 +21,42 @@ pub enum Shape {
     Fixed(usize),
     // A length of so many bytes, and then the bytes.
     Counted(usize),
-    // No column's: the refusal number.
+    // No column's: the refusal number. A shape is no Result, since the definitions and laws of shapes have a case for it, and a plan may
+    // hold an op that is no shape's.
     NotTaken(u8),
 }
 
-// Whether there is a column of the shape.
-pub(crate) fn is_taken(shape: Shape) -> bool
-    ensures { result ≡ is_taken shape }
-{
-    match shape {
-        Shape::NotTaken(_) => false,
-        _ => true,
-    }
-}
-
-// The refusal number where there is none.
-pub(crate) fn refusal_of(shape: Shape) -> u8
-    ensures { result ≡ refusal_of shape }
-{
-    match shape {
-        Shape::NotTaken(n) => n,
-        _ => 0,
-    }
+// A shape whose width is one that there is, as the shape of every column and of every op has it.
+#[derive(Clone, Copy)]
+pub(crate) struct Layout {
+    pub(crate) shape: Shape,
+    ghost sized: { Sized shape } by { sized_prop shape },
 }
 
 // How many bytes a value takes, without those that a length of its own counts.
+#[tactic(auto, using(wire::proofs::Rules::tests), unfolding(crate::specs::Shapes::need))]
 pub(crate) fn width_of(shape: Shape) -> usize
     ensures { result ≡ need shape [] }
 {
     match shape {
-        Shape::Unsigned(k) => k,
-        Shape::Signed(k) => k,
+        Shape::Unsigned(k) | Shape::Signed(k) | Shape::Fixed(k) | Shape::Counted(k) => k,
         Shape::FloatBits => 4,
         Shape::DoubleBits => 8,
         Shape::YearByte => 1,
         Shape::Timed(storage) => temporal::temporal_size(storage),
-        Shape::Fixed(n) => n,
-        Shape::Counted(k) => k,
         Shape::NotTaken(_) => 0,
     }
 }
 
-// How many bytes a value takes at most: behind a length, as many as it can count.
-pub(crate) fn most_of(shape: Shape) -> u64
-    requires { Sized shape }
-    ensures { result ≡ most_of shape }
-{
-    match shape {
-        Shape::Counted(k) => (k as u64) + top_of(k),
-        _ => width_of(shape) as u64,
+impl Layout {
+    // How many bytes a value takes at most: behind a length, as many as it can count.
+    #[tactic(auto, using(wire::proofs::Rules::tests), unfolding(crate::specs::Shapes::need, crate::specs::Shapes::most_of))]
+    pub(crate) fn most(self) -> u64
+        ensures { result ≡ most_of self.shape }
+    {
+        match self.shape {
+            Shape::Counted(k) => k as u64 + top_of(k),
+            shape => width_of(shape) as u64,
+        }
     }
 }

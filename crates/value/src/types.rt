@@ -2,7 +2,8 @@
 ghost use Rattle.std.specs.Prelude.{◌≡◌};
 ghost use Rattle.value.specs.Types.{family_of, is_known, metadata_bytes, is_numeric, or30, real_type};
 
-// The column types that are taken, by the Rust's names.
+// The column types that are taken, by the Rust's names. They stay numbers: they are bytes of a map, and `Column::real`, which C sets, is
+// one of them; `family_of` tells what each is.
 pub const MYSQL_TYPE_TINY: u8 = 1;
 
 pub const MYSQL_TYPE_SHORT: u8 = 2;
@@ -64,7 +65,7 @@ pub const MYSQL_TYPE_STRING: u8 = 254;
 pub const MYSQL_TYPE_GEOMETRY: u8 = 255;
 
 // What a column type is.
-#[derive(Clone, Copy)]
+#[derive(Clone, Copy, Debug, PartialEq, Eq)]
 pub enum Family {
     // 1, 2, 9, 3, 8
     Integer { width: usize },
@@ -108,6 +109,7 @@ pub enum Family {
 }
 
 // The family of a type byte.
+#[tactic(auto, using(wire::proofs::Rules::tests), unfolding(crate::specs::Types::family_of))]
 pub fn family_of(kind: u8) -> Family
     ensures { result ≡ family_of kind }
 {
@@ -147,16 +149,15 @@ pub fn family_of(kind: u8) -> Family
 }
 
 // Whether there is such a type.
+#[tactic(auto, using(wire::proofs::Rules::tests), unfolding(crate::specs::Types::is_known, crate::specs::Types::traits_of))]
 pub fn is_known(kind: u8) -> bool
     ensures { result ≡ is_known (family_of kind) }
 {
-    match family_of(kind) {
-        Family::Unknown => false,
-        _ => true,
-    }
+    !matches!(family_of(kind), Family::Unknown)
 }
 
 // How many bytes of metadata a type has (ColumnType::get_metadata).
+#[tactic(auto, using(wire::proofs::Rules::tests), unfolding(crate::specs::Types::metadata_bytes, crate::specs::Types::traits_of))]
 pub fn metadata_bytes(kind: u8) -> usize
     ensures { result ≡ metadata_bytes (family_of kind) }
 {
@@ -178,14 +179,16 @@ pub fn metadata_bytes(kind: u8) -> usize
     }
 }
 
-// m0 or-ed with 0x30: the two bits of 0x30 set, the others as they are. Written as sums and products, it needs no laws of bits.
+// m0 or-ed with 0x30: the two bits of 0x30 set, the others as they are.
+#[tactic(auto, using(crate::proofs::Bits::or_same))]
 pub(crate) fn or_30(m0: u8) -> u8
     ensures { result ≡ or30 m0 }
 {
-    m0 / 64 * 64 + 48 + m0 % 16
+    m0 | 0x30
 }
 
 // The real type of a column of the type, which is told by m0 for 254 (TableMapEvent::get_real_type).
+#[tactic(auto, using(wire::proofs::Rules::tests), unfolding(crate::specs::Types::real_type))]
 pub fn real_type(kind: u8, m0: u8) -> u8
     ensures { result ≡ real_type kind m0 }
 {
@@ -200,11 +203,12 @@ pub fn real_type(kind: u8, m0: u8) -> u8
 
 // Whether document 01 gives the type a signedness bit. (ColumnType::is_numeric_type counts 13 and 0 as well; servers count 13, and
 // `has_sign_bit` goes by their dialect.)
+#[tactic(auto, using(wire::proofs::Rules::tests), unfolding(crate::specs::Types::is_numeric, crate::specs::Types::traits_of))]
 pub fn is_numeric(kind: u8) -> bool
     ensures { result ≡ is_numeric (family_of kind) }
 {
-    match family_of(kind) {
-        Family::Integer { width: _ } | Family::Float | Family::Double | Family::Decimal => true,
-        _ => false,
-    }
+    matches!(
+        family_of(kind),
+        Family::Integer { .. } | Family::Float | Family::Double | Family::Decimal
+    )
 }
