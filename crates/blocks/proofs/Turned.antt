@@ -45,6 +45,12 @@ not_long room sh x e h =
     ltb-false room (need sh x) f
 
 -- what a turn says
+-- it is one of three, which crates above cannot name
+pub each_turn : (P : TurnSaid → Type 1) (t : TurnSaid) → P wait → ((n : ℕ) → P (long n)) → ((n : ℕ) → P (whole n)) → P t
+each_turn P wait waits longs wholes = waits
+each_turn P (long n) waits longs wholes = longs n
+each_turn P (whole n) waits longs wholes = wholes n
+
 abbrev long_size : TurnSaid → ℕ
 long_size wait = 0
 long_size (long n) = n + 1
