@@ -1,15 +1,14 @@
 -- The optional fields "one by one, contents in full": "a type stands at most once; not both 2 and 3, 10 and 11, 8 and 9". Assumes nothing.
+use Rattle.std.specs.Prelude.{None, Option, Some}
 use Rattle.std.specs.Prelude.{ℕ, zero, suc, ◌-◌, Bool, false, cond, ◌&&◌, ◌||◌, not, List, [], ◌∷◌, length, eqb}
 use Rattle.wire.specs.Outcome.{Outcome, ok, refused, refuse, after}
 use Rattle.wire.specs.declared.part.Part.{Part}
 use Rattle.wire.specs.Parts.{lent_part}
 use Rattle.value.specs.declared.classes.Dialect.{Dialect}
 use Rattle.table_map.specs.declared.field.Fields.{Fields as FieldCursor}
-use Rattle.table_map.specs.Lists.{Stepped, end, item, step, ItemsWalked, walk_items}
+use Rattle.table_map.specs.Lists.{Stepped, end, step, ItemsWalked, walk_items}
 use Rattle.table_map.specs.Fields.{field_item, count_sign_bits}
 use Rattle.map_check.specs.declared.rank.Ranks.{Ranks}
-use Rattle.map_check.specs.declared.found.Found.{Found}
-use Rattle.map_check.specs.declared.found.Found.TheVariants.{Value, Nothing}
 use Rattle.map_check.specs.Contents.{contents_full}
 
 -- whether a type stood before; `Keys` asks the same of a key
@@ -34,7 +33,7 @@ stands_behind sizes n s before f = stands_given sizes n s (stood f.0 before) (st
 -- the field that a step met at `at`, and those behind it
 abbrev pub keep : (ℕ → ℕ → Outcome (List (ℕ × Part))) → (ℕ × Part → Bool) → ℕ → Outcome (Stepped (ℕ × Part) ℕ) → Outcome (List (ℕ × Part))
 keep rest p at (ok end) = ok []
-keep rest p at (ok (item f next)) = cond (p f) (after (rest f.0 next) (λ fs. ok (f ∷ fs))) (refuse 7 at)
+keep rest p at (ok (Some (f, next))) = cond (p f) (after (rest f.0 next) (λ fs. ok (f ∷ fs))) (refuse 7 at)
 keep rest p at (refused r) = refused r
 
 -- at most m fields, which are enough if m is more than the bytes left
@@ -54,13 +53,13 @@ abbrev pub keep_fields : Ranks → FieldCursor → List ℕ → Outcome (List (�
 keep_fields sizes c s = keep_from sizes c s [] c.at
 
 -- ---- the value of the first field of a type
-unfoldable pub first_of : ℕ → List (ℕ × Part) → Found
-first_of kind [] = Nothing
-first_of kind (f ∷ fs) = cond (eqb f.0 kind) (Value f.1) (first_of kind fs)
+unfoldable pub first_of : ℕ → List (ℕ × Part) → Option Part
+first_of kind [] = None
+first_of kind (f ∷ fs) = cond (eqb f.0 kind) (Some f.1) (first_of kind fs)
 
-abbrev pub value_in : List ℕ → Found → List ℕ
-value_in s (Value p) = lent_part s p
-value_in s Nothing = []
+abbrev pub value_in : List ℕ → Option Part → List ℕ
+value_in s (Some p) = lent_part s p
+value_in s None = []
 
 -- the cursor at the first optional field of a map with these types
 abbrev pub fields_at : Dialect → List ℕ → ℕ → FieldCursor

@@ -1,5 +1,6 @@
 -- Definitions that no public contract and no statement reaches: what the crate's own functions go by. Nobody need believe them.
 pub mod Columns
+pub mod Contents
 pub mod Fields
 pub mod Making
 pub mod Ranks

@@ -1,12 +1,11 @@
 -- A repeated key: "the first key index that stands twice is a 7", placed at the first byte of the earliest item, of field 8 or 9, that
 -- repeats an earlier one. Assumes nothing.
+use Rattle.std.specs.Prelude.{None, Option, Some}
 use Rattle.std.specs.Prelude.{ℕ, ◌+◌, Bool, true, false, cond, List, [], ◌∷◌, ◌++◌}
 use Rattle.wire.specs.Outcome.{Outcome, ok, refuse, after}
 use Rattle.wire.specs.declared.part.Part.{Part}
 use Rattle.wire.specs.Parts.{lent_part}
 use Rattle.table_map.specs.Lists.{Rule, walk_items, walk_steps}
-use Rattle.map_check.specs.declared.found.Found.{Found}
-use Rattle.map_check.specs.declared.found.Found.TheVariants.{Value, Nothing}
 use Rattle.map_check.specs.Contents.{key_item}
 use Rattle.map_check.specs.Fields.{stood, first_of}
 
@@ -25,9 +24,9 @@ keys_once start before [] = ok tt
 keys_once start before (k ∷ ks) = cond (stood k.1 before) (refuse 7 (start + k.0)) (keys_once start (before ++ (k.1 ∷ [])) ks)
 
 -- in the value of a field, if it stands
-abbrev pub once_in : Bool → List ℕ → Found → Outcome (Unit {0})
-once_in paired s (Value p) = keys_once p.start [] (keys_from paired (lent_part s p) 0)
-once_in paired s Nothing = ok tt
+abbrev pub once_in : Bool → List ℕ → Option Part → Outcome (Unit {0})
+once_in paired s (Some p) = keys_once p.start [] (keys_from paired (lent_part s p) 0)
+once_in paired s None = ok tt
 
 -- no key stands twice: in field 8, then in field 9, of which at most one stands
 unfoldable pub keys_hold : List ℕ → List (ℕ × Part) → Outcome (Unit {0})

@@ -1,20 +1,14 @@
 -- Names of columns: "A column's name comes from the map's names field if that is not empty, else from the operator's list lent beside it,
 -- in the same layout, read no further; 14 if it ends first." Assumes nothing.
+use Rattle.std.specs.Prelude.{None, Option, Some}
 use Rattle.std.specs.Prelude.{ℕ, zero, suc, cond, List, [], length, eqb}
-use Rattle.std.proofs.Math.Option.{Option, none, some}
 use Rattle.wire.specs.Outcome.{Outcome, ok, refused, refuse, after}
 use Rattle.wire.specs.declared.part.Part.{Part}
 use Rattle.wire.specs.Parts.{lent_part}
 use Rattle.value.specs.declared.classes.Dialect.{Dialect}
 use Rattle.table_map.specs.Events.{read_event}
-use Rattle.table_map.specs.Lists.{Stepped, end, item, step, Ended, whole, broken, ItemsWalked, string_item}
+use Rattle.table_map.specs.Lists.{Stepped, end, step, Ended, whole, broken, ItemsWalked, string_item}
 use Rattle.map_check.specs.declared.rank.TablePlace.{TablePlace}
-use Rattle.map_check.specs.declared.found.Found.{Found}
-use Rattle.map_check.specs.declared.found.Found.TheVariants.{Value, Nothing}
-use Rattle.map_check.specs.declared.names.NameRead.{NameRead}
-use Rattle.map_check.specs.declared.names.NameRead.TheVariants.{Name, Refused}
-use Rattle.map_check.specs.declared.names.NamesRead.{NamesRead}
-use Rattle.map_check.specs.declared.names.NamesRead.TheVariants.{Names, Absent, Refused as Refused₁}
 use Rattle.map_check.specs.Fields.{first_of, fields_at, walk_fields}
 
 -- the list that is looked at
@@ -24,7 +18,7 @@ list_of names operator = cond (eqb (length names) 0) operator names
 -- the string that a step met, or 14 at the column asked
 abbrev pub met_string : {A : Type 0} → (Part → ℕ → Outcome A) → ℕ → Outcome (Stepped Part ℕ) → Outcome A
 met_string found asked (ok end) = refuse 14 asked
-met_string found asked (ok (item p next)) = found p next
+met_string found asked (ok (Some (p, next))) = found p next
 met_string found asked (refused r) = refused r
 
 -- string i from a place on
@@ -43,20 +37,15 @@ abbrev pub name_in : List ℕ → Outcome Part → List ℕ
 name_in s (ok p) = lent_part s p
 name_in s (refused r) = []
 
--- what the answer of the lookup says
-abbrev pub name_told : NameRead → Outcome Part
-name_told (Name part) = ok part
-name_told (Refused r) = refused r
-
 -- ---- the names field of a map: the first field of type 4 that the walk over its optional fields meets. Three answers are kept apart: its
 -- value, which may be empty; that there is none, where the walk comes to its end without one; and the refusal of the event or of the walk
 -- that comes before it. What stands behind the field is not looked at, as a list is "read no further" than the name
 
 -- a field that was met, or else how the walk ended
-abbrev pub or_ended : Found → Ended → Outcome (Option Part)
-or_ended (Value p) how = ok (some p)
-or_ended Nothing whole = ok none
-or_ended Nothing (broken r) = refused r
+abbrev pub or_ended : Option Part → Ended → Outcome (Option Part)
+or_ended (Some p) how = ok (Some p)
+or_ended None whole = ok None
+or_ended None (broken r) = refused r
 
 -- the names among the fields of a walk
 abbrev pub names_in : ItemsWalked (ℕ × Part) → Outcome (Option Part)
@@ -66,9 +55,3 @@ names_in w = or_ended (first_of 4 w.items) w.how
 abbrev pub names_field : Dialect → List ℕ → ℕ → Outcome (Option Part)
 names_field d s post_header =
     after (read_event s post_header) (λ e. names_in (walk_fields (fields_at d (lent_part s e.types) e.optional.start) s))
-
--- what the answer says
-abbrev pub names_told : NamesRead → Outcome (Option Part)
-names_told (Names p) = ok (some p)
-names_told Absent = ok none
-names_told (Refused₁ r) = refused r

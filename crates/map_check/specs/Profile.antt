@@ -1,7 +1,9 @@
 -- What a map's record says of each column: "real type; flags; m0; m1; charset (pair, list or default), 0 if none given. Flags: 1 unsigned,
 -- 2 nullable, 4 signedness known, 8 visible (all, if type 12 is absent)"; 1 and 4 on numeric columns. Bits of signedness and visibility run
 -- from the highest down, nullable bits from the lowest up. Assumes nothing.
-use Rattle.std.specs.Prelude.{ℕ, suc, ◌+◌, ◌*◌, Bool, true, false, cond, ◌&&◌, List, [], ◌∷◌, get_or, eqb}
+use Rattle.std.specs.Prelude.{None, Option, Some}
+use Rattle.std.specs.Option.{is_some}
+use Rattle.std.specs.Prelude.{ℕ, suc, ◌+◌, ◌*◌, Bool, true, cond, ◌&&◌, List, [], ◌∷◌, get_or, eqb}
 use Rattle.wire.specs.Outcome.{Outcome, ok, refused}
 use Rattle.wire.specs.Packed.{read_packed}
 use Rattle.wire.specs.Bits.{bit_lsb0, bit_msb0}
@@ -16,8 +18,6 @@ use Rattle.map_check.specs.declared.declare.Declared.{Declared}
 use Rattle.map_check.specs.declared.rank.TablePlace.{TablePlace}
 use Rattle.map_check.specs.declared.rank.Rank.{Rank}
 use Rattle.map_check.specs.declared.rank.Ranks.{Ranks}
-use Rattle.map_check.specs.declared.found.Found.{Found}
-use Rattle.map_check.specs.declared.found.Found.TheVariants.{Value, Nothing}
 use Rattle.map_check.specs.declared.facts.Facts.{Facts}
 use Rattle.map_check.specs.declared.facts.Charsets.{Charsets}
 use Rattle.map_check.specs.Ranks.{table_place, ranks_after}
@@ -34,9 +34,8 @@ facts_of bits fs =
       choices = record { default = first_of 10 fs; list = first_of 11 fs };
     }
 
-abbrev pub stands : Found → Bool
-stands (Value p) = true
-stands Nothing = false
+abbrev pub stands : Option Part → Bool
+stands o = is_some o
 
 -- ---- charsets
 -- the charset of a rank: that of its pair, else the default
@@ -49,13 +48,13 @@ from_pairs value r (ok c) = pair_or c.0 r (walk_items pair_item value c.1).items
 from_pairs value r (refused w) = 0
 
 -- of the two fields that tell a class's charsets, the one that stands
-abbrev pub from_default : List ℕ → ℕ → Found → ℕ
-from_default s r (Value p) = from_pairs (lent_part s p) r (read_packed (lent_part s p) 0)
-from_default s r Nothing = 0
+abbrev pub from_default : List ℕ → ℕ → Option Part → ℕ
+from_default s r (Some p) = from_pairs (lent_part s p) r (read_packed (lent_part s p) 0)
+from_default s r None = 0
 
-abbrev pub from_list : List ℕ → ℕ → Found → Found → ℕ
-from_list s r default (Value p) = get_or (walk_items integer_item (lent_part s p) 0).items r 0
-from_list s r default Nothing = from_default s r default
+abbrev pub from_list : List ℕ → ℕ → Option Part → Option Part → ℕ
+from_list s r default (Some p) = get_or (walk_items integer_item (lent_part s p) 0).items r 0
+from_list s r default None = from_default s r default
 
 unfoldable pub charset_by : List ℕ → Charsets → Rank → ℕ
 unfolding read_packed walk_steps pair_item pair_or

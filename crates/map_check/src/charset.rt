@@ -7,9 +7,9 @@ ghost use Rattle.map_check.specs.Inner.Making.{ClassHolds, IntegerFits, PairFits
 ghost use Rattle.map_check.specs.Inner.Making.{CharsetTurned, CharsetTurnedIf};
 
 use crate::facts::Charsets;
-use crate::found::{Found, value_in};
+use crate::found::value_in;
 use crate::rank::Rank;
-use table_map::{DefaultCharset, IntegerStep, Integers, PairStep, Pairs};
+use table_map::{Integers, Pairs};
 
 // Where the next charset of a class is looked for, and the charset of ranks without a pair.
 #[derive(Clone, Copy)]
@@ -30,11 +30,11 @@ fn behind_default(value: &[u8]) -> CharsetCursor
     ensures { result ≡ behind_default (read_packed value.now 0) }
 {
     match table_map::default_charset(value) {
-        DefaultCharset::Read { charset, pairs } => CharsetCursor {
+        Ok((charset, pairs)) => CharsetCursor {
             at: pairs.at,
             default: charset as u16,
         },
-        DefaultCharset::Refused(_) => CharsetCursor { at: 0, default: 0 },
+        Err(_) => CharsetCursor { at: 0, default: 0 },
     }
 }
 
@@ -43,11 +43,9 @@ pub(crate) fn first_charset(event: &[u8], class: Charsets) -> CharsetCursor
     requires { ClassHolds event.now class }
     ensures { Stands event.now class 0 result }
 {
-    let list = class.list;
-    let default = class.default;
-    match list {
-        Found::Value(_) => CharsetCursor { at: 0, default: 0 },
-        Found::Nothing => behind_default(value_in(event, default)),
+    match class.list {
+        Some(_) => CharsetCursor { at: 0, default: 0 },
+        None => behind_default(value_in(event, class.default)),
     }
 }
 
@@ -62,18 +60,14 @@ fn next_listed(value: &[u8], cursor: CharsetCursor) -> CharsetTurn
     };
     let list = Integers { at: cursor.at };
     match list.next(value) {
-        IntegerStep::Item {
-            value: charset,
-            next,
-        } => CharsetTurn {
+        Ok(Some((charset, next))) => CharsetTurn {
             charset: charset as u16,
             next: CharsetCursor {
                 at: next.at,
                 default: cursor.default,
             },
         },
-        IntegerStep::End => none,
-        IntegerStep::Refused(_) => none,
+        Ok(None) | Err(_) => none,
     }
 }
 
@@ -88,11 +82,7 @@ fn next_paired(value: &[u8], cursor: CharsetCursor, rank: Rank) -> CharsetTurn
     };
     let pairs = Pairs { at: cursor.at };
     match pairs.next(value) {
-        PairStep::Item {
-            first,
-            second,
-            next,
-        } => {
+        Ok(Some(((first, second), next))) => {
             if first == rank.0 as u64 {
                 return CharsetTurn {
                     charset: second as u16,
@@ -104,8 +94,7 @@ fn next_paired(value: &[u8], cursor: CharsetCursor, rank: Rank) -> CharsetTurn
             }
             otherwise
         }
-        PairStep::End => otherwise,
-        PairStep::Refused(_) => otherwise,
+        Ok(None) | Err(_) => otherwise,
     }
 }
 
@@ -114,11 +103,9 @@ fn next_charset(event: &[u8], class: Charsets, cursor: CharsetCursor, rank: Rank
     requires { Stands event.now class rank.0 cursor }
     ensures { CharsetTurned event.now class rank result }
 {
-    let list = class.list;
-    let default = class.default;
-    match list {
-        Found::Value(_) => next_listed(value_in(event, list), cursor),
-        Found::Nothing => next_paired(value_in(event, default), cursor, rank),
+    match class.list {
+        Some(_) => next_listed(value_in(event, class.list), cursor),
+        None => next_paired(value_in(event, class.default), cursor, rank),
     }
 }
 

@@ -3,7 +3,6 @@ ghost use Rattle.std.specs.Prelude.{◌≡◌, ◌≤◌, length, drop};
 ghost use Rattle.wire.specs.Outcome.{ok, after};
 ghost use Rattle.record.specs.Records.{most_columns};
 ghost use Rattle.map_check.specs.Columns.{is_real, is_accepted, take_column, take_columns};
-ghost use Rattle.map_check.specs.Inner.Columns.{taken_told, sizes_told};
 ghost use Rattle.map_check.specs.Ranks.{sizes_of};
 
 use crate::declare::{Declared, declare};
@@ -12,20 +11,6 @@ use value::types::{MYSQL_TYPE_ENUM, MYSQL_TYPE_SET, MYSQL_TYPE_STRING};
 use value::{Column, Dialect};
 use wire::Refusal;
 use wire::refusal::{BAD_METADATA, TYPE_NOT_TAKEN};
-
-// A column that is accepted.
-#[derive(Clone, Copy)]
-pub(crate) enum ColumnTaken {
-    Taken(Declared),
-    Refused(Refusal),
-}
-
-// How many columns each class has, if all columns are accepted and no metadata is left.
-#[derive(Clone, Copy)]
-pub(crate) enum Sizes {
-    Counted(Ranks),
-    Refused(Refusal),
-}
 
 // Whether a column of type 254 has one of the real types that it may have; of other types nothing is asked here.
 fn is_real(kind: u8, real: u8) -> bool
@@ -57,44 +42,49 @@ pub(crate) fn is_accepted(column: Declared) -> bool
 }
 
 // The column of a type at a place, its metadata standing from `at` on.
-pub(crate) fn take_column(kind: u8, metadata: &[u8], at: usize, column: TablePlace) -> ColumnTaken
+pub(crate) fn take_column(
+    kind: u8,
+    metadata: &[u8],
+    at: usize,
+    column: TablePlace,
+) -> Result<Declared, Refusal>
     requires { at ≤ length metadata.now }
-    ensures { taken_told result ≡ take_column kind (drop at metadata.now) column.0 }
+    ensures { result ≡ take_column kind (drop at metadata.now) column.0 }
 {
     if !value::is_known(kind) {
-        return ColumnTaken::Refused(wire::refuse(TYPE_NOT_TAKEN, column.0));
+        return Err(wire::refuse(TYPE_NOT_TAKEN, column.0));
     }
     if metadata.len() - at < value::metadata_bytes(kind) {
-        return ColumnTaken::Refused(wire::refuse(BAD_METADATA, column.0));
+        return Err(wire::refuse(BAD_METADATA, column.0));
     }
     let said = declare(kind, metadata, at);
-    if is_accepted(said) {
-        return ColumnTaken::Taken(said);
+    if !is_accepted(said) {
+        return Err(wire::refuse(BAD_METADATA, column.0));
     }
-    ColumnTaken::Refused(wire::refuse(BAD_METADATA, column.0))
+    Ok(said)
 }
 
-// All columns in turn, until one is refused. Behind the last there may be no metadata left.
-pub(crate) fn take_columns(dialect: Dialect, types: &[u8], metadata: &[u8]) -> Sizes
+// How many columns each class has: all are taken in turn, until one is refused. Behind the last there may be no metadata left.
+pub(crate) fn take_columns(
+    dialect: Dialect,
+    types: &[u8],
+    metadata: &[u8],
+) -> Result<Ranks, Refusal>
     requires { length types.now ≤ most_columns }
-    ensures { sizes_told result ≡ after (take_columns types.now metadata.now 0) (λ cs. ok (sizes_of dialect cs)) }
+    ensures { result ≡ after (take_columns types.now metadata.now 0) (λ cs. ok (sizes_of dialect cs)) }
 {
     let mut ranks = no_ranks();
     let mut at: usize = 0;
     let mut j: usize = 0;
     while j < types.len() {
         let kind = types[j];
-        match take_column(kind, metadata, at, TablePlace(j)) {
-            ColumnTaken::Taken(column) => {
-                ranks = ranks_after(dialect, ranks, column);
-            }
-            ColumnTaken::Refused(r) => return Sizes::Refused(r),
-        }
+        let column = take_column(kind, metadata, at, TablePlace(j))?;
+        ranks = ranks_after(dialect, ranks, column);
         at += value::metadata_bytes(kind);
         j += 1;
     }
     if at < metadata.len() {
-        return Sizes::Refused(wire::refuse(BAD_METADATA, j));
+        return Err(wire::refuse(BAD_METADATA, j));
     }
-    Sizes::Counted(ranks)
+    Ok(ranks)
 }

@@ -1,7 +1,8 @@
 // The contents of optional fields, judged in full.
-ghost use Rattle.std.specs.Prelude.{◌≡◌};
-ghost use Rattle.table_map.specs.Lists.{integer_item, string_item, group_item};
+ghost use Rattle.std.specs.Prelude.{◌≡◌, Bool};
+ghost use Rattle.table_map.specs.Lists.{Moves, integer_item, string_item, group_item};
 ghost use Rattle.map_check.specs.Contents.{whatever, exactly, is_charset, integer_holds, pairs_whole, default_holds, contents_full};
+ghost use Rattle.map_check.specs.Inner.Contents.{Computes, items_held};
 
 use crate::keys::keys_below;
 use crate::rank::{Rank, Ranks, TablePlace};
@@ -10,9 +11,8 @@ use table_map::field_type::{
     ENUM_AND_SET_DEFAULT_CHARSET, ENUM_STR_VALUE, GEOMETRY_TYPE, PRIMARY_KEY_WITH_PREFIX,
     SET_STR_VALUE, SIMPLE_PRIMARY_KEY, VECTOR_DIMENSIONALITY,
 };
-use table_map::{
-    DefaultCharset, GroupStep, Groups, IntegerStep, Integers, PairStep, Pairs, StringStep, Strings,
-};
+use table_map::{ListItem, next_item};
+use wire::Part;
 
 // What the integers of a list mean.
 #[derive(Clone, Copy)]
@@ -41,68 +41,48 @@ fn integer_holds(meaning: Meaning, v: u64) -> bool
     }
 }
 
-// Whether the value is as many integers as the class has columns, that all hold, and no more.
-fn integers_hold(value: &[u8], meaning: Meaning, size: Rank) -> bool
-    ensures { result ≡ exactly integer_item (integer_holds meaning) size.0 value.now }
+// How many items the value is, if they come to its end and all of them hold.
+fn items_held<I: ListItem, F: Fn(I) -> bool>(value: &[u8], holds: F) -> Option<usize>
+    requires callable { F.IsAlwaysCallable holds }
+    requires moves { Moves I.rule }
+    ensures { (p : I → Bool) → Computes (F.post holds) p → result ≡ items_held I.rule p value.now }
 {
     let mut at: usize = 0;
     let mut count: usize = 0;
     loop {
-        let list = Integers { at };
-        match list.next(value) {
-            IntegerStep::Item { value: v, next } => {
-                if !integer_holds(meaning, v) {
-                    return false;
+        match next_item(value, at) {
+            Ok(Some((item, next))) => {
+                if !holds(item) {
+                    return None;
                 }
-                at = next.at;
+                at = next;
                 count += 1;
             }
-            IntegerStep::End => return count == size.0,
-            IntegerStep::Refused(_) => return false,
+            Ok(None) => return Some(count),
+            Err(_) => return None,
         }
     }
+}
+
+// Whether the value is as many integers as the class has columns, that all hold, and no more.
+fn integers_hold(value: &[u8], meaning: Meaning, size: Rank) -> bool
+    ensures { result ≡ exactly integer_item (integer_holds meaning) size.0 value.now }
+{
+    items_held(value, |v: u64| integer_holds(meaning, v)) == Some(size.0)
 }
 
 // Whether it is a string for each of the map's columns.
 fn strings_hold(value: &[u8], columns: TablePlace) -> bool
     ensures { result ≡ exactly string_item whatever columns.0 value.now }
 {
-    let mut at: usize = 0;
-    let mut count: usize = 0;
-    loop {
-        let list = Strings { at };
-        match list.next(value) {
-            StringStep::Item { value: _, next } => {
-                at = next.at;
-                count += 1;
-            }
-            StringStep::End => return count == columns.0,
-            StringStep::Refused(_) => return false,
-        }
-    }
+    items_held(value, |_: Part| true) == Some(columns.0)
 }
 
 // Whether it is a group of strings for each column of the class.
 fn groups_hold(value: &[u8], size: Rank) -> bool
     ensures { result ≡ exactly group_item whatever size.0 value.now }
 {
-    let mut at: usize = 0;
-    let mut count: usize = 0;
-    loop {
-        let list = Groups { at };
-        match list.next(value) {
-            GroupStep::Item {
-                count: _,
-                first: _,
-                next,
-            } => {
-                at = next.at;
-                count += 1;
-            }
-            GroupStep::End => return count == size.0,
-            GroupStep::Refused(_) => return false,
-        }
-    }
+    items_held(value, |_: (u64, usize)| true) == Some(size.0)
 }
 
 // Whether pairs (rank, charset) fill the value from a place on, their ranks rising and below the size of the class.
@@ -113,13 +93,8 @@ fn pairs_hold(value: &[u8], start: usize, size: Rank) -> bool
     let mut at = start;
     let mut low: u64 = 0;
     loop {
-        let list = Pairs { at };
-        match list.next(value) {
-            PairStep::Item {
-                first: rank,
-                second: charset,
-                next,
-            } => {
+        match next_item::<(u64, u64)>(value, at) {
+            Ok(Some(((rank, charset), next))) => {
                 if rank < low {
                     return false;
                 }
@@ -130,25 +105,21 @@ fn pairs_hold(value: &[u8], start: usize, size: Rank) -> bool
                     return false;
                 }
                 low = rank + 1;
-                at = next.at;
+                at = next;
             }
-            PairStep::End => return true,
-            PairStep::Refused(_) => return false,
+            Ok(None) => return true,
+            Err(_) => return false,
         }
     }
 }
 
+#[tactic(auto, unfolding(crate::specs::Contents::default_holds))]
 fn default_holds(value: &[u8], size: Rank) -> bool
     ensures { result ≡ default_holds size.0 value.now }
 {
     match table_map::default_charset(value) {
-        DefaultCharset::Read { charset, pairs } => {
-            if !is_charset(charset) {
-                return false;
-            }
-            pairs_hold(value, pairs.at, size)
-        }
-        DefaultCharset::Refused(_) => false,
+        Ok((charset, pairs)) => is_charset(charset) && pairs_hold(value, pairs.at, size),
+        Err(_) => false,
     }
 }
 

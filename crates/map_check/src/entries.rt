@@ -1,7 +1,7 @@
 // What the record says of each column, and the whole record, written in one pass over the columns.
 ghost use Rattle.std.specs.Prelude.{◌≡◌, cond, ◌≤◌, ◌<◌, length};
 ghost use Rattle.wire.specs.Bits.{bit_lsb0};
-ghost use Rattle.wire.specs.Stored.{store, stored, answer_of, left_of, written_told};
+ghost use Rattle.wire.specs.Stored.{store, stored, answer_of, left_of};
 ghost use Rattle.wire.specs.Parts.{lent_part};
 ghost use Rattle.value.specs.Classes.{is_character};
 ghost use Rattle.record.specs.Records.{most_columns, entry_at, entries_bytes, record_bytes};
@@ -13,11 +13,11 @@ ghost use Rattle.map_check.specs.Inner.Making.{ClassHolds, Writable, Ready, Begi
 use crate::charset::{CharsetCursor, charset_if, first_charset};
 use crate::declare::{Declared, declare};
 use crate::facts::Facts;
-use crate::found::{stands, value_in};
+use crate::found::value_in;
 use crate::rank::{Rank, Ranks, TablePlace, no_ranks, ranks_after};
 use record::Entry;
 use value::Dialect;
-use wire::Written;
+use wire::Refusal;
 use wire::refusal::NO_ROOM;
 
 // Where the making of a record stands between two columns.
@@ -43,22 +43,14 @@ pub(crate) struct EntryTurn {
 fn is_sign_known(facts: Facts, column: Declared) -> bool
     ensures { result ≡ is_sign_known facts column }
 {
-    if !value::is_numeric(column.kind) {
-        return false;
-    }
-    let signs = facts.signs;
-    stands(signs)
+    value::is_numeric(column.kind) && facts.signs.is_some()
 }
 
 // Signedness bits go by the rank among the columns that have one.
 fn is_unsigned(event: &[u8], facts: Facts, column: Declared, rank: Rank) -> bool
     ensures { result ≡ is_unsigned event.now facts column rank }
 {
-    if !is_sign_known(facts, column) {
-        return false;
-    }
-    let signs = facts.signs;
-    table_map::flag(value_in(event, signs), rank.0)
+    is_sign_known(facts, column) && table_map::flag(value_in(event, facts.signs), rank.0)
 }
 
 // Nullable and visibility bits go by the place.
@@ -71,11 +63,7 @@ fn is_nullable(event: &[u8], facts: Facts, column: TablePlace) -> bool
 fn is_visible(event: &[u8], facts: Facts, column: TablePlace) -> bool
     ensures { result ≡ is_visible event.now facts column }
 {
-    let visibility = facts.visibility;
-    if !stands(visibility) {
-        return true;
-    }
-    table_map::flag(value_in(event, visibility), column.0)
+    facts.visibility.is_none() || table_map::flag(value_in(event, facts.visibility), column.0)
 }
 
 // A flag as a number.
@@ -206,7 +194,7 @@ fn write_entries(
     while progress.place.0 < types.len() {
         let turn = next_entry(dialect, event, types, metadata, facts, progress);
         let at = record::entry_at(progress.place.0);
-        record::write_entry(turn.entry, buf, at);
+        let _ = record::write_entry(turn.entry, buf, at);
         progress = turn.next;
     }
 }
@@ -219,9 +207,9 @@ pub(crate) fn write_record(
     metadata: &[u8],
     facts: Facts,
     buf: &mut [u8],
-) -> Written
+) -> Result<usize, Refusal>
     requires { Writable event.now types.now facts }
-    ensures result_value { written_told result
+    ensures result_value { result
         ≡ answer_of (store (record_bytes
         (entries_from dialect event.now facts (declare_all types.now metadata.now) (table_place 0)
         no_ranks)) buf.old 0) }
@@ -232,9 +220,9 @@ pub(crate) fn write_record(
 {
     let size = record::entry_at(types.len());
     if buf.len() < size {
-        return Written::Refused(wire::refuse(NO_ROOM, 0));
+        return Err(wire::refuse(NO_ROOM, 0));
     }
-    record::write_head(types.len() as u16, buf);
+    let _ = record::write_head(types.len() as u16, buf);
     write_entries(dialect, event, types, metadata, facts, buf);
-    Written::Done { next: size }
+    Ok(size)
 }

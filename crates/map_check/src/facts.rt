@@ -1,14 +1,13 @@
 // What the check keeps of a map besides its columns.
-use crate::found::Found;
 use wire::Part;
 
 // The two fields that tell the charsets of a class, of which one may stand.
 #[derive(Clone, Copy)]
 pub(crate) struct Charsets {
     // a default, and pairs (rank, charset)
-    pub default: Found,
+    pub default: Option<Part>,
     // a charset for each rank
-    pub list: Found,
+    pub list: Option<Part>,
 }
 
 // What the record needs.
@@ -17,8 +16,8 @@ pub(crate) struct Facts {
     // the nullable bits
     pub bits: Part,
     // fields 1 and 12
-    pub signs: Found,
-    pub visibility: Found,
+    pub signs: Option<Part>,
+    pub visibility: Option<Part>,
     // fields 2 and 3
     pub characters: Charsets,
     // fields 10 and 11, of ENUM and SET columns
@@ -29,7 +28,7 @@ pub(crate) struct Facts {
 #[derive(Clone, Copy)]
 pub(crate) struct KeptFields {
     // fields 8 and 9
-    pub simple: Found,
-    pub prefixed: Found,
+    pub simple: Option<Part>,
+    pub prefixed: Option<Part>,
     pub facts: Facts,
 }

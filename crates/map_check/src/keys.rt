@@ -1,39 +1,24 @@
 // The key indexes of a map, in its fields 8 and 9: all below n, and none twice.
 ghost use Rattle.std.specs.Prelude.{◌≡◌, true, false, [], ◌+◌, ◌<◌, ◌^◌, length, ltb};
 ghost use Rattle.wire.specs.Outcome.{after};
-ghost use Rattle.wire.specs.Packed.{packed_told};
-ghost use Rattle.table_map.specs.Fields.{judged_told};
 ghost use Rattle.map_check.specs.Contents.{list_holds, key_item};
 ghost use Rattle.map_check.specs.Keys.{keys_from, keys_once, once_in};
 
-use crate::found::Found;
 use crate::rank::TablePlace;
-use table_map::Judged;
-use wire::Packed;
 use wire::refusal::BAD_FIELD;
+use wire::{Part, Refusal, part_of, read_packed, refuse};
 
 // The key index at `at`, and the place after its item, which in field 9 has a prefix length too.
-pub(crate) fn key_at(value: &[u8], paired: bool, at: usize) -> Packed
-    ensures { packed_told result ≡ key_item paired value.now at }
+#[tactic(auto, unfolding(crate::specs::Contents::key_item))]
+pub(crate) fn key_at(value: &[u8], paired: bool, at: usize) -> Result<(u64, usize), Refusal>
+    ensures { result ≡ key_item paired value.now at }
 {
-    match wire::read_packed(value, at) {
-        Packed::Value { value: key, next } => {
-            if !paired {
-                return Packed::Value { value: key, next };
-            }
-            match wire::read_packed(value, next) {
-                Packed::Value {
-                    value: _,
-                    next: behind,
-                } => Packed::Value {
-                    value: key,
-                    next: behind,
-                },
-                Packed::Refused(r) => Packed::Refused(r),
-            }
-        }
-        Packed::Refused(r) => Packed::Refused(r),
+    let (key, next) = read_packed(value, at)?;
+    if !paired {
+        return Ok((key, next));
     }
+    let (_, behind) = read_packed(value, next)?;
+    Ok((key, behind))
 }
 
 // Whether the value is keys, and each is the place of one of the map's columns.
@@ -44,13 +29,13 @@ pub(crate) fn keys_below(value: &[u8], paired: bool, columns: TablePlace) -> boo
     let mut at: usize = 0;
     while at < value.len() {
         match key_at(value, paired, at) {
-            Packed::Value { value: key, next } => {
+            Ok((key, next)) => {
                 if above <= key {
                     return false;
                 }
                 at = next;
             }
-            Packed::Refused(_) => return false,
+            Err(_) => return false,
         }
     }
     true
@@ -60,58 +45,44 @@ pub(crate) fn keys_below(value: &[u8], paired: bool, columns: TablePlace) -> boo
 // outer loop: with the earlier one outside, keys 1, 2, 2, 1 would be told at the fourth item and not at the third. The contents were judged
 // before, so keys are below n, which is at most MOST_COLUMNS: a repetition comes within the first n + 1 items, and however long the value
 // is, at most n (n + 1) / 2 pairs of items are compared.
-fn keys_once(value: &[u8], paired: bool, start: usize) -> Judged
+fn keys_once(value: &[u8], paired: bool, start: usize) -> Result<(), Refusal>
     requires { start + length value.now < 2 ^ 64 }
-    ensures { judged_told result ≡ keys_once start [] (keys_from paired value.now 0) }
+    ensures { result ≡ keys_once start [] (keys_from paired value.now 0) }
 {
-    let mut answer = Judged::Holds;
     let mut later: usize = 0;
-    'later: while later < value.len() {
-        let Packed::Value { value: key, next } = key_at(value, paired, later) else {
-            break;
-        };
+    while let Ok((key, next)) = key_at(value, paired, later) {
         let mut earlier: usize = 0;
         while earlier < later {
-            let Packed::Value {
-                value: other,
-                next: behind,
-            } = key_at(value, paired, earlier)
-            else {
-                // not met: it was read before, as the later item
-                break;
-            };
+            // not refused: it was read before, as the later item
+            let (other, behind) = key_at(value, paired, earlier)?;
             if other == key {
-                let place = start + later;
-                answer = Judged::Refused(wire::refuse(BAD_FIELD, place));
-                break 'later;
+                return Err(refuse(BAD_FIELD, start + later));
             }
             earlier = behind;
         }
         later = next;
     }
-    answer
+    Ok(())
 }
 
 // The keys of a field, if it stands.
-fn once_in(event: &[u8], paired: bool, field: Found) -> Judged
-    ensures { judged_told result ≡ once_in paired event.now field }
+fn once_in(event: &[u8], paired: bool, field: Option<Part>) -> Result<(), Refusal>
+    ensures { result ≡ once_in paired event.now field }
 {
     match field {
-        Found::Value(part) => {
-            let start = part.start;
-            let value = wire::part_of(event, part);
-            keys_once(value, paired, start)
-        }
-        Found::Nothing => Judged::Holds,
+        Some(part) => keys_once(part_of(event, part), paired, part.start),
+        None => Ok(()),
     }
 }
 
 // Field 8, then field 9.
-pub(crate) fn keys_checked(event: &[u8], simple: Found, prefixed: Found) -> Judged
-    ensures { judged_told result ≡ after (once_in false event.now simple) (λ x. once_in true event.now prefixed) }
+pub(crate) fn keys_checked(
+    event: &[u8],
+    simple: Option<Part>,
+    prefixed: Option<Part>,
+) -> Result<(), Refusal>
+    ensures { result ≡ after (once_in false event.now simple) (λ x. once_in true event.now prefixed) }
 {
-    match once_in(event, false, simple) {
-        Judged::Holds => once_in(event, true, prefixed),
-        Judged::Refused(r) => Judged::Refused(r),
-    }
+    once_in(event, false, simple)?;
+    once_in(event, true, prefixed)
 }

@@ -16,5 +16,5 @@ mod names;
 mod rank;
 
 pub use map::check;
-pub use names::{NameRead, NamesRead, column_name, name_part, names_field};
+pub use names::{column_name, name_part, names_field};
 pub use rank::{Rank, TablePlace};

@@ -12,7 +12,8 @@ use Rattle.wire.specs.declared.part.Part.{Part}
 use Rattle.wire.proofs.Outcomes.{after_is_ok, same_ok}
 use Rattle.wire.proofs.Forms.{read_moves}
 use Rattle.table_map.specs.Parts.{long_part}
-use Rattle.table_map.specs.Lists.{Rule, integer_item, pair_item, string_item, strings, group_item}
+pub use Rattle.table_map.specs.Lists.{Moves}
+use Rattle.table_map.specs.Lists.{integer_item, pair_item, string_item, strings, group_item}
 use Rattle.table_map.proofs.Steps.{Early}
 use Rattle.table_map.proofs.Chains.{long_named}
 
@@ -47,10 +48,6 @@ unfolding group_item
 group_early = record { early = λ s at h. rw (integer_early.early s at h) }
 
 -- ---- items move
--- every item that the rule reads takes a byte at least, and ends within the bytes
-pub record Moves {A : Type 0} (rule : Rule A) : Type 0 where
-  pub moves : (s : List ℕ) (at : ℕ) (a : A) (next : ℕ) → rule s at ≡ ok (a, next) → (at < next) × (next ≤ length s)
-
 -- a part behind its length: it starts behind it
 pub long_moves : (s : List ℕ) (at : ℕ) (p : Part) (next : ℕ) → long_part s at ≡ ok (p, next)
     → (at < p.start) × (p.start + p.len ≡ next) × (next ≤ length s)

@@ -1,7 +1,7 @@
 -- Lists: one rule for every kind of item, and the items. "Lists: 3, 7, 8, 11, 13 are packed integers; 9 is pairs (column, prefix length); 2
 -- and 10 go on with pairs (rank, charset); 4 is packed-length strings; 5 and 6 are groups of a packed count and that many strings." Assumes
 -- nothing.
-use Rattle.std.specs.Prelude.{ℕ, zero, suc, ◌-◌, cond, Option, Some, List, [], ◌∷◌, length, ltb, eqb}
+use Rattle.std.specs.Prelude.{ℕ, zero, suc, ◌-◌, ◌<◌, ◌≤◌, ◌≡◌, cond, Option, Some, List, [], ◌∷◌, length, ltb, eqb}
 use Rattle.wire.specs.declared.refusal.Refusal.{Refusal}
 use Rattle.wire.specs.Outcome.{Outcome, ok, refused, refuse, after}
 use Rattle.wire.specs.Packed.{read_packed}
@@ -12,6 +12,10 @@ pub use Rattle.std.specs.Prelude.{None as end}
 -- ---- one rule for every list. A rule of items reads the item at a place of the bytes, and answers it with the place after it
 abbrev pub Rule : Type 0 → Type 0
 Rule A = List ℕ → ℕ → Outcome (A × ℕ)
+
+-- every item that the rule reads takes a byte at least, and ends within the bytes
+pub record Moves {A : Type 0} (rule : Rule A) : Type 0 where
+  pub moves : (s : List ℕ) (at : ℕ) (a : A) (next : ℕ) → rule s at ≡ ok (a, next) → (at < next) × (next ≤ length s)
 
 -- a step: the end of the list, or an item and where the next stands
 abbrev pub Stepped : Type 0 → Type 0 → Type 0

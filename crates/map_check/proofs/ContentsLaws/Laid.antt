@@ -1,4 +1,5 @@
 -- Lists laid end to end: a walk that comes to the value's end, what holds of each item, pairs that rise, and keys apart. Assumes nothing.
+use Rattle.std.specs.Prelude.{Some}
 use Prim.Native.Nat.{ℕ, zero, suc, ◌-◌, ◌≤◌, ◌<◌}
 use mathlib.Core.Path.{◌≡◌, refl, sym, ap, subst, ◌∙◌}
 use mathlib.Core.Bool.{Bool, true, false, cond, ◌&&◌, ◌||◌, or-true, false≢true}
@@ -53,7 +54,7 @@ steps_laid {A} rule v (suc m) s at h e = go (λ next. steps_laid rule v m s next
         → (o : Outcome (Stepped A ℕ)) → step rule s at ≡ o → is_whole (items_onward (walk_steps m rule s) o).how ≡ true
         → Between rule s at (length s) (items_onward (walk_steps m rule s) o).items
     go again (ok end) x y = subst (λ (to : ℕ). Between rule s at to []) (end_there rule s at x) none
-    go again (ok (item a next)) x y =
+    go again (ok (Some (a, next))) x y =
         let w = item_moves rule v s at a next x in
         more (item_read rule s at a next x).1 (again next (omega (arith, w.0, w.1)) y)
     go again (refused r) x y = absurd (false≢true y)

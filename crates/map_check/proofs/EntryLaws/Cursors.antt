@@ -1,5 +1,6 @@
 -- The cursors in a class's charsets: what stands there fits 16 bits, and a turn gives a rank's charset and leaves the cursor where the next
 -- rank's is the next. Assumes nothing.
+use Rattle.std.specs.Prelude.{None, Option, Some}
 use Prim.Native.Nat.{ℕ, suc, ◌+◌, ◌≤◌, ◌<◌}
 use mathlib.Core.Path.{◌≡◌, refl, sym, ap, ◌∙◌}
 use mathlib.Core.Bool.{Bool, true, false, cond}
@@ -15,13 +16,11 @@ use Rattle.wire.specs.Packed.{read_packed}
 use Rattle.wire.specs.declared.part.Part.{Part}
 use Rattle.wire.specs.Parts.{lent_part}
 use Rattle.wire.proofs.Outcomes.{same_ok, ok_not_refused, both_true}
-use Rattle.table_map.specs.Lists.{Rule, Stepped, end, item, step, ItemsWalked, items_onward, walk_items, walk_steps, integer_item, pair_item}
+use Rattle.table_map.specs.Lists.{Rule, Stepped, end, step, ItemsWalked, items_onward, walk_items, walk_steps, integer_item, pair_item}
 use Rattle.table_map.proofs.Items.{Moves, integer_moves, pair_moves}
 use Rattle.table_map.proofs.Walks.{walk_steps_lem}
 use Rattle.map_check.specs.declared.contents.Meaning.TheVariants.{Charset}
 use Rattle.map_check.specs.declared.rank.Rank.{Rank}
-use Rattle.map_check.specs.declared.found.Found.{Found}
-use Rattle.map_check.specs.declared.found.Found.TheVariants.{Value, Nothing}
 use Rattle.map_check.specs.declared.facts.Charsets.{Charsets}
 use Rattle.map_check.specs.declared.charset.CharsetCursor.{CharsetCursor}
 use Rattle.map_check.specs.declared.charset.CharsetTurn.{CharsetTurn}
@@ -59,7 +58,7 @@ list_turned : (value : List ℕ) (r : ℕ) (c : CharsetCursor) (o : Outcome (Ste
     → ((list_turn c o).charset ≡ get_or (walk_items integer_item value 0).items r 0)
     × ((walk_items integer_item value (list_turn c o).next.at).items ≡ drop (r + 1) (walk_items integer_item value 0).items)
 list_turned value r c (ok end) w e = let x = left_first (walk_items integer_item value 0).items [] r e in (sym x.0, w ∙ sym x.1)
-list_turned value r c (ok (item a next)) w e =
+list_turned value r c (ok (Some (a, next))) w e =
     let x = left_first (walk_items integer_item value 0).items (a ∷ (walk_items integer_item value next).items) r e in
     (sym x.0, sym x.1)
 list_turned value r c (refused v) w e = let x = left_first (walk_items integer_item value 0).items [] r e in (sym x.0, w ∙ sym x.1)
@@ -162,7 +161,7 @@ pair_turned : (size r : ℕ) (value : List ℕ) (c : CharsetCursor) (o : Outcome
     → pairs_hold size r (items_onward (walk_items pair_item value) o).items ≡ true
     → Turned size r c.default value (items_onward (walk_items pair_item value) o).items (pair_turn c r o)
 pair_turned size r value c (ok end) w e = none_turned size r value c w
-pair_turned size r value c (ok (item p next)) w e = go (eqb p.0 r) refl
+pair_turned size r value c (ok (Some (p, next))) w e = go (eqb p.0 r) refl
   where
     go : (b : Bool) → eqb p.0 r ≡ b
         → Turned size r c.default value (p ∷ (walk_items pair_item value next).items)
@@ -199,57 +198,57 @@ paired_first size value d =
     rw d.read (record { left = λ i l. rw d.read; size = size; rise = d.hold })
 
 -- whether a default stands or not
-pub first_paired : (s : List ℕ) (default : Found) (size : ℕ) → ((p : Part) → default ≡ Value p → default_holds size (lent_part s p) ≡ true)
+pub first_paired : (s : List ℕ) (default : Option Part) (size : ℕ) → ((p : Part) → default ≡ Some p → default_holds size (lent_part s p) ≡ true)
     → PairsLeft (value_in s default) 0 (behind_default (read_packed (value_in s default) 0))
 unfolding read_packed step walk_steps pair_or pairs_hold
-first_paired s (Value p) size h = paired_first size (lent_part s p) (charset_default size (lent_part s p) (h p refl))
-first_paired s Nothing size h = record { left = λ i l. refl; size = size; rise = refl }
+first_paired s (Some p) size h = paired_first size (lent_part s p) (charset_default size (lent_part s p) (h p refl))
+first_paired s None size h = record { left = λ i l. refl; size = size; rise = refl }
 
-pub first_fits : (s : List ℕ) (default : Found) (size : ℕ) → ((p : Part) → default ≡ Value p → default_holds size (lent_part s p) ≡ true)
+pub first_fits : (s : List ℕ) (default : Option Part) (size : ℕ) → ((p : Part) → default ≡ Some p → default_holds size (lent_part s p) ≡ true)
     → IntegerFits (value_in s default) 0
 unfolding read_packed
-first_fits s (Value p) size h charset next e =
+first_fits s (Some p) size h charset next e =
     let d = charset_default size (lent_part s p) (h p refl) in
     let f : d.charset ≡ charset = ap (λ (x : ℕ × ℕ). x.0) (same_ok (sym d.read ∙ e)) in
     omega (arith, d.fits)
-first_fits s Nothing size h charset next e = absurd (ok_not_refused (sym e))
+first_fits s None size h charset next e = absurd (ok_not_refused (sym e))
 
 -- ---- a class, by the field that stands
-pub first_in_list : (s : List ℕ) (class : Charsets) (p : Part) → class.list ≡ Value p → ClassHolds s class
+pub first_in_list : (s : List ℕ) (class : Charsets) (p : Part) → class.list ≡ Some p → ClassHolds s class
     → Stands s class 0 (charset_cursor 0 0)
 first_in_list s class p e h = rw e (listed_first h.size (lent_part s p) (h.list p e))
 
-pub first_in_pairs : (s : List ℕ) (class : Charsets) (c : CharsetCursor) → class.list ≡ Nothing → ClassHolds s class
+pub first_in_pairs : (s : List ℕ) (class : Charsets) (c : CharsetCursor) → class.list ≡ None → ClassHolds s class
     → c ≡ behind_default (read_packed (value_in s class.default) 0) → Stands s class 0 c
 first_in_pairs s class c e h f = rw (e, f) (first_paired s class.default h.size h.default)
 
-pub fits_in_list : (s : List ℕ) (default list : Found) (p : Part) (r : ℕ) (c : CharsetCursor) → list ≡ Value p → StandsIn s default list r c
+pub fits_in_list : (s : List ℕ) (default list : Option Part) (p : Part) (r : ℕ) (c : CharsetCursor) → list ≡ Some p → StandsIn s default list r c
     → IntegerFits (value_in s list) c.at
-fits_in_list s default (Value q) p r c e h = listed_fits h
-fits_in_list s default Nothing p r c e h = absurd (nothing_not_value e)
+fits_in_list s default (Some q) p r c e h = listed_fits h
+fits_in_list s default None p r c e h = absurd (nothing_not_value e)
 
-pub fits_in_pairs : (s : List ℕ) (default list : Found) (r : ℕ) (c : CharsetCursor) → list ≡ Nothing → StandsIn s default list r c
+pub fits_in_pairs : (s : List ℕ) (default list : Option Part) (r : ℕ) (c : CharsetCursor) → list ≡ None → StandsIn s default list r c
     → PairFits (value_in s default) c.at
-fits_in_pairs s default (Value q) r c e h = absurd (nothing_not_value (sym e))
-fits_in_pairs s default Nothing r c e h = paired_fits h
+fits_in_pairs s default (Some q) r c e h = absurd (nothing_not_value (sym e))
+fits_in_pairs s default None r c e h = paired_fits h
 
-turn_in_list : (s : List ℕ) (default list : Found) (p : Part) (r : ℕ) (c : CharsetCursor) (t : CharsetTurn) → list ≡ Value p
+turn_in_list : (s : List ℕ) (default list : Option Part) (p : Part) (r : ℕ) (c : CharsetCursor) (t : CharsetTurn) → list ≡ Some p
     → StandsIn s default list r c
     → t ≡ list_turn c (step integer_item (value_in s list) c.at)
     → (t.charset ≡ from_list s r default list) × StandsIn s default list (r + 1) t.next
-turn_in_list s default (Value q) p r c t e h f = listed_turn t f h
-turn_in_list s default Nothing p r c t e h f = absurd (nothing_not_value e)
+turn_in_list s default (Some q) p r c t e h f = listed_turn t f h
+turn_in_list s default None p r c t e h f = absurd (nothing_not_value e)
 
-turn_in_pairs : (s : List ℕ) (default list : Found) (r : ℕ) (c : CharsetCursor) (t : CharsetTurn) → list ≡ Nothing
+turn_in_pairs : (s : List ℕ) (default list : Option Part) (r : ℕ) (c : CharsetCursor) (t : CharsetTurn) → list ≡ None
     → StandsIn s default list r c
     → t ≡ pair_turn c r (step pair_item (value_in s default) c.at)
     → (t.charset ≡ from_list s r default list) × StandsIn s default list (r + 1) t.next
 unfolding read_packed
-turn_in_pairs s default (Value q) r c t e h f = absurd (nothing_not_value (sym e))
-turn_in_pairs s (Value p) Nothing r c t e h f = paired_turn t f h
-turn_in_pairs s Nothing Nothing r c t e h f = paired_turn t f h
+turn_in_pairs s default (Some q) r c t e h f = absurd (nothing_not_value (sym e))
+turn_in_pairs s (Some p) None r c t e h f = paired_turn t f h
+turn_in_pairs s None None r c t e h f = paired_turn t f h
 
-pub taken_in_list : (s : List ℕ) (class : Charsets) (p : Part) (k : Rank) (c : CharsetCursor) (t : CharsetTurn) → class.list ≡ Value p
+pub taken_in_list : (s : List ℕ) (class : Charsets) (p : Part) (k : Rank) (c : CharsetCursor) (t : CharsetTurn) → class.list ≡ Some p
     → Stands s class k.0 c
     → t ≡ list_turn c (step integer_item (value_in s class.list) c.at) → CharsetTurned s class k t
 unfolding charset_by
@@ -257,7 +256,7 @@ taken_in_list s class p k c t e h f =
     let x = turn_in_list s class.default class.list p k.0 c t e h f in
     record { charset = x.0; next = x.1 }
 
-pub taken_in_pairs : (s : List ℕ) (class : Charsets) (k : Rank) (c : CharsetCursor) (t : CharsetTurn) → class.list ≡ Nothing
+pub taken_in_pairs : (s : List ℕ) (class : Charsets) (k : Rank) (c : CharsetCursor) (t : CharsetTurn) → class.list ≡ None
     → Stands s class k.0 c
     → t ≡ pair_turn c k.0 (step pair_item (value_in s class.default) c.at) → CharsetTurned s class k t
 unfolding charset_by

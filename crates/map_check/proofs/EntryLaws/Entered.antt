@@ -1,4 +1,5 @@
 -- Entries as columns and fields say them: the charset of a rank, the signedness bit of a rank, the bits of a place. Assumes nothing.
+use Rattle.std.specs.Prelude.{None, Option, Some}
 use Prim.Native.Nat.{ℕ, suc}
 use mathlib.Core.Path.{◌≡◌, refl, sym, ap, subst, ◌∙◌}
 use mathlib.Core.Logic.{◌⊎◌, inl, inr, ⊎_elim}
@@ -21,8 +22,6 @@ use Rattle.record.specs.declared.entry.Entry.{Entry}
 use Rattle.map_check.specs.declared.declare.Declared.{Declared}
 use Rattle.map_check.specs.declared.contents.Meaning.TheVariants.{Charset}
 use Rattle.map_check.specs.declared.rank.Ranks.{Ranks}
-use Rattle.map_check.specs.declared.found.Found.{Found}
-use Rattle.map_check.specs.declared.found.Found.TheVariants.{Value, Nothing}
 use Rattle.map_check.specs.declared.facts.Charsets.{Charsets}
 use Rattle.map_check.specs.Ranks.{table_place, rank, no_ranks, ranks_after, ranks_from}
 use Rattle.map_check.specs.Contents.{integer_holds, pairs_hold, default_holds}
@@ -89,21 +88,21 @@ given : (s : List ℕ) (fs : List (ℕ × Part)) (default list r : ℕ) → Clas
 unfolding charset_by
 given s fs default list r h d = go (first_of default fs) (first_of list fs) refl refl
   where
-    go : (a b : Found) → first_of default fs ≡ a → first_of list fs ≡ b → CharsetGiven (bare s fs) default list r (from_list s r a b)
-    go a (Value p) x y =
+    go : (a b : Option Part) → first_of default fs ≡ a → first_of list fs ≡ b → CharsetGiven (bare s fs) default list r (from_list s r a b)
+    go a (Some p) x y =
         let w = exact_laid integer_item integer_moves (integer_holds Charset) h.size (lent_part s p) (h.list p y) in
         listed (lent_part s p) (walk_items integer_item (lent_part s p) 0).items (found_member s fs list p y) w.0
-    go (Value p) Nothing x y =
+    go (Some p) None x y =
         let w = default_holds_lem h.size (lent_part s p) (h.default p x) in
         let m = found_member s fs default p x in
-        let e : from_list s r (Value p) Nothing ≡ pair_or w.default r w.pairs
+        let e : from_list s r (Some p) None ≡ pair_or w.default r w.pairs
         = rw (w.holds.start, laid_walk pair_item pair_moves w.holds.items refl) in
         subst (CharsetGiven (bare s fs) default list r) (sym e)
         (⊎_elim (λ z. paired (lent_part s p) w.default (pair_or w.default r w.pairs) w.pairs m w.holds z)
         (λ z. subst (CharsetGiven (bare s fs) default list r) (sym z.0)
         (unpaired (lent_part s p) w.default w.pairs m w.holds z.1))
         (pair_or_lem w.default r w.pairs))
-    go Nothing Nothing x y = not_given (nothing_absent s fs default d x) (nothing_absent s fs list d y)
+    go None None x y = not_given (nothing_absent s fs default d x) (nothing_absent s fs list d y)
 
 given_is : (s : List ℕ) (fs : List (ℕ × Part)) {default list r v : ℕ} → ClassHolds s (class default list fs) → Distinct (firsts (bare s fs))
     → NotBoth default list (bare s fs) → CharsetGiven (bare s fs) default list r v → v ≡ charset_by s (class default list fs) (rank r)
@@ -173,12 +172,12 @@ sign_given : {s : List ℕ} {bits : Part} {fs : List (ℕ × Part)} {before : Li
     → Sized d before k → SignIs d (bare s fs) before c (is_unsigned s (facts_of bits fs) c k.sign) (is_sign_known (facts_of bits fs) c)
 sign_given {s} {bits} {fs} {before} {k} d c x z = go (is_numeric (family_of c.kind)) (first_of 1 fs) refl refl
   where
-    go : (t : Bool) (o : Found) → is_numeric (family_of c.kind) ≡ t → first_of 1 fs ≡ o
+    go : (t : Bool) (o : Option Part) → is_numeric (family_of c.kind) ≡ t → first_of 1 fs ≡ o
         → SignIs d (bare s fs) before c ((t && stands o) && bit_msb0 (value_in s o) k.sign.0) (t && stands o)
-    go true (Value p) e f =
+    go true (Some p) e f =
         subst (λ (r : ℕ). SignIs d (bare s fs) before c (bit_msb0 (lent_part s p) r) true) (sym z.sign)
         (told (lent_part s p) e (found_member s fs 1 p f))
-    go true Nothing e f = untold e (nothing_absent s fs 1 x.once f)
+    go true None e f = untold e (nothing_absent s fs 1 x.once f)
     go false o e f = not_numeric e
 
 sign_said : {s : List ℕ} {bits : Part} {fs : List (ℕ × Part)} {before : List Declared} {k : Ranks} {d : Dialect} {c : Declared}
@@ -196,9 +195,9 @@ visible_given : {s : List ℕ} {bits : Part} {fs : List (ℕ × Part)} (j : ℕ)
     → VisibleIs (bare s fs) j (is_visible s (facts_of bits fs) (table_place j))
 visible_given {s} {bits} {fs} j x = go (first_of 12 fs) refl
   where
-    go : (o : Found) → first_of 12 fs ≡ o → VisibleIs (bare s fs) j (cond (stands o) (bit_msb0 (value_in s o) j) true)
-    go (Value p) f = by_bit (lent_part s p) (found_member s fs 12 p f)
-    go Nothing f = all_are (nothing_absent s fs 12 x.once f)
+    go : (o : Option Part) → first_of 12 fs ≡ o → VisibleIs (bare s fs) j (cond (stands o) (bit_msb0 (value_in s o) j) true)
+    go (Some p) f = by_bit (lent_part s p) (found_member s fs 12 p f)
+    go None f = all_are (nothing_absent s fs 12 x.once f)
 
 visible_said : {s : List ℕ} {bits : Part} {fs : List (ℕ × Part)} {j : ℕ} {visible : Bool} → Known s bits fs
     → VisibleIs (bare s fs) j visible

@@ -6,9 +6,9 @@ use mathlib.Core.List.{List, [], ◌∷◌}
 use native.Mathlib.Omega.{arith}
 use lib.ListN.{length, get_or, drop, drop_of_length-le}
 use lib.Seq.{drop-cons, drop-drop}
+use Rattle.wire.specs.Outcome.{ok}
 use Rattle.wire.specs.Number.{le_bytes}
 use Rattle.wire.specs.Stored.{stored, store, left_of}
-use Rattle.wire.specs.declared.store.Written.TheVariants.{Done}
 use Rattle.wire.proofs.Stores.{length_stored, stored_none, stored_stored, store_fits, Wrote, wrote, wrote_two}
 use Rattle.value.specs.declared.classes.Dialect.{Dialect}
 use Rattle.value.specs.declared.types.Family.{Family}
@@ -201,14 +201,14 @@ all_stored d s x types meta k buf z at h g =
 -- the whole record: its head, and its entries
 pub record_written : (es : List Entry) (n : ℕ) (old x₁ x : List ℕ) → length es ≡ n → entry_at n ≤ length old
     → x₁ ≡ left_of (store (head_bytes n) old 0) old
-    → x ≡ stored (entries_bytes es) x₁ (entry_at 0) → Wrote old 0 (record_bytes es) (Done (entry_at n)) x
+    → x ≡ stored (entries_bytes es) x₁ (entry_at 0) → Wrote old 0 (record_bytes es) (ok (entry_at n)) x
 unfolding record_bytes
 record_written es n old x₁ x e h p q =
     let m : length (entries_bytes es) ≡ 6 * n = bytes_length es ∙ ap (λ (k : ℕ). 6 * k) e in
     let f = store_fits old (head_bytes n) 0 (omega (arith, head_length n)) in
     let y : x₁ ≡ stored (head_bytes n) old 0 = p ∙ rw f in
     let l : length x₁ ≡ length old = ap length y ∙ length_stored old 0 (head_bytes n) (omega (arith, head_length n)) in
-    rw e (wrote_two old (head_bytes n) (entries_bytes es) x₁ x 0 6 (Done (entry_at n)) (head_length n) (omega arith) p
+    rw e (wrote_two old (head_bytes n) (entries_bytes es) x₁ x 0 6 (ok (entry_at n)) (head_length n) (omega arith) p
     (wrote x₁ (entries_bytes es) x 6 (6 * n) (entry_at n) m (omega arith) refl q))
 
 -- a record's entries are as many as the types

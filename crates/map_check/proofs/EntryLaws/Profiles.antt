@@ -1,5 +1,6 @@
 -- What may be said of a column's entry: it has a charset of two bytes, and charset and flags stand where a record may have them. Assumes
 -- nothing.
+use Rattle.std.specs.Prelude.{None, Option, Some}
 use Prim.Native.Nat.{ℕ, ◌+◌, ◌*◌, ◌/◌, ◌%◌, ◌≤◌, ◌<◌, ◌^◌}
 use mathlib.Core.Path.{◌≡◌, refl}
 use mathlib.Core.Bool.{Bool, true, false, cond, ◌&&◌, ◌||◌}
@@ -18,8 +19,6 @@ use Rattle.map_check.specs.declared.contents.Meaning.TheVariants.{Charset}
 use Rattle.map_check.specs.declared.rank.TablePlace.{TablePlace}
 use Rattle.map_check.specs.declared.rank.Rank.{Rank}
 use Rattle.map_check.specs.declared.rank.Ranks.{Ranks}
-use Rattle.map_check.specs.declared.found.Found.{Found}
-use Rattle.map_check.specs.declared.found.Found.TheVariants.{Value, Nothing}
 use Rattle.map_check.specs.declared.facts.Facts.{Facts}
 use Rattle.map_check.specs.declared.facts.Charsets.{Charsets}
 use Rattle.map_check.specs.Contents.{exactly, integer_holds, default_holds}
@@ -29,15 +28,15 @@ use Rattle.map_check.specs.Inner.Making.{ClassHolds}
 use Rattle.map_check.proofs.ContentsLaws.Bounds.{either_at_most, charset_list, charset_default}
 
 -- ---- charsets
-class_narrow : (s : List ℕ) (r : ℕ) (default list : Found) (size : ℕ)
-    → ((p : Part) → list ≡ Value p → exactly integer_item (integer_holds Charset) size (lent_part s p) ≡ true)
-    → ((p : Part) → default ≡ Value p → default_holds size (lent_part s p) ≡ true)
+class_narrow : (s : List ℕ) (r : ℕ) (default list : Option Part) (size : ℕ)
+    → ((p : Part) → list ≡ Some p → exactly integer_item (integer_holds Charset) size (lent_part s p) ≡ true)
+    → ((p : Part) → default ≡ Some p → default_holds size (lent_part s p) ≡ true)
     → from_list s r default list ≤ 65535
-class_narrow s r default (Value p) size h g = charset_list size (lent_part s p) (h p refl) r
-class_narrow s r (Value p) Nothing size h g =
+class_narrow s r default (Some p) size h g = charset_list size (lent_part s p) (h p refl) r
+class_narrow s r (Some p) None size h g =
     let d = charset_default size (lent_part s p) (g p refl) in
     rw d.read (d.each r)
-class_narrow s r Nothing Nothing size h g = omega arith
+class_narrow s r None None size h g = omega arith
 
 -- of a class whose fields hold
 pub charset_narrow : (s : List ℕ) (class : Charsets) (r : Rank) → ClassHolds s class → charset_by s class r < 2 ^ 16

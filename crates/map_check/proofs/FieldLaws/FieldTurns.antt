@@ -1,4 +1,5 @@
 -- The optional fields one by one: the loop that keeps them, with what it has noted. Assumes nothing.
+use Rattle.std.specs.Prelude.{None, Option, Some}
 use Prim.Native.Nat.{ℕ, zero, suc, ◌-◌, ◌≤◌, ◌<◌, suc-le-suc}
 use mathlib.Core.Path.{◌≡◌, refl, sym, ap, ◌∙◌}
 use mathlib.Core.Bool.{Bool, true, false, cond, ◌||◌, true≢false}
@@ -19,8 +20,6 @@ use Rattle.table_map.proofs.Steps.{item_read}
 use Rattle.table_map.proofs.Walks.{item_moves}
 use Rattle.table_map.proofs.Optional.{field_stepped, field_ended, field_broken, field_read, field_moves}
 use Rattle.map_check.specs.declared.rank.Ranks.{Ranks}
-use Rattle.map_check.specs.declared.found.Found.{Found}
-use Rattle.map_check.specs.declared.found.Found.TheVariants.{Value, Nothing}
 use Rattle.map_check.specs.declared.facts.KeptFields.{KeptFields}
 use Rattle.map_check.specs.Fields.{stood, rival_of, stands_given, stands_behind, keep, keep_steps, keep_from, keep_fields, first_of}
 use Rattle.map_check.specs.Profile.{stands}
@@ -53,7 +52,7 @@ keep_enough sizes c (suc m) (suc k) s before at h l = go (λ kind next. keep_eno
         → (o : Outcome (Stepped (ℕ × Part) ℕ)) → step_at c s at ≡ o
         → keep (rest m) (stands_behind sizes c.columns s before) at o ≡ keep (rest k) (stands_behind sizes c.columns s before) at o
     go again (ok end) e = refl
-    go again (ok (item f next)) e =
+    go again (ok (Some (f, next))) e =
         let w = item_moves (field_item c.numeric c.columns) (field_moves c.numeric c.columns) s at f next e in
         rw (again f.0 next (omega (arith, w.0, w.1)) (omega (arith, w.0, w.1)))
     go again (refused r) e = refl
@@ -70,19 +69,19 @@ keep_turn sizes c s before at = go (step_at c s at) refl
         → keep (λ kind next. keep_steps (length s - at) sizes c s (kind ∷ before) next) (stands_behind sizes c.columns s before) at o
         ≡ keep (λ kind next. keep_from sizes c s (kind ∷ before) next) (stands_behind sizes c.columns s before) at o
     go (ok end) e = refl
-    go (ok (item f next)) e =
+    go (ok (Some (f, next))) e =
         let w = item_moves (field_item c.numeric c.columns) (field_moves c.numeric c.columns) s at f next e in
         rw (keep_enough sizes c (length s - at) (suc (length s - next)) s (f.0 ∷ before) next (omega (arith, w.0, w.1)) (omega arith))
     go (refused r) e = refl
 
 -- ---- the first of a type, among some fields and one behind them
-abbrev or_else : Found → Found → Found
-or_else (Value p) x = Value p
-or_else Nothing x = x
+abbrev or_else : Option Part → Option Part → Option Part
+or_else (Some p) x = Some p
+or_else None x = x
 
-or_nothing : (x : Found) → or_else x Nothing ≡ x
-or_nothing (Value p) = refl
-or_nothing Nothing = refl
+or_nothing : (x : Option Part) → or_else x None ≡ x
+or_nothing (Some p) = refl
+or_nothing None = refl
 
 first_snoc : (k : ℕ) (fs : List (ℕ × Part)) (f : ℕ × Part) → first_of k (fs ++ (f ∷ [])) ≡ or_else (first_of k fs) (first_of k (f ∷ []))
 unfolding first_of
@@ -90,18 +89,18 @@ first_snoc k [] f = refl
 first_snoc k (g ∷ gs) f = go (first_snoc k gs f) (eqb g.0 k)
   where
     go : first_of k (gs ++ (f ∷ [])) ≡ or_else (first_of k gs) (first_of k (f ∷ []))
-        → (t : Bool) → cond t (Value g.1) (first_of k (gs ++ (f ∷ [])))
-        ≡ or_else (cond t (Value g.1) (first_of k gs)) (first_of k (f ∷ []))
+        → (t : Bool) → cond t (Some g.1) (first_of k (gs ++ (f ∷ [])))
+        ≡ or_else (cond t (Some g.1) (first_of k gs)) (first_of k (f ∷ []))
     go again true = refl
     go again false = again
 
 -- ---- where the loop stands, at a cursor: the fields that it has met, their types, and where it has noted their values. What is to come
 -- decides the rest
-pub record KeptTo (sizes : Ranks) (c : FieldCursor) (s : List ℕ) (here : FieldCursor) (places : List Found) : Type 0 where
+pub record KeptTo (sizes : Ranks) (c : FieldCursor) (s : List ℕ) (here : FieldCursor) (places : List (Option Part)) : Type 0 where
   pub met : List (ℕ × Part)
   pub before : List ℕ
   pub size : length places ≡ 14
-  pub noted : (k : ℕ) → k < 14 → get_or places k Nothing ≡ first_of k met
+  pub noted : (k : ℕ) → k < 14 → get_or places k None ≡ first_of k met
   pub types : (k : ℕ) → stands (first_of k met) ≡ stood k before
   pub numeric : here.numeric ≡ c.numeric
   pub columns : here.columns ≡ c.columns
@@ -111,13 +110,13 @@ same_after : {A : Type 0} (o : Outcome A) → o ≡ after o (λ a. ok a)
 same_after (ok a) = refl
 same_after (refused w) = refl
 
-pub kept_to_first : (sizes : Ranks) (c : FieldCursor) (s : List ℕ) → KeptTo sizes c s c (replicate 14 Nothing)
+pub kept_to_first : (sizes : Ranks) (c : FieldCursor) (s : List ℕ) → KeptTo sizes c s c (replicate 14 None)
 unfolding stood first_of
 kept_to_first sizes c s = record {
   met = [];
   before = [];
   size = refl;
-  noted = λ k h. get_or-replicate 14 k Nothing Nothing h;
+  noted = λ k h. get_or-replicate 14 k None None h;
   types = λ k. refl;
   numeric = refl;
   columns = refl;
@@ -125,7 +124,7 @@ kept_to_first sizes c s = record {
 }
 
 -- its step is the walk's
-stepped : {sizes : Ranks} {c : FieldCursor} {s : List ℕ} {here : FieldCursor} {places : List Found} → KeptTo sizes c s here places
+stepped : {sizes : Ranks} {c : FieldCursor} {s : List ℕ} {here : FieldCursor} {places : List (Option Part)} → KeptTo sizes c s here places
     → (f : ℕ × Part) (next : FieldCursor) → field_step here s ≡ ok (item f next) → step_at c s here.at ≡ ok (item f next.at)
 stepped st f next e = rw (← st.numeric, ← st.columns) (field_stepped _ _ f next e).0
 
@@ -149,35 +148,35 @@ rival_low k =
     (either_at_most 13 (eqb k 9) 8 0 (omega arith) (omega arith)))))))
 
 -- what is noted tells whether a field is kept
-pub noted_tells : {sizes : Ranks} {c : FieldCursor} {s : List ℕ} {here : FieldCursor} {places : List Found}
+pub noted_tells : {sizes : Ranks} {c : FieldCursor} {s : List ℕ} {here : FieldCursor} {places : List (Option Part)}
     (st : KeptTo sizes c s here places)
     → (f : ℕ × Part) (rival : ℕ) (twice rivalled t : Bool) → f.0 < 14 → rival ≡ rival_of f.0
-    → twice ≡ stands (get_or places f.0 Nothing) → rivalled ≡ stands (get_or places rival Nothing)
+    → twice ≡ stands (get_or places f.0 None) → rivalled ≡ stands (get_or places rival None)
     → t ≡ stands_given sizes c.columns s twice rivalled f
     → stands_behind sizes c.columns s st.before f ≡ t
 noted_tells st f rival twice rivalled t h r a b e =
     rw (e, a, b, r, st.noted f.0 h, st.noted (rival_of f.0) (rival_low f.0), st.types f.0, st.types (rival_of f.0))
 
 -- with one field more noted, it is what is noted of the fields up to the next
-noted_next : (places : List Found) (met : List (ℕ × Part)) (f : ℕ × Part) → length places ≡ 14 → f.0 < 14 → first_of f.0 met ≡ Nothing
-    → ((k : ℕ) → k < 14 → get_or places k Nothing ≡ first_of k met)
-    → (k : ℕ) → k < 14 → get_or (set places f.0 (Value f.1)) k Nothing ≡ first_of k (met ++ (f ∷ []))
+noted_next : (places : List (Option Part)) (met : List (ℕ × Part)) (f : ℕ × Part) → length places ≡ 14 → f.0 < 14 → first_of f.0 met ≡ None
+    → ((k : ℕ) → k < 14 → get_or places k None ≡ first_of k met)
+    → (k : ℕ) → k < 14 → get_or (set places f.0 (Some f.1)) k None ≡ first_of k (met ++ (f ∷ []))
 unfolding first_of
 noted_next places met f n h z m k l = go (eqb f.0 k) refl
   where
-    go : (t : Bool) → eqb f.0 k ≡ t → get_or (set places f.0 (Value f.1)) k Nothing ≡ first_of k (met ++ (f ∷ []))
+    go : (t : Bool) → eqb f.0 k ≡ t → get_or (set places f.0 (Some f.1)) k None ≡ first_of k (met ++ (f ∷ []))
     go true e =
-        let x : first_of f.0 (met ++ (f ∷ [])) ≡ Value f.1 = first_snoc f.0 met f ∙ rw (z, eq-eqb f.0 f.0 refl) in
-        rw (← eqb-true f.0 k e) (get_or-set_same places f.0 (Value f.1) Nothing (omega arith) ∙ sym x)
+        let x : first_of f.0 (met ++ (f ∷ [])) ≡ Some f.1 = first_snoc f.0 met f ∙ rw (z, eq-eqb f.0 f.0 refl) in
+        rw (← eqb-true f.0 k e) (get_or-set_same places f.0 (Some f.1) None (omega arith) ∙ sym x)
     go false e =
         let x : first_of k (met ++ (f ∷ [])) ≡ first_of k met = first_snoc k met f ∙ rw e (or_nothing (first_of k met)) in
-        get_or-set_other places f.0 k (Value f.1) Nothing (λ q. eqb-false f.0 k e (sym q)) ∙ m k l ∙ sym x
+        get_or-set_other places f.0 k (Some f.1) None (λ q. eqb-false f.0 k e (sym q)) ∙ m k l ∙ sym x
 
-either_stands : (x : Found) (t : Bool) (p : Part) → stands (or_else x (cond t (Value p) Nothing)) ≡ (t || stands x)
-either_stands (Value q) true p = refl
-either_stands (Value q) false p = refl
-either_stands Nothing true p = refl
-either_stands Nothing false p = refl
+either_stands : (x : Option Part) (t : Bool) (p : Part) → stands (or_else x (cond t (Some p) None)) ≡ (t || stands x)
+either_stands (Some q) true p = refl
+either_stands (Some q) false p = refl
+either_stands None true p = refl
+either_stands None false p = refl
 
 types_next : (met : List (ℕ × Part)) (before : List ℕ) (f : ℕ × Part) → ((k : ℕ) → stands (first_of k met) ≡ stood k before)
     → (k : ℕ) → stands (first_of k (met ++ (f ∷ []))) ≡ stood k (f.0 ∷ before)
@@ -185,9 +184,9 @@ unfolding stood first_of
 types_next met before f m k =
     rw (first_snoc k met f) (either_stands (first_of k met) (eqb f.0 k) f.1 ∙ ap (λ (t : Bool). eqb f.0 k || t) (m k))
 
-not_found : (x : Found) → stands x ≡ false → x ≡ Nothing
-not_found (Value p) e = absurd (true≢false e)
-not_found Nothing e = refl
+not_found : (x : Option Part) → stands x ≡ false → x ≡ None
+not_found (Some p) e = absurd (true≢false e)
+not_found None e = refl
 
 -- one field more that was met
 regroup : (met : List (ℕ × Part)) (f : ℕ × Part) (o : Outcome (List (ℕ × Part)))
@@ -196,10 +195,10 @@ regroup met f (ok fs) = ap (λ (l : List (ℕ × Part)). ok l) (sym (append_asso
 regroup met f (refused w) = refl
 
 -- a field that is kept
-pub kept_to_next : {sizes : Ranks} {c : FieldCursor} {s : List ℕ} {here : FieldCursor} {places : List Found}
+pub kept_to_next : {sizes : Ranks} {c : FieldCursor} {s : List ℕ} {here : FieldCursor} {places : List (Option Part)}
     (st : KeptTo sizes c s here places)
     → (f : ℕ × Part) (next : FieldCursor) → field_step here s ≡ ok (item f next) → stands_behind sizes c.columns s st.before f ≡ true
-    → KeptTo sizes c s next (set places f.0 (Value f.1))
+    → KeptTo sizes c s next (set places f.0 (Some f.1))
 kept_to_next {sizes} {c} {s} {here} {places} st f next e k =
     let w = field_stepped here s f next e in
     let t : keep_from sizes c s st.before here.at ≡ after (keep_from sizes c s (f.0 ∷ st.before) next.at) (λ fs. ok (f ∷ fs)) =
@@ -208,7 +207,7 @@ kept_to_next {sizes} {c} {s} {here} {places} st f next e k =
     record {
       met = st.met ++ (f ∷ []);
       before = f.0 ∷ st.before;
-      size = length-set places f.0 (Value f.1) ∙ st.size;
+      size = length-set places f.0 (Some f.1) ∙ st.size;
       noted = noted_next places st.met f st.size (kind_low here s f next e) z st.noted;
       types = types_next st.met st.before f st.types;
       numeric = w.1 ∙ st.numeric;
@@ -223,7 +222,7 @@ abbrev pub handed : Part → Outcome (List (ℕ × Part)) → Outcome KeptFields
 handed bits o = after o (λ fs. ok (kept_by bits (λ k. first_of k fs)))
 
 -- one is not
-pub kept_to_refused : {sizes : Ranks} {c : FieldCursor} {s : List ℕ} {here : FieldCursor} {places : List Found}
+pub kept_to_refused : {sizes : Ranks} {c : FieldCursor} {s : List ℕ} {here : FieldCursor} {places : List (Option Part)}
     (st : KeptTo sizes c s here places) (bits : Part)
     → (f : ℕ × Part) (next : FieldCursor) → field_step here s ≡ ok (item f next) → stands_behind sizes c.columns s st.before f ≡ false
     → handed bits (keep_fields sizes c s) ≡ refuse 7 here.at
@@ -233,7 +232,7 @@ kept_to_refused {sizes} {c} {s} {here} st bits f next e k =
     rw x
 
 -- no field: a refusal of the walk, or the end
-pub kept_to_broken : {sizes : Ranks} {c : FieldCursor} {s : List ℕ} {here : FieldCursor} {places : List Found}
+pub kept_to_broken : {sizes : Ranks} {c : FieldCursor} {s : List ℕ} {here : FieldCursor} {places : List (Option Part)}
     → KeptTo sizes c s here places → (bits : Part)
     → (w : Refusal) → field_step here s ≡ refused w → handed bits (keep_fields sizes c s) ≡ refused w
 kept_to_broken {sizes} {c} {s} {here} st bits w e =
@@ -241,9 +240,9 @@ kept_to_broken {sizes} {c} {s} {here} st bits w e =
     let x : keep_fields sizes c s ≡ refused w = st.rest ∙ rw (keep_turn sizes c s st.before here.at, y) in
     rw x
 
-pub kept_to_end : {sizes : Ranks} {c : FieldCursor} {s : List ℕ} {here : FieldCursor} {places : List Found} → KeptTo sizes c s here places
+pub kept_to_end : {sizes : Ranks} {c : FieldCursor} {s : List ℕ} {here : FieldCursor} {places : List (Option Part)} → KeptTo sizes c s here places
     → (bits : Part)
-    → field_step here s ≡ ok end → handed bits (keep_fields sizes c s) ≡ ok (kept_by bits (λ k. get_or places k Nothing))
+    → field_step here s ≡ ok end → handed bits (keep_fields sizes c s) ≡ ok (kept_by bits (λ k. get_or places k None))
 kept_to_end {sizes} {c} {s} {here} st bits e =
     let y : step_at c s here.at ≡ ok end = rw (← st.numeric, ← st.columns) (field_ended here s e) in
     let x : keep_fields sizes c s ≡ ok st.met =

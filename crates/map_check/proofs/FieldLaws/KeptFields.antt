@@ -1,5 +1,6 @@
 -- What the fields are that were kept: all those of a walk that ends whole, each known and with its contents in full, behind fields of other
 -- types and of none that is its rival. Assumes nothing.
+use Rattle.std.specs.Prelude.{None, Some}
 use Prim.Native.Nat.{ℕ, zero, suc, ◌-◌}
 use mathlib.Core.Path.{◌≡◌, refl, sym, subst}
 use mathlib.Core.Bool.{true, false, ◌&&◌, not}
@@ -18,7 +19,6 @@ use Rattle.table_map.specs.Fields.{is_field, field_item}
 use Rattle.table_map.proofs.Steps.{item_read}
 use Rattle.table_map.proofs.Optional.{field_read}
 use Rattle.map_check.specs.declared.rank.Ranks.{Ranks}
-use Rattle.map_check.specs.declared.found.Found.TheVariants.{Value, Nothing}
 use Rattle.map_check.specs.Contents.{contents_full}
 use Rattle.map_check.specs.Fields.{stood, rival_of, stands_given, stands_behind, keep, keep_steps, keep_fields, first_of}
 use Rattle.map_check.specs.Inner.Fields.{fields_from}
@@ -56,7 +56,7 @@ kept_says sizes c (suc m) s before at fs e =
     go again (ok end) x y =
         subst (λ (gs : List (ℕ × Part)). Says sizes c s before gs (record { items = []; how = whole })) (same_ok y)
         (record { fields = none before; items = refl; how = refl })
-    go again (ok (item f next)) x y =
+    go again (ok (Some (f, next))) x y =
         by_test (stands_behind sizes c.columns s before f) _ _ _ y
         (λ t u.
         let z = after_is_ok (rest f.0 next) (λ gs. ok (f ∷ gs)) fs u in
@@ -97,14 +97,14 @@ fits sizes n s before f e =
     record { first = not-true _ x.0; alone = not-true _ y.0; contents = y.1 }
 
 -- ---- the contents of the field that is found
-pub same_value : {p q : Part} → Value p ≡ Value q → p ≡ q
+pub same_value : {p q : Part} → Some p ≡ Some q → p ≡ q
 same_value e = cc
 
-pub nothing_not_value : {p : Part} → Nothing ≡ Value p → ⊥
+pub nothing_not_value : {p : Part} → None ≡ Some p → ⊥
 nothing_not_value e = let z : ◌≡◌ {A = ℕ} 0 1 = cc in omega arith
 
 first_full : (sizes : Ranks) (n : ℕ) (s before : List ℕ) (fs : List (ℕ × Part)) → Kept sizes n s before fs → (kind : ℕ) (p : Part)
-    → first_of kind fs ≡ Value p → contents_full sizes n kind (lent_part s p) ≡ true
+    → first_of kind fs ≡ Some p → contents_full sizes n kind (lent_part s p) ≡ true
 unfolding first_of
 first_full sizes n s before [] (none b) kind p e = absurd (nothing_not_value e)
 first_full sizes n s before (f ∷ fs) (more b g gs known k rest) kind p e =
@@ -117,5 +117,5 @@ first_full sizes n s before (f ∷ fs) (more b g gs known k rest) kind p e =
 
 pub kept_first : (sizes : Ranks) (c : FieldCursor) (s : List ℕ) (fs : List (ℕ × Part)) → keep_fields sizes c s ≡ ok fs
     → (kind : ℕ) (p : Part)
-    → first_of kind fs ≡ Value p → contents_full sizes c.columns kind (lent_part s p) ≡ true
+    → first_of kind fs ≡ Some p → contents_full sizes c.columns kind (lent_part s p) ≡ true
 kept_first sizes c s fs e kind p v = first_full sizes c.columns s [] fs (kept_fields sizes c s fs e) kind p v

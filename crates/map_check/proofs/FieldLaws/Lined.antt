@@ -1,4 +1,5 @@
 -- Columns and fields, one behind the other in the bytes: those that are taken, and those that are kept. Assumes nothing.
+use Rattle.std.specs.Prelude.{None, Option, Some}
 use Prim.Native.Nat.{ℕ, zero, suc, ◌+◌, ◌-◌, ◌≤◌, ◌<◌}
 use mathlib.Core.Path.{◌≡◌, refl, sym, ap, subst, ◌∙◌}
 use mathlib.Core.Logic.{dite}
@@ -27,8 +28,6 @@ use Rattle.table_map.proofs.Steps.{step_end}
 use Rattle.table_map.proofs.Optional.{value_lent, field_read, field_moves}
 use Rattle.map_check.specs.declared.declare.Declared.{Declared}
 use Rattle.map_check.specs.declared.rank.Ranks.{Ranks}
-use Rattle.map_check.specs.declared.found.Found.{Found}
-use Rattle.map_check.specs.declared.found.Found.TheVariants.{Value, Nothing}
 use Rattle.map_check.specs.Columns.{meta_bytes, meta_byte, declared, is_accepted, take_column, take_columns}
 use Rattle.map_check.specs.Contents.{is_whole, key_item, contents_full}
 use Rattle.map_check.specs.Fields.{stood, rival_of, stands_given, keep_steps, keep_fields, first_of}
@@ -132,7 +131,7 @@ no_member (here q) e = let z = ap length e in omega arith
 no_member (later m) e = let z = ap length e in omega arith
 
 -- the first of a type, and one that stands
-pub found_member : (s : List ℕ) (fs : List (ℕ × Part)) (kind : ℕ) (p : Part) → first_of kind fs ≡ Value p
+pub found_member : (s : List ℕ) (fs : List (ℕ × Part)) (kind : ℕ) (p : Part) → first_of kind fs ≡ Some p
     → Member (kind, lent_part s p) (bare s fs)
 unfolding first_of
 found_member s [] kind p e = absurd (nothing_not_value e)
@@ -147,7 +146,7 @@ found_member s (f ∷ fs) kind p e =
 
 pub member_found : (s : List ℕ) (fs : List (ℕ × Part)) (kind : ℕ) (value : List ℕ) → Distinct (firsts (bare s fs))
     → Member (kind, value) (bare s fs)
-    → (p : Part) × (first_of kind fs ≡ Value p) × (lent_part s p ≡ value)
+    → (p : Part) × (first_of kind fs ≡ Some p) × (lent_part s p ≡ value)
 unfolding first_of Distinct
 member_found s [] kind value d x'' = elim x'' [ ]
 member_found s (f ∷ fs) kind value d (here q) = (
@@ -160,16 +159,16 @@ member_found s (f ∷ fs) kind value d (later m) =
     let y = member_found s fs kind value d.1 m in
     (y.0, rw (ne_eqb f.0 kind n) y.1, y.2)
 
-pub nothing_absent : (s : List ℕ) (fs : List (ℕ × Part)) (kind : ℕ) → Distinct (firsts (bare s fs)) → first_of kind fs ≡ Nothing
+pub nothing_absent : (s : List ℕ) (fs : List (ℕ × Part)) (kind : ℕ) → Distinct (firsts (bare s fs)) → first_of kind fs ≡ None
     → Absent kind (bare s fs)
 nothing_absent s fs kind d e value m = nothing_not_value (sym e ∙ (member_found s fs kind value d m).1)
 
-pub absent_nothing : (s : List ℕ) (fs : List (ℕ × Part)) (kind : ℕ) → Absent kind (bare s fs) → first_of kind fs ≡ Nothing
+pub absent_nothing : (s : List ℕ) (fs : List (ℕ × Part)) (kind : ℕ) → Absent kind (bare s fs) → first_of kind fs ≡ None
 absent_nothing s fs kind a = go (first_of kind fs) refl
   where
-    go : (o : Found) → first_of kind fs ≡ o → o ≡ Nothing
-    go Nothing e = refl
-    go (Value p) e = absurd (a (lent_part s p) (found_member s fs kind p e))
+    go : (o : Option Part) → first_of kind fs ≡ o → o ≡ None
+    go None e = refl
+    go (Some p) e = absurd (a (lent_part s p) (found_member s fs kind p e))
 
 -- ---- fields that a walk cut out
 laid_fields : (numeric columns : ℕ) {s : List ℕ} {at to : ℕ} {fs : List (ℕ × Part)} → Between (field_item numeric columns) s at to fs
@@ -236,7 +235,7 @@ not_both t one other n r u v w a b = one_alone t n r u (first_member a) (first_m
 
 -- so keys with prefix stand without simple ones
 pub prefixed_alone : (sizes : Ranks) (c : FieldCursor) (s : List ℕ) (fs : List (ℕ × Part)) → keep_fields sizes c s ≡ ok fs → (p : Part)
-    → first_of 9 fs ≡ Value p → first_of 8 fs ≡ Nothing
+    → first_of 9 fs ≡ Some p → first_of 8 fs ≡ None
 unfolding rival_of
 prefixed_alone sizes c s fs e p f =
     absent_nothing s fs 8 (λ v m.
@@ -248,7 +247,7 @@ keyed : (paired : Bool) (s : List ℕ) (fs : List (ℕ × Part)) (kind : ℕ) �
     → Distinct (walk_items (key_item paired) value 0).items
 keyed paired s fs kind e d value m =
     let y = member_found s fs kind value d m in
-    let z = subst (λ (f : Found). once_in paired s f ≡ ok tt) y.1 e in
+    let z = subst (λ (f : Option Part). once_in paired s f ≡ ok tt) y.1 e in
     subst (λ (v : List ℕ). Distinct (walk_items (key_item paired) v 0).items) y.2
     (once_distinct paired y.0.start (lent_part s y.0) z)
 
@@ -257,9 +256,9 @@ keys_once_lem : (paired : Bool) (s : List ℕ) (fs : List (ℕ × Part)) (kind :
     → once_in paired s (first_of kind fs) ≡ ok tt
 keys_once_lem paired s fs kind h = go (first_of kind fs) refl
   where
-    go : (o : Found) → first_of kind fs ≡ o → once_in paired s o ≡ ok tt
-    go (Value p) e = distinct_once paired p.start (lent_part s p) (h (lent_part s p) (found_member s fs kind p e))
-    go Nothing e = refl
+    go : (o : Option Part) → first_of kind fs ≡ o → once_in paired s o ≡ ok tt
+    go (Some p) e = distinct_once paired p.start (lent_part s p) (h (lent_part s p) (found_member s fs kind p e))
+    go None e = refl
 
 pub bare_member : (s : List ℕ) {f : ℕ × Part} {fs : List (ℕ × Part)} → Member f fs → Member (f.0, lent_part s f.1) (bare s fs)
 bare_member s (here q) = here (ap (λ (x : ℕ × Part). (x.0, lent_part s x.1)) q)

@@ -1,4 +1,5 @@
 -- When a field is refused, and when a key is: what the check tells of them is what is so, and what is so it tells. Assumes nothing.
+use Rattle.std.specs.Prelude.{None, Option, Some}
 use Prim.Native.Nat.{ℕ, zero, suc, ◌+◌, ◌-◌, ◌≤◌, ◌<◌}
 use mathlib.Core.Path.{◌≡◌, refl, sym, ap, subst, ◌∙◌}
 use mathlib.Core.Bool.{Bool, true, false, cond, ◌&&◌, ◌||◌, not, true≢false}
@@ -34,8 +35,6 @@ use Rattle.table_map.proofs.Optional.{cut_read, field_read, signs_there, visible
 use Rattle.record.specs.Records.{most_columns}
 use Rattle.map_check.specs.declared.declare.Declared.{Declared}
 use Rattle.map_check.specs.declared.rank.Ranks.{Ranks}
-use Rattle.map_check.specs.declared.found.Found.{Found}
-use Rattle.map_check.specs.declared.found.Found.TheVariants.{Value, Nothing}
 use Rattle.map_check.specs.Columns.{take_columns}
 use Rattle.map_check.specs.Ranks.{ranks_from, sizes_of}
 use Rattle.map_check.specs.Contents.{contents_full}
@@ -252,7 +251,7 @@ step_refuses Comes Fault numeric columns s o before u h wrong w e =
 
 -- ---- keys: a field that stands among others of which no type stands twice is the first of its type
 member_first : (s : List ℕ) (fs : List (ℕ × Part)) (kind : ℕ) (p : Part) → Distinct (firsts (bare s fs)) → Member (kind, p) fs
-    → first_of kind fs ≡ Value p
+    → first_of kind fs ≡ Some p
 unfolding first_of Distinct
 member_first s [] kind p d x'' = elim x'' [ ]
 member_first s (f ∷ fs) kind p d (here q) =
@@ -265,7 +264,7 @@ member_first s (f ∷ fs) kind p d (later m) =
 
 -- the first key that repeats one is told
 once_refused : (paired : Bool) (s : List ℕ) (p : Part) (q : ℕ) → Repeats paired (lent_part s p) q
-    → once_in paired s (Value p) ≡ refuse 7 (p.start + q)
+    → once_in paired s (Some p) ≡ refuse 7 (p.start + q)
 once_refused paired s p q r =
     let items = keys_from paired (lent_part s p) 0 in
     let x : Repeat items r.j =
@@ -273,7 +272,7 @@ once_refused paired s p q r =
     repeat_refused p.start items r.j x ∙ ap (λ (i : ℕ). refuse 7 (p.start + i)) r.stands
 
 keys_refused : (paired : Bool) (s : List ℕ) (sizes : Ranks) (c : FieldCursor) (fs : List (ℕ × Part)) (p : Part) (q : ℕ)
-    → keep_fields sizes c s ≡ ok fs → first_of (keys_field paired) fs ≡ Value p → Repeats paired (lent_part s p) q
+    → keep_fields sizes c s ≡ ok fs → first_of (keys_field paired) fs ≡ Some p → Repeats paired (lent_part s p) q
     → keys_hold s fs ≡ refuse 7 (p.start + q)
 unfolding keys_hold
 keys_refused false s sizes c fs p q k v r = rw (v, once_refused false s p q r)
@@ -358,7 +357,7 @@ module _ {d : Dialect} {cs : List Declared} {c : FieldCursor} (n : Counted d cs 
           → keep (λ k q. keep_steps m (sizes_of d cs) c s (k ∷ before) q) (stands_behind (sizes_of d cs) c.columns s before) o x ≡ refused w
           → Told s (Stand s (Breaks d cs) from) (Breaks d cs) w
       go again (ok end) x y = absurd (ok_not_refused y)
-      go again (ok (item f q)) x y =
+      go again (ok (Some (f, q))) x y =
           let a = field_met c.numeric c.columns s o f q x in
           by_test (stands_behind (sizes_of d cs) c.columns s before f) _ _ _ y
           (λ t z.
@@ -399,7 +398,7 @@ module _ {d : Dialect} {cs : List Declared} {c : FieldCursor} (n : Counted d cs 
   record AllStand (from : ℕ) (fs : List (ℕ × Part)) : Type 0 where
     types : List ℕ
     stand : Stand s (Breaks d cs) from (length s) types
-    found : (kind : ℕ) (p : Part) → first_of kind fs ≡ Value p → FoundAt from kind p
+    found : (kind : ℕ) (p : Part) → first_of kind fs ≡ Some p → FoundAt from kind p
 
   kept_stand : (m : ℕ) {from o : ℕ} {before : List ℕ} (fs : List (ℕ × Part)) → length s - o < m → o ≤ length s
       → Stand s (Breaks d cs) from o before → keep_steps m (sizes_of d cs) c s before o ≡ ok fs → AllStand from fs
@@ -422,7 +421,7 @@ module _ {d : Dialect} {cs : List Declared} {c : FieldCursor} (n : Counted d cs 
             stand = subst (λ (p : ℕ). Stand s (Breaks d cs) from p before) q u;
             found = λ k p f. absurd (nothing_not_value f);
           })
-      go again (ok (item f q)) x y =
+      go again (ok (Some (f, q))) x y =
           let a = field_met c.numeric c.columns s o f q x in
           let i = item_read rule s o f q x in
           let j = (field_moves c.numeric c.columns).moves s o f q i.1 in
@@ -472,9 +471,9 @@ module _ {d : Dialect} {cs : List Declared} {c : FieldCursor} (n : Counted d cs 
     pub repeats : Repeats paired (take len (drop start s)) at
     pub told : w ≡ why 7 (start + at)
 
-  once_told : {from : ℕ} {fs : List (ℕ × Part)} → AllStand from fs → (paired : Bool) (w : Refusal) (f : Found)
+  once_told : {from : ℕ} {fs : List (ℕ × Part)} → AllStand from fs → (paired : Bool) (w : Refusal) (f : Option Part)
       → first_of (keys_field paired) fs ≡ f → once_in paired s f ≡ refused w → KeyTold from w
-  once_told {from} {fs} a paired w (Value p) e h =
+  once_told {from} {fs} a paired w (Some p) e h =
       let f = a.found (keys_field paired) p e in
       let l : lent_part s p ≡ take p.len (drop p.start s) = lent_is s p f.fits in
       let ks = keys_from paired (take p.len (drop p.start s)) 0 in
@@ -504,7 +503,7 @@ module _ {d : Dialect} {cs : List Declared} {c : FieldCursor} (n : Counted d cs 
         };
         told = x.2;
       }
-  once_told a paired w Nothing e h = absurd (ok_not_refused h)
+  once_told a paired w None e h = absurd (ok_not_refused h)
 
   pub key_refuses : (w : Refusal) {from : ℕ} (fs : List (ℕ × Part)) → from ≤ length s → keep_here [] from ≡ ok fs → keys_hold s fs ≡ refused w
       → KeyTold from w
@@ -535,7 +534,8 @@ module _ {d : Dialect} {cs : List Declared} {c : FieldCursor} (n : Counted d cs 
       let z = after_is_ok (keep_here (get_or s o 0 ∷ before) (start + len)) (λ gs. ok ((get_or s o 0, part start len) ∷ gs)) x.0 y in
       (z.0, z.1, λ f m. x.2 f (behind f z.0 x.0 z.2 m))
     where
-      behind : (f : ℕ × Part) (gs hs : List (ℕ × Part)) → ok ((get_or s o 0, part start len) ∷ gs) ≡ ok hs → Member f gs → Member f hs
+      behind : (f : ℕ × Part) (gs hs : List (ℕ × Part)) → ◌≡◌ {A = Outcome (List (ℕ × Part))} (ok ((get_or s o 0, part start len) ∷ gs)) (ok hs) → Member f gs
+          → Member f hs
       behind f gs hs e m = subst (Member f) (same_ok e) (later m)
 
   field_among : {from o len start : ℕ} {before : List ℕ} (fs : List (ℕ × Part)) → Stand s (Breaks d cs) from o before
@@ -552,7 +552,8 @@ module _ {d : Dialect} {cs : List Declared} {c : FieldCursor} (n : Counted d cs 
       x.2 (get_or s o 0, part start len) (at_front w.0 x.0 w.2))
       (λ t z. absurd (ok_not_refused (sym z)))
     where
-      at_front : (gs hs : List (ℕ × Part)) → ok ((get_or s o 0, part start len) ∷ gs) ≡ ok hs → Member (get_or s o 0, part start len) hs
+      at_front : (gs hs : List (ℕ × Part)) → ◌≡◌ {A = Outcome (List (ℕ × Part))} (ok ((get_or s o 0, part start len) ∷ gs)) (ok hs)
+          → Member (get_or s o 0, part start len) hs
       at_front gs hs e = subst (Member (get_or s o 0, part start len)) (same_ok e) (here refl)
 
   -- so the first key that repeats one is told
@@ -613,7 +614,7 @@ module _ (numeric n : ℕ) (s : List ℕ) (from : ℕ) where
   Comes o before = Stand s (WalkBreaks numeric n) from o before × (Member 4 before → ⊥)
 
   walk_refuses : (m o : ℕ) (before : List ℕ) (w : Refusal) → o ≤ length s → Comes o before
-      → first_of 4 (walk_steps m (field_item numeric n) s o).items ≡ Nothing → (walk_steps m (field_item numeric n) s o).how ≡ broken w
+      → first_of 4 (walk_steps m (field_item numeric n) s o).items ≡ None → (walk_steps m (field_item numeric n) s o).how ≡ broken w
       → Told s Comes (WalkBreaks numeric n) w
   unfolding walk_steps first_of
   walk_refuses zero o before w h u f e = absurd (whole_not_broken e)
@@ -625,12 +626,12 @@ module _ (numeric n : ℕ) (s : List ℕ) (from : ℕ) where
       rule : Rule (ℕ × Part)
       rule = field_item numeric n
 
-      go : ((q : ℕ) → q ≤ length s → Comes q (kind ∷ before) → first_of 4 (walk_steps m rule s q).items ≡ Nothing
+      go : ((q : ℕ) → q ≤ length s → Comes q (kind ∷ before) → first_of 4 (walk_steps m rule s q).items ≡ None
           → (walk_steps m rule s q).how ≡ broken w → Told s Comes (WalkBreaks numeric n) w)
-          → (x : Outcome (Stepped (ℕ × Part) ℕ)) → step rule s o ≡ x → first_of 4 (items_onward (walk_steps m rule s) x).items ≡ Nothing
+          → (x : Outcome (Stepped (ℕ × Part) ℕ)) → step rule s o ≡ x → first_of 4 (items_onward (walk_steps m rule s) x).items ≡ None
           → (items_onward (walk_steps m rule s) x).how ≡ broken w → Told s Comes (WalkBreaks numeric n) w
       go again (ok end) x f y = absurd (whole_not_broken y)
-      go again (ok (item g q)) x f y =
+      go again (ok (Some (g, q))) x f y =
           let a = field_met numeric n s o g q x in
           by_test (eqb g.0 4) _ _ _ f (λ t z. absurd (nothing_not_value (sym z)))
           (λ t z.

@@ -1,9 +1,11 @@
 -- The names of columns: a turn of the loop over the list that is looked at, and of the loop over a map's fields that looks for its names.
 -- Assumes nothing.
+use Rattle.std.specs.Result.{IsErrAnd}
+use Rattle.std.proofs.lemmas.Result.{err_from_is_err_and}
+use Rattle.std.specs.Prelude.{None, Option, Some}
 use Prim.Native.Nat.{ℕ, zero, suc, ◌-◌, ◌≤◌, ◌<◌}
 use mathlib.Core.Path.{◌≡◌, refl, ap, ◌∙◌}
 use mathlib.Core.List.{List, []}
-use mathlib.Core.Option.{Option, none, some}
 use native.Mathlib.Omega.{arith}
 use borrow.Author.Tests.{eq-eqb, ne_eqb}
 use lib.ListN.{length, get_or}
@@ -22,13 +24,15 @@ use Rattle.table_map.proofs.Steps.{step_end}
 use Rattle.table_map.proofs.Items.{string_moves}
 use Rattle.table_map.proofs.Walks.{walk_steps_lem}
 use Rattle.table_map.proofs.Optional.{field_stepped, field_ended, field_broken, field_moves}
-use Rattle.map_check.specs.declared.found.Found.{Found}
-use Rattle.map_check.specs.declared.found.Found.TheVariants.{Value, Nothing}
 use Rattle.map_check.specs.Ranks.{table_place}
 use Rattle.map_check.specs.Fields.{first_of, fields_at, walk_fields}
 use Rattle.map_check.specs.Names.{list_of, string_at, column_name, or_ended, names_in, names_field}
 use Rattle.map_check.specs.Passes.{Between, none as no_item, more as one_item, ItemsAre}
 use Rattle.map_check.proofs.ContentsLaws.Tallies.{item_stepped, refusal_stepped}
+
+-- what `?` hands on
+pub handed_on : {A : Type 0} {r : Outcome A} {w : Refusal} → IsErrAnd r (λ v. v ≡ w) → r ≡ refused w
+handed_on {A} {r} {w} h = let p = err_from_is_err_and r h in rw (p.1, p.2)
 
 -- ---- a string, `left` strings before the one asked
 pub looks_found : (left asked : ℕ) (s : List ℕ) (at : ℕ) (p : Part) (next : ℕ) → left ≡ 0 → step string_item s at ≡ ok (item p next)
@@ -106,7 +110,7 @@ fields_turn : (c : FieldCursor) (s : List ℕ)
 fields_turn c s = walk_steps_lem (field_item c.numeric c.columns) (field_moves c.numeric c.columns) s c.at
 
 pub names_met : (c : FieldCursor) (s : List ℕ) (f : ℕ × Part) (next : FieldCursor) → field_step c s ≡ ok (item f next) → f.0 ≡ 4
-    → names_in (walk_fields c s) ≡ ok (some f.1)
+    → names_in (walk_fields c s) ≡ ok (Some f.1)
 unfolding first_of
 names_met c s f next e k = ap names_in (fields_turn c s) ∙ rw ((field_stepped c s f next e).0, eq-eqb f.0 4 k)
 
@@ -117,7 +121,7 @@ names_later c s f next e k =
     let w = field_stepped c s f next e in
     ap names_in (fields_turn c s) ∙ rw (w.0, w.1, w.2, ne_eqb f.0 4 k)
 
-pub names_absent : (c : FieldCursor) (s : List ℕ) → field_step c s ≡ ok end → names_in (walk_fields c s) ≡ ok none
+pub names_absent : (c : FieldCursor) (s : List ℕ) → field_step c s ≡ ok end → names_in (walk_fields c s) ≡ ok None
 unfolding first_of
 names_absent c s e = ap names_in (fields_turn c s) ∙ rw (field_ended c s e)
 
@@ -129,18 +133,18 @@ names_refused c s w e = ap names_in (fields_turn c s) ∙ rw (field_broken c s w
 pub names_broken : (w : ItemsWalked (ℕ × Part)) (v : Refusal) → names_in w ≡ refused v → w.how ≡ broken v
 names_broken w v e = go (first_of 4 w.items) w.how e
   where
-    go : (f : Found) (how : Ended) → or_ended f how ≡ refused v → how ≡ broken v
-    go (Value p) how e = absurd (ok_not_refused e)
-    go Nothing whole e = absurd (ok_not_refused e)
-    go Nothing (broken r) e = ap broken (same_refused e)
+    go : (f : Option Part) (how : Ended) → or_ended f how ≡ refused v → how ≡ broken v
+    go (Some p) how e = absurd (ok_not_refused e)
+    go None whole e = absurd (ok_not_refused e)
+    go None (broken r) e = ap broken (same_refused e)
 
 -- and before it no names were met
-pub names_unmet : (w : ItemsWalked (ℕ × Part)) (v : Refusal) → names_in w ≡ refused v → first_of 4 w.items ≡ Nothing
+pub names_unmet : (w : ItemsWalked (ℕ × Part)) (v : Refusal) → names_in w ≡ refused v → first_of 4 w.items ≡ None
 names_unmet w v e = go (first_of 4 w.items) w.how e
   where
-    go : (f : Found) (how : Ended) → or_ended f how ≡ refused v → f ≡ Nothing
-    go (Value p) how e = absurd (ok_not_refused e)
-    go Nothing how e = refl
+    go : (f : Option Part) (how : Ended) → or_ended f how ≡ refused v → f ≡ None
+    go (Some p) how e = absurd (ok_not_refused e)
+    go None how e = refl
 
 pub same_broken : {v w : Refusal} → broken v ≡ broken w → v ≡ w
 same_broken e = cc

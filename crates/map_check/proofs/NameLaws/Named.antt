@@ -1,8 +1,8 @@
 -- Names and fields, computed on the definitions. Assumes nothing.
+use Rattle.std.specs.Prelude.{None, Some}
 use Prim.Native.Nat.{ℕ}
 use mathlib.Core.Path.{◌≡◌, refl}
 use mathlib.Core.List.{List, [], ◌∷◌}
-use mathlib.Core.Option.{none, some}
 use Rattle.wire.specs.Outcome.{ok, refuse}
 use Rattle.wire.specs.Packed.{read_packed, packed_form}
 use Rattle.wire.specs.Number.{le_value}
@@ -75,17 +75,17 @@ event kind optional = 1 ∷ 0 ∷ 0 ∷ 0 ∷ 0 ∷ 0 ∷ 1 ∷ 0 ∷ 1 ∷ 0x74
 
 record NamesFields : Type 0 where
   -- behind another field
-  found : names_field Document (event 1 (1 ∷ 1 ∷ 128 ∷ 4 ∷ 2 ∷ 1 ∷ 97 ∷ [])) 8 ≡ ok (some (part 23 2))
+  found : names_field Document (event 1 (1 ∷ 1 ∷ 128 ∷ 4 ∷ 2 ∷ 1 ∷ 97 ∷ [])) 8 ≡ ok (Some (part 23 2))
   -- a field that is there and has no bytes, and none
-  empty : names_field Document (event 1 (4 ∷ 0 ∷ [])) 8 ≡ ok (some (part 20 0))
-  absent : names_field Document (event 1 (1 ∷ 1 ∷ 128 ∷ [])) 8 ≡ ok none
+  empty : names_field Document (event 1 (4 ∷ 0 ∷ [])) 8 ≡ ok (Some (part 20 0))
+  absent : names_field Document (event 1 (1 ∷ 1 ∷ 128 ∷ [])) 8 ≡ ok None
   -- the first of two
-  first : names_field Document (event 1 (4 ∷ 0 ∷ 4 ∷ 2 ∷ 1 ∷ 97 ∷ [])) 8 ≡ ok (some (part 20 0))
+  first : names_field Document (event 1 (4 ∷ 0 ∷ 4 ∷ 2 ∷ 1 ∷ 97 ∷ [])) 8 ≡ ok (Some (part 20 0))
   -- a field of unknown type before it is a refusal, and one behind it is not looked at
   before : names_field Document (event 1 (14 ∷ 0 ∷ 4 ∷ 2 ∷ 1 ∷ 97 ∷ [])) 8 ≡ refuse 6 18
-  behind : names_field Document (event 1 (4 ∷ 2 ∷ 1 ∷ 97 ∷ 14 ∷ 0 ∷ [])) 8 ≡ ok (some (part 20 2))
+  behind : names_field Document (event 1 (4 ∷ 2 ∷ 1 ∷ 97 ∷ 14 ∷ 0 ∷ [])) 8 ≡ ok (Some (part 20 2))
   -- a YEAR has a signedness bit on a server and none by the letter, so in the wrong dialect its map is refused before its names
-  in_dialect : names_field Mysql (event 13 (1 ∷ 1 ∷ 128 ∷ 4 ∷ 2 ∷ 1 ∷ 97 ∷ [])) 8 ≡ ok (some (part 23 2))
+  in_dialect : names_field Mysql (event 13 (1 ∷ 1 ∷ 128 ∷ 4 ∷ 2 ∷ 1 ∷ 97 ∷ [])) 8 ≡ ok (Some (part 23 2))
   in_another : names_field Document (event 13 (1 ∷ 1 ∷ 128 ∷ 4 ∷ 2 ∷ 1 ∷ 97 ∷ [])) 8 ≡ refuse 7 18
   -- an event that is refused
   cut : names_field Document (1 ∷ 0 ∷ 0 ∷ []) 8 ≡ refuse 1 0

@@ -1,11 +1,11 @@
 -- The names of a map that is accepted: they are the value of its field 4, or there are none and no such field stands; and they are a list
 -- of a string for each column. Assumes nothing.
+use Rattle.std.specs.Prelude.{None, Option, Some}
 use Prim.Native.Nat.{ℕ, ◌+◌, ◌<◌}
 use mathlib.Core.Path.{◌≡◌, refl, sym, ap, subst, ◌∙◌}
 use mathlib.Core.Logic.{◌⊎◌, inl, inr}
 use mathlib.Core.Bool.{true}
 use mathlib.Core.List.{List, ◌∷◌}
-use mathlib.Core.Option.{Option, none, some}
 use native.Mathlib.Omega.{arith}
 use lib.ListN.{length, get_or, take, drop}
 use Rattle.wire.specs.Outcome.{Outcome, ok, after}
@@ -21,8 +21,6 @@ use Rattle.table_map.specs.Lists.{Ended, whole, walk_items, string_item}
 use Rattle.table_map.proofs.Items.{string_moves}
 use Rattle.record.specs.declared.entry.Entry.{Entry}
 use Rattle.map_check.specs.declared.rank.Ranks.{Ranks}
-use Rattle.map_check.specs.declared.found.Found.{Found}
-use Rattle.map_check.specs.declared.found.Found.TheVariants.{Value, Nothing}
 use Rattle.map_check.specs.Ranks.{table_place, sizes_of}
 use Rattle.map_check.specs.Contents.{whatever, contents_full}
 use Rattle.map_check.specs.Fields.{keep_fields, first_of, fields_at, walk_fields}
@@ -37,13 +35,13 @@ use Rattle.map_check.proofs.MapLaws.Relied.{Chain, chained}
 use Rattle.map_check.proofs.NameLaws.NameLooks.{laid_found, looks_names}
 
 -- ---- fields that are kept: the walk over them is whole, so the names are among them or there are none
-abbrev part_found : Found → Option Part
-part_found (Value p) = some p
-part_found Nothing = none
+abbrev part_found : Option Part → Option Part
+part_found (Some p) = Some p
+part_found None = None
 
-whole_found : (f : Found) → or_ended f whole ≡ ok (part_found f)
-whole_found (Value p) = refl
-whole_found Nothing = refl
+whole_found : (f : Option Part) → or_ended f whole ≡ ok (part_found f)
+whole_found (Some p) = refl
+whole_found None = refl
 
 names_kept : (sizes : Ranks) (c : FieldCursor) (s : List ℕ) (fs : List (ℕ × Part)) → keep_fields sizes c s ≡ ok fs
     → names_in (walk_fields c s) ≡ ok (part_found (first_of 4 fs))
@@ -81,31 +79,31 @@ fields_same {s} {at} (a_field {fs = fs} len start r w rest) (a_field {fs = gs} l
 -- ---- the names are known: the value of the field that stands, or none stands
 told_or_none : (s : List ℕ) (ps : List (ℕ × Part)) (o : Outcome (Option Part)) → Distinct (firsts (bare s ps))
     → o ≡ ok (part_found (first_of 4 ps))
-    → ((p : Part) × (o ≡ ok (some p)) × Member (4, lent_part s p) (bare s ps)) ⊎ ((o ≡ ok none) × Absent 4 (bare s ps))
+    → ((p : Part) × (o ≡ ok (Some p)) × Member (4, lent_part s p) (bare s ps)) ⊎ ((o ≡ ok None) × Absent 4 (bare s ps))
 told_or_none s ps o d n = go (first_of 4 ps) refl
   where
-    go : (f : Found) → first_of 4 ps ≡ f
-        → ((p : Part) × (o ≡ ok (some p)) × Member (4, lent_part s p) (bare s ps)) ⊎ ((o ≡ ok none) × Absent 4 (bare s ps))
-    go (Value p) e = inl (p, n ∙ ap (λ (f : Found). ok (part_found f)) e, found_member s ps 4 p e)
-    go Nothing e = inr (n ∙ ap (λ (f : Found). ok (part_found f)) e, nothing_absent s ps 4 d e)
+    go : (f : Option Part) → first_of 4 ps ≡ f
+        → ((p : Part) × (o ≡ ok (Some p)) × Member (4, lent_part s p) (bare s ps)) ⊎ ((o ≡ ok None) × Absent 4 (bare s ps))
+    go (Some p) e = inl (p, n ∙ ap (λ (f : Option Part). ok (part_found f)) e, found_member s ps 4 p e)
+    go None e = inr (n ∙ ap (λ (f : Option Part). ok (part_found f)) e, nothing_absent s ps 4 d e)
 
 pub accepted_known : (d : Dialect) (s : List ℕ) (post_header : ℕ) (e : Event) (es : List Entry) (fs : List Field)
     → read_event s post_header ≡ ok e → check_map d s post_header ≡ ok es → FieldsAre s e.optional.start fs
-    → ((p : Part) × (names_field d s post_header ≡ ok (some p)) × Member (4, lent_part s p) fs)
-    ⊎ ((names_field d s post_header ≡ ok none) × Absent 4 fs)
+    → ((p : Part) × (names_field d s post_header ≡ ok (Some p)) × Member (4, lent_part s p) fs)
+    ⊎ ((names_field d s post_header ≡ ok None) × Absent 4 fs)
 accepted_known d s post_header e es fs r h f =
     let x = tested d s post_header e es r h in
     let c = fields_at d (lent_part s e.types) e.optional.start in
     let y = kept_stood (sizes_of d x.columns) c s x.fields x.kept x.once in
     subst
-    (λ (l : List Field). ((p : Part) × (names_field d s post_header ≡ ok (some p)) × Member (4, lent_part s p) l)
-    ⊎ ((names_field d s post_header ≡ ok none) × Absent 4 l))
+    (λ (l : List Field). ((p : Part) × (names_field d s post_header ≡ ok (Some p)) × Member (4, lent_part s p) l)
+    ⊎ ((names_field d s post_header ≡ ok None) × Absent 4 l))
     (fields_same y.fields_are f) (told_or_none s x.fields (names_field d s post_header) y.once (names_of post_header r x))
 
 -- ---- and where they are told, they are a string for each column: that of column j is string j, whatever the operator's list is
-same_part : (f : Found) (p : Part) → part_found f ≡ some p → f ≡ Value p
-same_part (Value q) p e = let x : q ≡ p = cc in rw x
-same_part Nothing p e = let z : ◌≡◌ {A = ℕ} 0 1 = cc in absurd (omega arith)
+same_part : (f : Option Part) (p : Part) → part_found f ≡ Some p → f ≡ Some p
+same_part (Some q) p e = let x : q ≡ p = cc in rw x
+same_part None p e = let z : ◌≡◌ {A = ℕ} 0 1 = cc in absurd (omega arith)
 
 names_laid : (sizes : Ranks) (n : ℕ) (value : List ℕ) → contents_full sizes n 4 value ≡ true
     → (items : List Part) × ItemsAre string_item value items × (length items ≡ n)
@@ -115,7 +113,7 @@ names_laid sizes n value e =
     ((walk_items string_item value 0).items, y.0, y.1)
 
 pub accepted_named : (d : Dialect) (s : List ℕ) (post_header : ℕ) (e : Event) (es : List Entry) (p : Part)
-    → read_event s post_header ≡ ok e → check_map d s post_header ≡ ok es → names_field d s post_header ≡ ok (some p)
+    → read_event s post_header ≡ ok e → check_map d s post_header ≡ ok es → names_field d s post_header ≡ ok (Some p)
     → (items : List Part) × ItemsAre string_item (lent_part s p) items × (length items ≡ length (lent_part s e.types))
     × ((operator : List ℕ) (j : ℕ) → j < length items → column_name (lent_part s p) operator (table_place j) ≡ ok (get_or items j (part 0 0)))
 accepted_named d s post_header e es p r h n =

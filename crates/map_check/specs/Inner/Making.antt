@@ -1,23 +1,20 @@
 -- What the check keeps of the fields. Where the making of a record stands between two columns: a cursor in each class's charsets, so that a
 -- charset is found by one look; what holds there, and what is to come. Assumes nothing.
+use Rattle.std.specs.Prelude.{None, Option, Some}
 use Rattle.std.specs.Prelude.{ℕ, ◌+◌, ◌*◌, ◌≤◌, ◌≡◌, Bool, true, cond, List, ◌∷◌, length, get_or, drop, eqb}
 use Rattle.wire.specs.Outcome.{Outcome, ok, refused}
 use Rattle.wire.specs.Packed.{read_packed}
 use Rattle.wire.specs.declared.part.Part.{Part}
 use Rattle.wire.specs.Parts.{lent_part}
 use Rattle.value.specs.declared.classes.Dialect.{Dialect}
-use Rattle.table_map.specs.Lists.{Stepped, end, item, walk_items, integer_item, pair_item}
+use Rattle.table_map.specs.Lists.{Stepped, end, walk_items, integer_item, pair_item}
 use Rattle.record.specs.declared.entry.Entry.{Entry}
 use Rattle.record.specs.Records.{most_columns}
 use Rattle.map_check.specs.declared.contents.Meaning.TheVariants.{Charset}
 use Rattle.map_check.specs.declared.rank.Rank.{Rank}
-use Rattle.map_check.specs.declared.found.Found.{Found}
-use Rattle.map_check.specs.declared.found.Found.TheVariants.{Value, Nothing}
 use Rattle.map_check.specs.declared.facts.Facts.{Facts}
 use Rattle.map_check.specs.declared.facts.Charsets.{Charsets}
 use Rattle.map_check.specs.declared.facts.KeptFields.{KeptFields}
-use Rattle.map_check.specs.declared.field.FieldsKept.{FieldsKept}
-use Rattle.map_check.specs.declared.field.FieldsKept.TheVariants.{Kept, Refused}
 use Rattle.map_check.specs.declared.charset.CharsetCursor.{CharsetCursor}
 use Rattle.map_check.specs.declared.charset.CharsetTurn.{CharsetTurn}
 use Rattle.map_check.specs.declared.entries.Progress.{Progress}
@@ -30,7 +27,7 @@ use Rattle.map_check.specs.Fields.{value_in}
 use Rattle.map_check.specs.Profile.{pair_or, from_pairs, charset_by, entries_from}
 
 -- ---- the fields that are kept, as the check goes on with them; `at` tells where the value of each type stands
-abbrev pub kept_by : Part → (ℕ → Found) → KeptFields
+abbrev pub kept_by : Part → (ℕ → Option Part) → KeptFields
 kept_by bits at =
     record {
       simple = at 8;
@@ -44,16 +41,12 @@ kept_by bits at =
       };
     }
 
-abbrev pub kept_told : FieldsKept → Outcome KeptFields
-kept_told (Kept x) = ok x
-kept_told (Refused r) = refused r
-
 -- ---- the charsets of a class
 -- its fields are as the check lets them pass
 pub record ClassHolds (s : List ℕ) (class : Charsets) : Type 0 where
   pub size : ℕ
-  pub list : (p : Part) → class.list ≡ Value p → exactly integer_item (integer_holds Charset) size (lent_part s p) ≡ true
-  pub default : (p : Part) → class.default ≡ Value p → default_holds size (lent_part s p) ≡ true
+  pub list : (p : Part) → class.list ≡ Some p → exactly integer_item (integer_holds Charset) size (lent_part s p) ≡ true
+  pub default : (p : Part) → class.default ≡ Some p → default_holds size (lent_part s p) ≡ true
 
 -- a cursor, and a charset with the cursor for the next
 abbrev pub charset_cursor : ℕ → ℕ → CharsetCursor
@@ -70,13 +63,13 @@ behind_default (refused r) = charset_cursor 0 0
 -- the charset that a step in a list met
 abbrev pub list_turn : CharsetCursor → Outcome (Stepped ℕ ℕ) → CharsetTurn
 list_turn c (ok end) = charset_turn 0 c
-list_turn c (ok (item charset next)) = charset_turn charset (charset_cursor next c.default)
+list_turn c (ok (Some (charset, next))) = charset_turn charset (charset_cursor next c.default)
 list_turn c (refused r) = charset_turn 0 c
 
 -- the charset of a rank by the pair that a step met: if it is of a later rank, it is met again
 abbrev pub pair_turn : CharsetCursor → ℕ → Outcome (Stepped (ℕ × ℕ) ℕ) → CharsetTurn
 pair_turn c r (ok end) = charset_turn c.default c
-pair_turn c r (ok (item p next)) = cond (eqb p.0 r) (charset_turn p.1 (charset_cursor next c.default)) (charset_turn c.default c)
+pair_turn c r (ok (Some (p, next))) = cond (eqb p.0 r) (charset_turn p.1 (charset_cursor next c.default)) (charset_turn c.default c)
 pair_turn c r (refused w) = charset_turn c.default c
 
 -- the charset that stands at a place, if one does, is one of 16 bits: as an integer of a list or a default, and in a pair
@@ -98,9 +91,9 @@ pub record PairsLeft (value : List ℕ) (r : ℕ) (c : CharsetCursor) : Type 0 w
   pub size : ℕ
   pub rise : pairs_hold size r (walk_items pair_item value c.at).items ≡ true
 
-abbrev pub StandsIn : List ℕ → Found → Found → ℕ → CharsetCursor → Type 0
-StandsIn s default (Value p) r c = ListLeft (lent_part s p) r c
-StandsIn s default Nothing r c = PairsLeft (value_in s default) r c
+abbrev pub StandsIn : List ℕ → Option Part → Option Part → ℕ → CharsetCursor → Type 0
+StandsIn s default (Some p) r c = ListLeft (lent_part s p) r c
+StandsIn s default None r c = PairsLeft (value_in s default) r c
 
 abbrev pub Stands : List ℕ → Charsets → ℕ → CharsetCursor → Type 0
 Stands s class r c = StandsIn s class.default class.list r c

@@ -9,10 +9,10 @@ behind_default-requires c =
     (first_fits _ c.args.class.default c.requires.size
     c.requires.default)
 
-pub returns-in-Value : goal.returns-in-Value
-returns-in-Value c = first_in_list _ c.args.class _ c.in-Value.is c.requires
+pub returns-in-Some : goal.returns-in-Some
+returns-in-Some c = first_in_list _ c.args.class _ c.in-Some.is c.requires
 
-pub returns-in-Nothing : goal.returns-in-Nothing
-returns-in-Nothing c =
-    first_in_pairs _ c.args.class _ c.in-Nothing.is
+pub returns-in-None : goal.returns-in-None
+returns-in-None c =
+    first_in_pairs _ c.args.class _ c.in-None.is
     c.requires (c.behind_default.ensures ∙ rw c.value_in.ensures)

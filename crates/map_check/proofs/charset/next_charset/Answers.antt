@@ -7,24 +7,24 @@ pub next_listed-requires : goal.next_listed-requires
 next_listed-requires c =
     rw c.value_in.ensures
     (fits_in_list _ c.args.class.default c.args.class.list _
-    c.args.rank.0 c.args.cursor c.in-Value.is
+    c.args.rank.0 c.args.cursor c.in-Some.is
     c.requires)
 
 pub next_paired-requires : goal.next_paired-requires
 next_paired-requires c =
-    rw c.value_in-in-Nothing.ensures
+    rw c.value_in-in-None.ensures
     (fits_in_pairs _ c.args.class.default c.args.class.list
-    c.args.rank.0 c.args.cursor c.in-Nothing.is
+    c.args.rank.0 c.args.cursor c.in-None.is
     c.requires)
 
-pub returns-in-Value : goal.returns-in-Value
-returns-in-Value c =
+pub returns-in-Some : goal.returns-in-Some
+returns-in-Some c =
     taken_in_list _ c.args.class _ _ c.args.cursor _
-    c.in-Value.is c.requires
+    c.in-Some.is c.requires
     (c.next_listed.ensures ∙ rw c.value_in.ensures)
 
-pub returns-in-Nothing : goal.returns-in-Nothing
-returns-in-Nothing c =
+pub returns-in-None : goal.returns-in-None
+returns-in-None c =
     taken_in_pairs _ c.args.class _ c.args.cursor _
-    c.in-Nothing.is c.requires
-    (c.next_paired.ensures ∙ rw c.value_in-in-Nothing.ensures)
+    c.in-None.is c.requires
+    (c.next_paired.ensures ∙ rw c.value_in-in-None.ensures)

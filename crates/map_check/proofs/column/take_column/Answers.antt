@@ -24,9 +24,9 @@ returns-then-metadata-at c =
       c.refuse-then-metadata-at.ensures,
     ) refl
 
-pub returns-then-is_accepted : goal.returns-then-is_accepted
+pub returns-then-not-is_accepted : goal.returns-then-not-is_accepted
 unfolding take_column
-returns-then-is_accepted c =
+returns-then-not-is_accepted c =
     let a = c.args in
     let h : meta_bytes a.kind ≤ length (drop a.at a.metadata.now) =
     omega (
@@ -39,8 +39,10 @@ returns-then-is_accepted c =
       sym c.is_known.ensures
           ∙ c.if-not-is_known.false,
       le-leb _ _ h,
-      ap is_accepted (sym c.declare-said.ensures) ∙ sym c.is_accepted.ensures ∙ c.if-is_accepted.true,
-    ) (ap ok c.declare-said.ensures)
+      ap is_accepted (sym c.declare-said.ensures) ∙ sym c.is_accepted.ensures
+          ∙ c.if-not-is_accepted.true,
+      c.refuse-then-not-is_accepted.ensures,
+    ) refl
 
 pub returns : goal.returns
 unfolding take_column
@@ -57,7 +59,5 @@ returns c =
       sym c.is_known.ensures
           ∙ c.if-not-is_known.false,
       le-leb _ _ h,
-      ap is_accepted (sym c.declare-said.ensures) ∙ sym c.is_accepted.ensures
-          ∙ c.if-is_accepted.false,
-      c.refuse-2.ensures,
-    ) refl
+      ap is_accepted (sym c.declare-said.ensures) ∙ sym c.is_accepted.ensures ∙ c.if-not-is_accepted.false,
+    ) (ap ok c.declare-said.ensures)

@@ -1,10 +1,9 @@
 -- `map_check::keys::keys_below` meets its contract. Assumes nothing.
-use mathlib.Core.Path.{◌≡◌, refl, sym, ap, ◌∙◌}
+use mathlib.Core.Path.{◌≡◌, refl, sym, ◌∙◌}
 use native.Mathlib.Omega.{arith}
 use borrow.Author.Tests.{lt-ltb, le-ltb}
 use lib.Dec.{ltb}
 use lib.ListN.{length}
-use Rattle.wire.specs.Packed.{packed_told}
 use Rattle.table_map.proofs.Steps.{step_end}
 use Rattle.map_check.specs.Contents.{key_item}
 use Rattle.map_check.proofs.KeyLaws.KeyItems.{key_moves}
@@ -17,7 +16,7 @@ loop-at-init c = (omega arith, refl)
 pub returns-then-above-key : goal.returns-then-above-key
 returns-then-above-key c =
     let a = c.args in
-    let r = sym c.key_at.ensures ∙ ap packed_told c.in-Value.is in
+    let r = sym c.in-Ok.ensures in
     let e = item_stepped (key_item a.paired) _ _ _ _ c.loop-at-test.true r in
     rw (
       ← c.loop-at.invariant.1,
@@ -27,14 +26,14 @@ returns-then-above-key c =
 
 pub loop-at-smaller : goal.loop-at-smaller
 loop-at-smaller c =
-    let r = sym c.key_at.ensures ∙ ap packed_told c.in-Value.is in
+    let r = sym c.in-Ok.ensures in
     let m = (key_moves c.args.paired).moves _ _ _ _ r in
     omega (arith, m.0, m.1)
 
 pub loop-at-preserved : goal.loop-at-preserved
 loop-at-preserved c =
     let a = c.args in
-    let r = sym c.key_at.ensures ∙ ap packed_told c.in-Value.is in
+    let r = sym c.in-Ok.ensures in
     let e = item_stepped (key_item a.paired) _ _ _ _ c.loop-at-test.true r in (
       ((key_moves a.paired).moves _ _ _ _ r).1,
       rw (
@@ -44,10 +43,10 @@ loop-at-preserved c =
       ),
     )
 
-pub returns-in-Refused : goal.returns-in-Refused
-returns-in-Refused c =
+pub returns-in-Err : goal.returns-in-Err
+returns-in-Err c =
     let a = c.args in
-    let r = sym c.key_at.ensures ∙ ap packed_told c.in-Refused.is in
+    let r = sym c.in-Err.ensures in
     let e = refusal_stepped (key_item a.paired) _ _ _ c.loop-at-test.true r in
     sym (list_broken (key_item a.paired) _ (key_moves a.paired) _ _ _ e) ∙ c.loop-at.invariant.1
 

@@ -3,10 +3,10 @@ use Rattle.wire.proofs.Rules.{tests}
 use Rattle.map_check.specs.Names.{list_of}
 use Rattle.map_check.proofs.names.list_of.Goals as goal
 
-pub returns-then-names-eq0 : goal.returns-then-names-eq0
+pub returns-then-is_empty : goal.returns-then-is_empty
 unfolding list_of
-returns-then-names-eq0 c = search tests
+returns-then-is_empty c = search tests
 
-pub returns : goal.returns
+pub returns-else-is_empty : goal.returns-else-is_empty
 unfolding list_of
-returns c = search tests
+returns-else-is_empty c = search tests

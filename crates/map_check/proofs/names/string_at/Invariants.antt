@@ -8,7 +8,7 @@ use Rattle.map_check.specs.Names.{string_at}
 use Rattle.map_check.proofs.names.string_at.Given as goal
 
 abbrev pub invariant-loop-value : goal.invariant-loop-value
-invariant-loop-value l = string_at l.left l.asked l.list l.strings.at ≡ string_at l.asked l.asked l.list 0
+invariant-loop-value l = string_at l.left l.asked l.list l.at ≡ string_at l.asked l.asked l.list 0
 
 abbrev pub decreases-loop-value : goal.decreases-loop-value
-decreases-loop-value l = length l.list - l.strings.at
+decreases-loop-value l = length l.list - l.at
