@@ -1,8 +1,9 @@
 -- The functions that read one storage each tell what the definitions say. Assumes nothing.
-use Rattle.std.specs.Prelude.{Result, Ok, Err}
+use Rattle.std.specs.Prelude.{Result}
 use Prim.Native.Nat.{ℕ, ◌+◌, ◌^◌, ◌≤◌, ◌<◌, min}
-use mathlib.Core.Path.{◌≡◌, refl, sym}
+use mathlib.Core.Path.{◌≡◌, refl}
 use mathlib.Core.Bool.{true, false}
+use borrow.Author.Rules.{rules}
 use mathlib.Core.Logic.{◌⊎◌, inl, inr}
 use mathlib.Core.List.{List}
 use native.Mathlib.Nat.{add-zero, min-eq_left}
@@ -11,18 +12,18 @@ use lib.ListN.{length, take, drop}
 use Rattle.wire.specs.Outcome.{refuse}
 use Rattle.wire.specs.Number.{le_value, be_value}
 use Rattle.temporal.specs.declared.storage.Storage.{Storage}
-use Rattle.temporal.specs.declared.storage.Storage.TheVariants.{Timestamp, Newdate, Timestamp2, Datetime2, Time2}
+use Rattle.temporal.specs.declared.storage.Storage.TheVariants.{Timestamp, OldTime, OldDatetime, Newdate, Timestamp2, Datetime2, Time2}
 use Rattle.temporal.specs.declared.misc.SignedTime.{SignedTime}
 use Rattle.temporal.specs.declared.stored.Stored.{Stored}
 use Rattle.temporal.specs.declared.parts.Temporal.{Temporal}
 use Rattle.temporal.specs.Fraction.{fraction_bytes, unit_of}
 use Rattle.temporal.specs.Ranges.{clock_fault}
 use Rattle.temporal.specs.Times.{signed_time, time2_of, time_by}
-use Rattle.temporal.specs.Datetimes.{signed_datetime, datetime2_of, datetime2_fault, date_of, seconds_of}
+use Rattle.temporal.specs.Datetimes.{datetime_by, datetime_of, signed_datetime, datetime2_of, datetime2_fault, date_of, seconds_of}
 use Rattle.temporal.specs.Storage.{whole_bytes, fraction_size, is_big, temporal_of, fault_of}
-use Rattle.temporal.specs.Inner.Ranged.{ranged, ranged_time, ranged_signed, ranged_date, ranged_seconds, ranged_told}
+use Rattle.temporal.specs.Inner.Ranged.{ranged, ranged_time, ranged_datetime, ranged_signed, ranged_date, ranged_seconds, ranged_told}
 use Rattle.temporal.specs.Inner.Stored.{StoredAt}
-use Rattle.temporal.specs.Reading.{temporal_size, whole_in, units_in, read_temporal}
+use Rattle.temporal.specs.Reading.{temporal_size, read_temporal}
 use Rattle.temporal.proofs.Units.{fraction_small}
 use Rattle.temporal.proofs.Steps.{little_whole, whole_big, whole_little, units_big, units_little, read_judged, read_short}
 
@@ -73,9 +74,22 @@ seconds_judged k w a f (inl e) p h =
     rw (e, q, z)
 seconds_judged k w a f (inr x) p h = rw x.1 (timestamp2_judged x.0 w a f (rw x.1 at p))
 
-pub newdate_judged : (a : ℕ) → ranged_date (date_of a) ≡ ranged (fault_of Newdate a 0) (temporal_of Newdate a 0)
+pub newdate_judged : (a f : ℕ) → ranged_date (date_of a) ≡ ranged (fault_of Newdate a f) (temporal_of Newdate a f)
 unfolding temporal_of fault_of
-newdate_judged a = refl
+newdate_judged a f = refl
+
+-- the old ones, in decimals
+pub old_time_judged : (a f : ℕ) → ranged_time (time_by 100 false a 0) ≡ ranged (fault_of OldTime a f) (temporal_of OldTime a f)
+unfolding temporal_of fault_of
+old_time_judged a f = refl
+
+pub old_datetime_judged : (a f : ℕ)
+    → ranged_datetime (datetime_by 100 100 100 100 a 0) ≡ ranged (fault_of OldDatetime a f) (temporal_of OldDatetime a f)
+unfolding temporal_of fault_of datetime_of
+old_datetime_judged a f = refl
+
+-- all rows of the table
+pub ruleset judged = (rules, old_time_judged, old_datetime_judged, newdate_judged, datetime2_judged, time2_judged)
 
 -- the size
 big_size : (storage : Storage) (k w : ℕ) → Big storage k w → k + w ≡ temporal_size storage

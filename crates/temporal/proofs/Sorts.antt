@@ -1,13 +1,8 @@
 -- Sorts of temporals: one whose sort was tested is of that sort. Assumes nothing.
 use mathlib.Core.Path.{◌≡◌, refl}
-use mathlib.Core.Bool.{true, false, false≢true}
-use mathlib.Core.List.{[], ◌∷◌}
-use types.Run.{OneOf, miss}
-use denote.Enum.Declared.{tag_of}
-use Rattle.temporal.specs.contracts.parts.Temporal.{the_type}
+use mathlib.Core.Bool.{true, false≢true}
 use Rattle.temporal.specs.declared.parts.Temporal.{Temporal}
 use Rattle.temporal.specs.Storage.{temporal_tag, is_seconds, is_date, is_datetime, is_time, seconds_in, date_in, datetime_in, time_in}
-use Rattle.temporal.specs.Storage.{no_seconds, no_date, no_datetime, no_time}
 
 -- ---- seconds since 1970
 pub is_seconds_lem : (t : Temporal) → is_seconds t ≡ true → Temporal.Seconds (seconds_in t) ≡ t

@@ -1,5 +1,5 @@
 // Which temporals a column can hold, by their ranges and units alone.
-#![tactic(auto, using(wire::proofs::Rules::tests), unfolding(crate::specs::Domains::seconds_domain, crate::specs::Domains::date_domain, crate::specs::Domains::datetime_domain, crate::specs::Domains::time_domain, crate::specs::Domains::temporal_domain, crate::specs::Storage::temporal_tag, crate::specs::Storage::seconds_in, crate::specs::Storage::date_in, crate::specs::Storage::datetime_in, crate::specs::Storage::time_in))]
+#![tactic(auto, using(wire::proofs::Rules::tests), unfolding(crate::specs::Domains::seconds_domain, crate::specs::Domains::date_domain, crate::specs::Domains::datetime_domain, crate::specs::Domains::time_domain, crate::specs::Domains::temporal_domain, crate::specs::Storage::fraction_size, crate::specs::Storage::temporal_tag, crate::specs::Storage::seconds_in, crate::specs::Storage::date_in, crate::specs::Storage::datetime_in, crate::specs::Storage::time_in))]
 
 ghost use Rattle.std.specs.Prelude.{◌≡◌, ◌&&◌, ◌+◌, eqb};
 ghost use Rattle.temporal.specs.Ranges.{in_day, in_clock};
@@ -8,25 +8,24 @@ ghost use Rattle.temporal.specs.Domains.{seconds_domain, date_domain, datetime_d
 use crate::fraction::Width;
 use crate::judge::{check_clock, check_day};
 use crate::parts::{Date, Datetime, Seconds, Temporal, Time};
-use crate::storage::Storage;
+use crate::storage::{Storage, fraction_width};
 
 // Whether a column of this storage can hold the temporal.
 pub fn in_domain(storage: Storage, temporal: Temporal) -> bool
     ensures { result ≡ temporal_domain storage temporal }
 {
+    let width = fraction_width(storage);
     match (storage, temporal) {
-        (Storage::Timestamp, Temporal::Seconds(t)) => holds_seconds(Width::NONE, t),
-        // TIME has no bit for a sign.
-        (Storage::OldTime, Temporal::Time(t)) => !t.negative && holds_time(Width::NONE, t),
-        (Storage::OldDatetime, Temporal::Datetime(m)) => holds_datetime(Width::NONE, m),
+        (Storage::Timestamp | Storage::Timestamp2 { .. }, Temporal::Seconds(t)) => {
+            holds_seconds(width, t)
+        }
         (Storage::Newdate, Temporal::Date(d)) => holds_date(d),
-        (Storage::Timestamp2 { m0 }, Temporal::Seconds(t)) => {
-            holds_seconds(Width::of_digits(m0), t)
+        (Storage::OldDatetime | Storage::Datetime2 { .. }, Temporal::Datetime(m)) => {
+            holds_datetime(width, m)
         }
-        (Storage::Datetime2 { m0 }, Temporal::Datetime(m)) => {
-            holds_datetime(Width::of_digits(m0), m)
-        }
-        (Storage::Time2 { m0 }, Temporal::Time(t)) => holds_time(Width::of_digits(m0), t),
+        // TIME has no bit for a sign.
+        (Storage::OldTime, Temporal::Time(t)) => !t.negative && holds_time(width, t),
+        (Storage::Time2 { .. }, Temporal::Time(t)) => holds_time(width, t),
         _ => false,
     }
 }

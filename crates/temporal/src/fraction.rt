@@ -52,6 +52,7 @@ impl Width {
             _ => 0x100_0000,
         }
     }
+
     // How many whole units the microseconds are.
     #[tactic(auto, using(crate::proofs::Units::unit_positive))]
     pub(crate) fn units_of(self, micros: u32) -> u64

@@ -9,6 +9,36 @@ ghost use Rattle.temporal.specs.Inner.Ranged.{ranged_time, ranged_datetime, rang
 use crate::parts::{Date, Datetime, Temporal, Time};
 use wire::refusal::{DAY, FRACTION, HOUR, MINUTE, MONTH, SECOND, YEAR};
 
+// What the fields of a whole part are counted in.
+#[derive(Clone, Copy)]
+pub(crate) struct Radices {
+    // seconds and minutes
+    pub(crate) sixty: u64,
+    pub(crate) hours: u64,
+    pub(crate) days: u64,
+    pub(crate) months: u64,
+    pub(crate) ghost some: { (0 < sixty) × (0 < hours) × (0 < days) × (0 < months) },
+    pub(crate) ghost small: { (sixty ≤ 100) × (hours ≤ 100) × (days ≤ 100) × (months ≤ 100) },
+}
+
+impl Radices {
+    // Fields of bits, but for the months.
+    pub(crate) const BITS: Radices = Radices {
+        sixty: 64,
+        hours: 32,
+        days: 32,
+        months: 13,
+    };
+
+    // Fields of two decimals each.
+    pub(crate) const DECIMALS: Radices = Radices {
+        sixty: 100,
+        hours: 100,
+        days: 100,
+        months: 100,
+    };
+}
+
 // A clock whose hours go up to top.
 #[tactic(auto, using(wire::proofs::Rules::tests), unfolding(crate::specs::Ranges::clock_fault))]
 pub(crate) fn check_clock(top: u64, h: u64, m: u64, s: u64, u: u64) -> Result<(), u8>
@@ -50,15 +80,15 @@ pub(crate) fn check_day(y: u64, mo: u64, d: u64) -> Result<(), u8>
     Ok(())
 }
 
-// The time of a whole part n, whose minutes and seconds have this radix, and of u microseconds.
+// The time of a whole part n and of u microseconds.
 #[tactic(auto, using(wire::proofs::Rules::tests), unfolding(crate::specs::Times::time_by))]
-pub(crate) fn time_by(radix: u64, negative: bool, n: u64, u: u64) -> Result<Temporal, u8>
-    requires { 0 < radix }
-    ensures { result ≡ ranged_time (time_by radix negative n u) }
+pub(crate) fn time_by(radices: Radices, negative: bool, n: u64, u: u64) -> Result<Temporal, u8>
+    ensures { result ≡ ranged_time (time_by radices.sixty negative n u) }
 {
-    let h = n / radix / radix;
-    let m = n / radix % radix;
-    let s = n % radix;
+    let to_minutes = n / radices.sixty;
+    let h = to_minutes / radices.sixty;
+    let m = to_minutes % radices.sixty;
+    let s = n % radices.sixty;
     check_clock(838, h, m, s, u)?;
     Ok(Temporal::Time(Time {
         negative,
@@ -69,31 +99,22 @@ pub(crate) fn time_by(radix: u64, negative: bool, n: u64, u: u64) -> Result<Temp
     }))
 }
 
-// The datetime of a whole part n and of u microseconds; radix is that of seconds and minutes; hours, days and months are the radices of
-// these.
+// The datetime of a whole part n and of u microseconds.
 #[tactic(auto, unfolding(crate::specs::Datetimes::datetime_by))]
-pub(crate) fn datetime_by(
-    radix: u64,
-    hours: u64,
-    days: u64,
-    months: u64,
-    n: u64,
-    u: u64,
-) -> Result<Temporal, u8>
-    requires { (0 < radix) × (0 < hours) × (0 < days) × (0 < months) }
-    ensures { result ≡ ranged_datetime (datetime_by radix hours days months n u) }
+pub(crate) fn datetime_by(radices: Radices, n: u64, u: u64) -> Result<Temporal, u8>
+    ensures { result ≡ ranged_datetime (datetime_by radices.sixty radices.hours radices.days radices.months n u) }
 {
-    let to_minutes = n / radix;
-    let to_hours = to_minutes / radix;
-    let to_days = to_hours / hours;
-    let to_months = to_days / days;
+    let to_minutes = n / radices.sixty;
+    let to_hours = to_minutes / radices.sixty;
+    let to_days = to_hours / radices.hours;
+    let to_months = to_days / radices.days;
     datetime_of(
-        to_months / months,
-        to_months % months,
-        to_days % days,
-        to_hours % hours,
-        to_minutes % radix,
-        n % radix,
+        to_months / radices.months,
+        to_months % radices.months,
+        to_days % radices.days,
+        to_hours % radices.hours,
+        to_minutes % radices.sixty,
+        n % radices.sixty,
         u,
     )
 }

@@ -6,7 +6,7 @@ ghost use Rattle.temporal.specs.Times.{signed_time, time_by};
 ghost use Rattle.temporal.specs.Datetimes.{signed_datetime, seconds_of};
 ghost use Rattle.temporal.specs.Inner.Ranged.{ranged_time, ranged_seconds, ranged_signed};
 
-use crate::judge::{check_clock, datetime_by, time_by};
+use crate::judge::{Radices, check_clock, datetime_by, time_by};
 use crate::parts::{Seconds, Temporal};
 use crate::stored::Stored;
 use wire::refusal::BELOW_ZERO;
@@ -56,7 +56,7 @@ pub(crate) fn my_time_packed_from_binary(stored: Stored) -> SignedTime
 pub(crate) fn time_from_packed(tmp: SignedTime) -> Result<Temporal, u8>
     ensures { result ≡ ranged_time (time_by 64 tmp.negative tmp.whole tmp.micros) }
 {
-    time_by(64, tmp.negative, tmp.whole, tmp.micros)
+    time_by(Radices::BITS, tmp.negative, tmp.whole, tmp.micros)
 }
 
 // The fraction is unsigned, where the Rust reads a signed one. Below zero there is no whole part to tell: 0.
@@ -80,7 +80,7 @@ pub(crate) fn datetime_from_packed(tmp: SignedTime) -> Result<Temporal, u8>
     if tmp.negative {
         return Err(BELOW_ZERO);
     }
-    datetime_by(64, 32, 32, 13, tmp.whole, tmp.micros)
+    datetime_by(Radices::BITS, tmp.whole, tmp.micros)
 }
 
 // Seconds are unsigned, where the Rust makes an i32 of them.

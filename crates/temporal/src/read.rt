@@ -5,7 +5,7 @@ ghost use Rattle.temporal.specs.Storage.{whole_bytes, fraction_size, temporal_of
 ghost use Rattle.temporal.specs.Inner.Ranged.{ranged, ranged_told};
 ghost use Rattle.temporal.specs.Reading.{temporal_size, whole_in, units_in, read_temporal};
 
-use crate::judge::{date_of, datetime_by, time_by};
+use crate::judge::{Radices, date_of, datetime_by, time_by};
 use crate::misc::{
     datetime_from_packed, my_datetime_packed_from_binary, my_time_packed_from_binary,
     my_timestamp_from_binary, time_from_packed,
@@ -80,7 +80,7 @@ fn stored_in(storage: Storage, s: &[u8], at: usize) -> Stored
 }
 
 // What a stored whole part and fraction say.
-#[tactic(auto, unfolding(crate::specs::Storage::whole_bytes, crate::specs::Storage::fraction_size, crate::specs::Storage::temporal_of, crate::specs::Storage::fault_of, crate::specs::Times::time2_of, crate::specs::Datetimes::datetime_of, crate::specs::Datetimes::datetime2_of, crate::specs::Datetimes::datetime2_fault))]
+#[tactic(auto, using(crate::proofs::DirectLaws::judged), unfolding(crate::specs::Storage::whole_bytes, crate::specs::Storage::fraction_size))]
 fn judge(storage: Storage, stored: Stored) -> Result<Temporal, u8>
     requires whole { stored.whole < 256 ^ whole_bytes storage }
     requires width { stored.width.bytes ≡ fraction_size storage }
@@ -88,8 +88,8 @@ fn judge(storage: Storage, stored: Stored) -> Result<Temporal, u8>
 {
     match storage {
         Storage::Timestamp | Storage::Timestamp2 { .. } => my_timestamp_from_binary(stored),
-        Storage::OldTime => time_by(100, false, stored.whole, 0),
-        Storage::OldDatetime => datetime_by(100, 100, 100, 100, stored.whole, 0),
+        Storage::OldTime => time_by(Radices::DECIMALS, false, stored.whole, 0),
+        Storage::OldDatetime => datetime_by(Radices::DECIMALS, stored.whole, 0),
         Storage::Newdate => date_of(stored.whole),
         Storage::Datetime2 { .. } => datetime_from_packed(my_datetime_packed_from_binary(stored)),
         Storage::Time2 { .. } => time_from_packed(my_time_packed_from_binary(stored)),

@@ -11,6 +11,7 @@ ghost use Rattle.temporal.specs.Reading.{write_temporal};
 
 use crate::domain::in_domain;
 use crate::fraction::Width;
+use crate::judge::Radices;
 use crate::misc::{DATETIMEF_INT_OFS, TIMEF_INT_OFS};
 use crate::parts::{Date, Datetime, Temporal, Time};
 use crate::storage::{Storage, fraction_width, is_big, whole_bytes};
@@ -62,30 +63,25 @@ fn write_two(
 }
 
 // The numbers that the temporal is stored as: its whole part and its fraction.
-#[tactic(auto, unfolding(crate::specs::Domains::temporal_domain, crate::specs::Storage::whole_of, crate::specs::Storage::units_of, crate::specs::Storage::temporal_tag, crate::specs::Storage::seconds_in, crate::specs::Storage::date_in, crate::specs::Storage::datetime_in, crate::specs::Storage::time_in))]
+#[tactic(auto, unfolding(crate::specs::Domains::temporal_domain, crate::specs::Storage::fraction_size, crate::specs::Storage::whole_of, crate::specs::Storage::units_of, crate::specs::Storage::temporal_tag, crate::specs::Storage::seconds_in, crate::specs::Storage::date_in, crate::specs::Storage::datetime_in, crate::specs::Storage::time_in))]
 fn numbers_of(storage: Storage, temporal: Temporal) -> (u64, u64)
     requires { temporal_domain storage temporal ≡ true }
     ensures { (result.0 ≡ whole_of storage temporal) × (result.1 ≡ units_of storage temporal) }
 {
+    let width = fraction_width(storage);
     match (storage, temporal) {
         (Storage::Timestamp, Temporal::Seconds(t)) => (u64::from(t.seconds), 0),
-        (Storage::OldTime, Temporal::Time(t)) => (time_number(100, t), 0),
-        (Storage::OldDatetime, Temporal::Datetime(m)) => (
-            datetime_number(100, 100, 100, 100, m),
-            0,
-        ),
+        (Storage::OldTime, Temporal::Time(t)) => (time_number(Radices::DECIMALS, t), 0),
+        (Storage::OldDatetime, Temporal::Datetime(m)) => (datetime_number(Radices::DECIMALS, m), 0),
         (Storage::Newdate, Temporal::Date(d)) => (date_number(d), 0),
-        (Storage::Timestamp2 { m0 }, Temporal::Seconds(t)) => {
-            (
-                u64::from(t.seconds),
-                Width::of_digits(m0).units_of(t.micros),
-            )
+        (Storage::Timestamp2 { .. }, Temporal::Seconds(t)) => {
+            (u64::from(t.seconds), width.units_of(t.micros))
         }
-        (Storage::Datetime2 { m0 }, Temporal::Datetime(m)) => (
-            DATETIMEF_INT_OFS + datetime_number(64, 32, 32, 13, m),
-            Width::of_digits(m0).units_of(m.micros),
-        ),
-        (Storage::Time2 { m0 }, Temporal::Time(t)) => time2_numbers(Width::of_digits(m0), t),
+        (Storage::Datetime2 { .. }, Temporal::Datetime(m)) => {
+            let whole = DATETIMEF_INT_OFS + datetime_number(Radices::BITS, m);
+            (whole, width.units_of(m.micros))
+        }
+        (Storage::Time2 { .. }, Temporal::Time(t)) => time2_numbers(width, t),
         // No column can hold a temporal of another sort.
         _ => unreachable!(),
     }
@@ -97,7 +93,7 @@ fn time2_numbers(width: Width, t: Time) -> (u64, u64)
     requires { (time_number 64 t < 2 ^ 23) × (t.micros ≤ 999999) }
     ensures { let u = t.micros / unit_of width.bytes in (result.0 ≡ time2_whole t u) × (result.1 ≡ time2_fraction width.bytes t.negative u) }
 {
-    let n = time_number(64, t);
+    let n = time_number(Radices::BITS, t);
     let units = width.units_of(t.micros);
     if !t.negative {
         return (TIMEF_INT_OFS + n, units);
@@ -108,27 +104,25 @@ fn time2_numbers(width: Width, t: Time) -> (u64, u64)
     (TIMEF_INT_OFS - n - 1, width.span() - units)
 }
 
-// The fields of a time as one number, whose minutes and seconds have this radix.
-fn time_number(radix: u64, t: Time) -> u64
-    requires { radix ≤ 100 }
-    ensures { (result ≡ time_number radix t) × (result ≤ 1000000000) }
+// The fields of a time as one number.
+fn time_number(radices: Radices, t: Time) -> u64
+    ensures { (result ≡ time_number radices.sixty t) × (result ≤ 1000000000) }
 {
     let hours = u64::from(t.hours);
-    let minutes = append(hours, radix, t.minutes);
-    append(minutes, radix, t.seconds)
+    let minutes = append(hours, radices.sixty, t.minutes);
+    append(minutes, radices.sixty, t.seconds)
 }
 
-// The same of a datetime; radix is that of seconds and minutes, and hours, days and months are the radices of these.
-fn datetime_number(radix: u64, hours: u64, days: u64, months: u64, m: Datetime) -> u64
-    requires { (radix ≤ 100) × (hours ≤ 100) × (days ≤ 100) × (months ≤ 100) }
-    ensures { (result ≡ datetime_number radix hours days months m) × (result ≤ 1000000000000000) }
+// The same of a datetime.
+fn datetime_number(radices: Radices, m: Datetime) -> u64
+    ensures { (result ≡ datetime_number radices.sixty radices.hours radices.days radices.months m) × (result ≤ 1000000000000000) }
 {
     let year = u64::from(m.year);
-    let to_months = append(year, months, m.month);
-    let to_days = append(to_months, days, m.day);
-    let to_hours = append(to_days, hours, m.hour);
-    let to_minutes = append(to_hours, radix, m.minute);
-    append(to_minutes, radix, m.second)
+    let to_months = append(year, radices.months, m.month);
+    let to_days = append(to_months, radices.days, m.day);
+    let to_hours = append(to_days, radices.hours, m.hour);
+    let to_minutes = append(to_hours, radices.sixty, m.minute);
+    append(to_minutes, radices.sixty, m.second)
 }
 
 // The same of a date.

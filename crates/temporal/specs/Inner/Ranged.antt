@@ -7,9 +7,8 @@ use Rattle.temporal.specs.declared.parts.Datetime.{Datetime}
 use Rattle.temporal.specs.declared.parts.Time.{Time}
 use Rattle.temporal.specs.declared.parts.Temporal.{Temporal}
 use Rattle.temporal.specs.declared.misc.SignedTime.{SignedTime}
-use Rattle.temporal.specs.Ranges.{clock_fault, day_fault}
 use Rattle.temporal.specs.Times.{time_fault}
-use Rattle.temporal.specs.Datetimes.{datetime_by, datetime_fault, datetime_from, fault_from, date_fault, seconds_fault}
+use Rattle.temporal.specs.Datetimes.{datetime_fault, datetime_from, fault_from, date_fault, seconds_fault}
 
 abbrev pub ranged : {A : Type 0} → ℕ → A → Result A ℕ
 ranged fault a = cond (eqb fault 0) (Ok a) (Err fault)

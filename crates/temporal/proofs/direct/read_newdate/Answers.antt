@@ -25,4 +25,4 @@ returns c =
     let x = c.read_le.ensures in
     c.answer.ensures
     ∙ rw e.1 (little_told Newdate a.place a.s.now a.at 3 refl refl _ (omega arith) e.0 x.value x.upper_bound _
-    (c.date_of.ensures ∙ newdate_judged _))
+    (c.date_of.ensures ∙ newdate_judged _ _))

@@ -1,13 +1,12 @@
 -- `temporal::read::read_temporal` meets its contract. The test for room says whether the bytes are there; what `judge` answers of their two
 -- numbers is what is read. Assumes nothing.
 use mathlib.Core.Path.{◌≡◌, sym, ap, ◌∙◌}
-use native.Mathlib.Omega.{arith}
 use Prim.Native.Nat.{◌+◌, ◌≤◌}
 use lib.ListN.{length}
 use Rattle.std.specs.Prelude.{Err}
 use Rattle.std.proofs.Common.{rules}
 use Rattle.wire.specs.Outcome.{refused}
-use Rattle.temporal.specs.Reading.{temporal_size, read_temporal}
+use Rattle.temporal.specs.Reading.{temporal_size}
 use Rattle.temporal.proofs.Steps.{read_judged, read_short, ends, ends_not}
 use Rattle.temporal.proofs.read.read_temporal.Goals as goal
 

@@ -1,6 +1,5 @@
 -- `temporal::read::stored_in` meets its contract. The whole part of the bytes is at their front, and the fraction behind it; the least
 -- significant byte first there is none. Assumes nothing.
-use native.Mathlib.Omega.{arith}
 use mathlib.Core.Path.{sym, ◌∙◌}
 use mathlib.Core.List.{[]}
 use Rattle.temporal.proofs.Steps.{whole_big, whole_little, units_big, units_little}
