@@ -22,7 +22,7 @@ use Rattle.value.specs.Inner.Shapes.{Sized}
 use Rattle.value.proofs.Tables.{sized}
 use Rattle.record.specs.declared.entry.Entry.{Entry}
 use Rattle.record.specs.Entries.{column_of}
-use Rattle.record.specs.Records.{count_of, entry_in, record_valid, read_record}
+use Rattle.record.specs.Records.{most_columns, count_of, entry_in, record_valid, read_record}
 use Rattle.record.proofs.Valid.{valid_few, read_valid}
 use Rattle.image.specs.declared.cursor.Head.{Head}
 use Rattle.image.specs.Present.{count_bits, shape_at}
@@ -39,10 +39,24 @@ use Rattle.blocks.specs.Turns.{TurnSaid, wait, long, whole, turn_of}
 use Rattle.blocks.specs.Fits.{is_long, fits_in, is_counted, is_fit}
 use Rattle.blocks.specs.Gives.{Handed, parted, give_open, give_long, give_in, given_fit, head_carry, give_block}
 use Rattle.blocks.specs.Ends.{end_in, ended_fit, end_blocks}
-use Rattle.blocks.specs.Inner.Hands.{Heads, turn_by, held_shape, Sits, Tested, Numbered, end_open}
+use Rattle.blocks.specs.Inner.Hands.{Heads, turn_by, held_shape, Sits, end_open}
 use Rattle.blocks.proofs.Hands.{turn_head}
 use Rattle.blocks.proofs.Values.{Answers}
 use Rattle.blocks.proofs.Heldings.{is_wait, is_long_of, waits_turn, longs_turn, end_open_is}
+
+-- the tests for 11, 12 and 20 were passed
+pub record Tested (r p : List ℕ) (carry columns nulls : ℕ) : Type 0 where
+  pub valid : record_valid r ≡ true
+  pub presence : length p ≡ bytes_for (count_of r)
+  pub count : columns ≡ count_of r
+  pub bits : nulls ≡ bytes_for (count_bits p columns)
+  pub few : columns ≤ most_columns
+  pub least : 1024 ≤ carry
+
+-- the numbers of a state are within their bounds
+pub record Numbered (carry columns : ℕ) (at : Arriving) : Type 0 where
+  pub among : at.column ≤ columns
+  pub fits : at.held ≤ carry
 
 -- ---- the numbers
 module _ (r p : List ℕ) (n len : ℕ) (at : Arriving) where
@@ -237,23 +251,17 @@ module _ (r p carry : List ℕ) (n nb : ℕ) (at : Arriving) where
       let c = both_true (leb at.held (length carry)) _ b.1 in
       leb-true at.used (image_room r p) (both_true (leb at.held at.used) _ c.1).1
 
-  pub sits : {b : Bool} (block : List ℕ) → Tested r p (length carry) n nb → b ≡ is_fit r p n nb at carry → b ≡ true
-      → length carry < 9223372036854775808 → length block < 9223372036854775808 → Sits r p (length carry) (length block) n nb at
-  sits block t e f lc lb =
-      let w = fit_numbered e f in
-      let s = room_small r p t.valid in
-      let u = fit_used e f in
-      record {
-        valid = t.valid;
-        count = t.count;
-        bits = t.bits;
-        few = t.few;
-        room = omega (arith, t.bits, count_at_most p n, t.few, t.least);
-        among = w.among;
-        fits = w.fits;
-        small = omega arith;
-        sum = omega (arith, w.fits);
-      }
+  module _ {b : Bool} (t : Tested r p (length carry) n nb) (e : b ≡ is_fit r p n nb at carry) (f : b ≡ true) where
+    pub sits : Sits (length carry) n nb at
+    sits =
+        let w = fit_numbered e f in
+        record { room = omega (arith, t.bits, count_at_most p n, t.few, t.least); among = w.among; fits = w.fits }
+
+    pub used_fits : (len : ℕ) → len < 9223372036854775808 → at.used + len < 18446744073709551616
+    used_fits len h = omega (arith, fit_used e f, room_small r p t.valid)
+
+    pub held_fits : (len : ℕ) → length carry < 9223372036854775808 → len < 9223372036854775808 → at.held + len < 18446744073709551616
+    held_fits len g h = omega (arith, (fit_numbered e f).fits)
 
 -- ---- the calls behind the tests
 abbrev parts : Arriving → ℕ → ℕ → List ℕ → Bool → Bool → Outcome Handed

@@ -266,21 +266,6 @@ module _ (sh : Shape) (carry block : List ℕ) (nb : ℕ) (at : Arriving) (j n :
             rw f (ap refused (same_refused (sym r ∙ e)))
 
 -- ---- what a turn says
-wait_not_long : {n : ℕ} → wait ≡ long₁ n → ⊥
-wait_not_long e = let z : ◌≡◌ {A = ℕ} 0 1 = cc in omega arith
-
-wait_not_whole : {n : ℕ} → wait ≡ whole n → ⊥
-wait_not_whole e = let z : ◌≡◌ {A = ℕ} 0 1 = cc in omega arith
-
-long_not_whole : {m n : ℕ} → long₁ m ≡ whole n → ⊥
-long_not_whole e = let z : ◌≡◌ {A = ℕ} 0 1 = cc in omega arith
-
-same_long : {m n : ℕ} → long₁ m ≡ long₁ n → m ≡ n
-same_long e = cc
-
-same_whole : {m n : ℕ} → whole m ≡ whole n → m ≡ n
-same_whole e = cc
-
 module _ (room : ℕ) (sh : Shape) (s : List ℕ) where
   by_turn_lem : {P : Type 0} (t : TurnSaid) → turn_of room sh s ≡ t
       → (too_long room sh s ≡ true → long₁ (need sh s - prefix sh) ≡ t → P)
@@ -297,20 +282,19 @@ module _ (room : ℕ) (sh : Shape) (s : List ℕ) where
           (λ l. g u (omega arith) (rw (u, lt-ltb (length s) (need sh s) (omega arith)) at e))
 
   pub is_wait : turn_of room sh s ≡ wait → (too_long room sh s ≡ false) × (length s < need sh s)
-  is_wait e =
-      by_turn_lem wait e (λ u v. absurd (wait_not_long (sym v))) (λ u l v. (u, l)) (λ u l v. absurd (wait_not_whole (sym v)))
+  is_wait e = by_turn_lem wait e (λ u v. absurd (cc)) (λ u l v. (u, l)) (λ u l v. absurd (cc))
 
   pub is_long_turn : (n : ℕ) → turn_of room sh s ≡ long₁ n → (too_long room sh s ≡ true) × (need sh s - prefix sh ≡ n)
-  is_long_turn n e =
-      by_turn_lem (long₁ n) e (λ u v. (u, same_long v)) (λ u l v. absurd (wait_not_long v)) (λ u l v. absurd (long_not_whole (sym v)))
+  is_long_turn n e = by_turn_lem (long₁ n) e (λ u v. (u, cc)) (λ u l v. absurd (cc)) (λ u l v. absurd (cc))
 
   pub is_whole : (n : ℕ) → turn_of room sh s ≡ whole n → (too_long room sh s ≡ false) × (need sh s ≤ length s) × (need sh s ≡ n)
-  is_whole n e =
-      by_turn_lem (whole n) e (λ u v. absurd (long_not_whole v)) (λ u l v. absurd (wait_not_whole v)) (λ u l v. (u, l, same_whole v))
+  is_whole n e = by_turn_lem (whole n) e (λ u v. absurd (cc)) (λ u l v. absurd (cc)) (λ u l v. (u, l, cc))
 
--- ---- a value that is not NULL
-module _ (kind : Column) (carry block head : List ℕ) (nb : ℕ) (at : Arriving) (j : ℕ) (q : Holds (length carry) (length block) nb at j kind)
-    (h : Heads (take at.held carry ++ block) nb head 8) where
+-- ---- a value that is not NULL: `t` is what the code found of its head
+module _ {kind : Column} (carry block : List ℕ) {head : List ℕ} {nb : ℕ} {at : Arriving} {j : ℕ}
+    (q : Holds (length carry) (length block) nb at j kind) (h : Heads (take at.held carry ++ block) nb head 8)
+    {shape : Shape} (is_shape : shape ≡ shape_of kind) {t : TurnSaid}
+    (found : t ≡ turn_by (length carry - nb) (prefix shape) (at.held + length block - nb) (need shape head)) where
   abbrev sh : Shape
   sh = shape_of kind
 
@@ -329,61 +313,57 @@ module _ (kind : Column) (carry block head : List ℕ) (nb : ℕ) (at : Arriving
   rest_length : length rest ≡ at.held + length block - nb
   rest_length = length-drop nb hand ∙ ap (λ (k : ℕ). k - nb) hand_length
 
-  pub turn_is : (t : TurnSaid) → t
-      ≡ turn_by (length carry - nb) (prefix (shape_of kind)) (at.held + length block - nb) (need (shape_of kind) head)
-      → turn_of space sh rest ≡ t
-  turn_is t e =
-      sym (e ∙ ap (λ (k : ℕ). turn_by space (prefix sh) k (need sh head)) (sym rest_length)
+  turn_is : turn_of space sh rest ≡ t
+  turn_is =
+      sym (found ∙ ap (λ (s : Shape). turn_by space (prefix s) (at.held + length block - nb) (need s head)) is_shape
+      ∙ ap (λ (k : ℕ). turn_by space (prefix sh) k (need sh head)) (sym rest_length)
       ∙ turn_head space sh hand nb head (sized kind) h (omega (arith, hand_length, q.there)))
 
-  -- by what the code has
-  pub turn_found : (t : TurnSaid) (shape : Shape) → shape ≡ shape_of kind
-      → t ≡ turn_by (length carry - nb) (prefix shape) (at.held + length block - nb) (need shape head) → turn_of space sh rest ≡ t
-  turn_found t shape e f =
-      turn_is t (f ∙ ap (λ (s : Shape). turn_by (length carry - nb) (prefix s) (at.held + length block - nb) (need s head)) e)
+  prefix_is : prefix shape ≡ prefix sh
+  prefix_is = ap prefix is_shape
 
-  pub wait_fits : turn_of space sh rest ≡ wait → at.held + length block ≤ length carry
+  pub prefix_few : prefix shape ≤ 4
+  prefix_few = omega (arith, prefix_is, prefix_most sh (sized kind))
+
+  pub wait_fits : t ≡ wait → at.held + length block ≤ length carry
   wait_fits e =
-      let w = is_wait space sh rest e in
+      let w = is_wait space sh rest (turn_is ∙ e) in
       let m : length rest < length carry - nb =
       dite (dec_le (prefix sh) (length rest))
       (λ (k : prefix sh ≤ length rest). omega (arith, w.1, not_long space sh rest w.0 k))
       (λ k. omega (arith, prefix_most sh (sized kind), q.room)) in
       omega (arith, rest_length, q.room)
 
-  pub wait_answer : turn_of space sh rest ≡ wait
-      → value_over nb sh j at carry block ≡ waiting at carry block j
+  pub wait_answer : t ≡ wait → value_over nb sh j at carry block ≡ waiting at carry block j
   unfolding value_over by_turn
-  wait_answer e = rw e
+  wait_answer e = rw (turn_is ∙ e)
 
-  pub long_fits : (n : ℕ) → turn_of space sh rest ≡ long₁ n → (nb + prefix sh ≤ length carry) × (nb + prefix sh ≤ at.held + length block)
-  long_fits n e =
-      let w = is_long_turn space sh rest n e in
-      let i = is_long_lem space sh rest w.0 in
-      (omega (arith, prefix_most sh (sized kind), q.room), omega (arith, i.there, rest_length, q.there))
+  module _ {n : ℕ} where
+    pub long_fits : t ≡ long₁ n → (nb + prefix shape ≤ length carry) × (nb + prefix shape ≤ at.held + length block)
+    long_fits e =
+        let w = is_long_turn space sh rest n (turn_is ∙ e) in
+        let i = is_long_lem space sh rest w.0 in
+        (omega (arith, prefix_few, q.room), omega (arith, prefix_is, i.there, rest_length, q.there))
 
-  pub long_answers : (n : ℕ) → turn_of space sh rest ≡ long₁ n
-      → value_over nb sh j at carry block
-      ≡ ok (commit at carry block (nb + prefix sh) (long j n) (longed j (nb + prefix sh) n (used_to at (nb + prefix sh))))
-  unfolding value_over by_turn
-  long_answers n e = rw e
+    pub long_answers : t ≡ long₁ n → value_over nb sh j at carry block
+        ≡ ok (commit at carry block (nb + prefix shape) (long j n) (longed j (nb + prefix shape) n (used_to at (nb + prefix shape))))
+    unfolding value_over by_turn
+    long_answers e = rw (turn_is ∙ e, prefix_is)
 
-  pub whole_fits : (n : ℕ) → turn_of space sh rest ≡ whole n → Wholes sh carry block nb at j n
-  whole_fits n e =
-      let w = is_whole space sh rest n e in
-      let m = not_long space sh rest w.0 (omega (arith, prefix_within sh rest, w.1)) in
-      record {
-        fits = q.fits;
-        there = q.there;
-        upto = omega (arith, m, w.2, q.room);
-        high = omega (arith, w.1, w.2, rest_length, q.there);
-        small = q.small;
-        column = q.column;
-        taken = q.taken;
-        size = w.2;
-      }
+    pub whole_fits : t ≡ whole n → Wholes sh carry block nb at j n
+    whole_fits e =
+        let w = is_whole space sh rest n (turn_is ∙ e) in
+        let m = not_long space sh rest w.0 (omega (arith, prefix_within sh rest, w.1)) in
+        record {
+          fits = q.fits;
+          there = q.there;
+          upto = omega (arith, m, w.2, q.room);
+          high = omega (arith, w.1, w.2, rest_length, q.there);
+          column = q.column;
+          taken = q.taken;
+          size = w.2;
+        }
 
-  pub whole_answers : (n : ℕ) → turn_of space sh rest ≡ whole n → value_over nb sh j at carry block
-      ≡ by_turn nb sh j rest at carry block (whole n)
-  unfolding value_over
-  whole_answers n e = rw e
+    pub whole_answers : t ≡ whole n → value_over nb sh j at carry block ≡ by_turn nb sh j rest at carry block (whole n)
+    unfolding value_over
+    whole_answers e = rw (turn_is ∙ e)

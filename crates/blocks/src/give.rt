@@ -1,16 +1,15 @@
 // The calls that take blocks.
-ghost use Rattle.std.specs.Prelude.{◌≡◌, [], ◌+◌, ◌<◌, length};
+ghost use Rattle.std.specs.Prelude.{◌≡◌, [], ◌<◌};
 ghost use Rattle.wire.specs.Outcome.{ok};
 ghost use Rattle.wire.specs.Stored.{answer_of, left_of};
 ghost use Rattle.blocks.specs.States.{given_of};
 ghost use Rattle.blocks.specs.Gives.{give_long, head_carry, give_block, begin_blocks};
 
+use crate::call::Call;
 use crate::fit::is_fit;
 use crate::lent::Lent;
 use crate::open::give_open;
-use crate::state::{
-    Arrival, Arriving, BlockGiven, Given, Phase, given_of, longing, standing, took,
-};
+use crate::state::{Arrival, Arriving, BlockGiven, Given, Phase, given_of, longing, standing};
 use image::Head;
 use wire::Refusal;
 use wire::refusal::{SMALL_CARRY, UNFIT_STATE};
@@ -44,22 +43,23 @@ pub fn begin(profile: &[u8], presence: &[u8], carry: &[u8]) -> Result<Arriving, 
 }
 
 // A part of a long value stores nothing.
-fn give_long(at: Arriving, nulls: usize, block: &[u8]) -> BlockGiven
-    requires { (at.column < 65536) × (at.used + length block.now < 18446744073709551616) }
-    ensures { ok result ≡ answer_of (give_long nulls at [] block.now) }
+fn give_long(call: Call, nulls: usize) -> BlockGiven
+    requires { call.at.column < 65536 }
+    ensures { ok result ≡ answer_of (give_long nulls call.entry.at [] call.entry.block.now) }
 {
-    let column = at.column;
-    let left = at.left;
-    let len = block.len();
+    let Arriving {
+        column, held, left, ..
+    } = call.at;
+    let len = call.block.len();
     if len == 0 {
-        return took(at, 0, Arrival::More, at);
+        return call.took(0, Arrival::More, call.at);
     }
     if left <= len {
-        let next = standing(column + 1, nulls);
-        return took(at, left, Arrival::Part { column, len: left }, next);
+        let part = Arrival::Part { column, len: left };
+        return call.took(left, part, standing(column + 1, nulls));
     }
-    let next = longing(column, at.held, left - len);
-    took(at, len, Arrival::Part { column, len }, next)
+    let part = Arrival::Part { column, len };
+    call.took(len, part, longing(column, held, left - len))
 }
 
 #[tactic(auto, unfolding(crate::specs::Gives::give_block, crate::specs::Gives::given_fit, crate::specs::Gives::give_in))]
@@ -83,9 +83,10 @@ fn give_block<'a>(
     if !is_fit(lent, carry, at) {
         return Err(wire::refuse(UNFIT_STATE, 0));
     }
+    let call = Call { at, block };
     match at.phase {
-        Phase::Open => give_open(lent, carry, block, at),
-        Phase::Long => Ok(give_long(at, head.nulls, block)),
+        Phase::Open => give_open(lent, carry, call),
+        Phase::Long => Ok(give_long(call, head.nulls)),
         Phase::Closed => Err(wire::refuse(UNFIT_STATE, 0)),
     }
 }

@@ -1,7 +1,6 @@
 // The bytes at hand: what the carry holds, and the block behind it.
-ghost use Rattle.std.specs.Prelude.{◌≡◌, ◌++◌, ◌+◌, ◌-◌, ◌≤◌, ◌<◌, length, get_or, take};
+ghost use Rattle.std.specs.Prelude.{◌≡◌, ◌++◌, ◌<◌, get_or};
 ghost use Rattle.wire.specs.Bits.{bit_lsb0};
-ghost use Rattle.wire.specs.Stored.{stored};
 ghost use Rattle.blocks.specs.Inner.Hands.{Heads};
 
 #[derive(Clone, Copy)]
@@ -49,15 +48,4 @@ impl Hand<'_> {
         }
         head
     }
-}
-
-// The bytes of the block up to `upto`, counted from the front of the carry, go behind what the carry holds: how many these are.
-pub(crate) fn commit(carry: &mut [u8], held: usize, block: &[u8], upto: usize) -> usize
-    requires { (held ≤ length carry.old) × (upto ≤ length carry.old) × (upto ≤ held + length block.now) }
-    ensures value { result ≡ upto - held }
-    ensures carry_after { carry.new ≡ stored (take (upto - held) block.now) carry.old held }
-{
-    let taken = upto.saturating_sub(held);
-    carry[held..held + taken].copy_from_slice(&block[..taken]);
-    taken
 }

@@ -1,6 +1,7 @@
 // An image that arrives in blocks. Added by document 02.
 #![tactic(auto)]
 
+mod call;
 mod end;
 mod fit;
 mod give;

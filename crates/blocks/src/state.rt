@@ -1,7 +1,7 @@
 // What a call leaves for the next, and what it answers.
-ghost use Rattle.std.specs.Prelude.{◌≡◌, ◌+◌, ◌<◌};
+ghost use Rattle.std.specs.Prelude.{◌≡◌};
 ghost use Rattle.blocks.specs.States.{shut_with, given_of, ended_of};
-ghost use Rattle.blocks.specs.Inner.Hands.{standing, longing, took_by};
+ghost use Rattle.blocks.specs.Inner.Hands.{standing, longing};
 
 use value::Value;
 use wire::Refusal;
@@ -87,7 +87,7 @@ pub(crate) fn ended_of(end: Result<usize, Refusal>) -> Given
     shut(end.map(|used| Arrival::End { used }))
 }
 
-// The bytes used are counted where they are taken.
+// The bytes used are counted where they are taken (`Call::took`).
 pub(crate) fn standing(column: usize, held: usize) -> Arriving
     ensures { result ≡ standing column held }
 {
@@ -109,18 +109,5 @@ pub(crate) fn longing(column: usize, held: usize, left: usize) -> Arriving
         held,
         left,
         used: 0,
-    }
-}
-
-// So many bytes are taken: `next` is the state behind them, but for the bytes used.
-pub(crate) fn took(at: Arriving, taken: usize, arrival: Arrival, next: Arriving) -> BlockGiven
-    requires { at.used + taken < 18446744073709551616 }
-    ensures { result ≡ took_by at taken arrival next }
-{
-    let used = at.used + taken;
-    BlockGiven {
-        arrival,
-        taken,
-        next: Arriving { used, ..next },
     }
 }

@@ -46,17 +46,11 @@ standing column held = record { phase = Open; column = column; held = held; left
 abbrev pub longing : ℕ → ℕ → ℕ → Arriving
 longing column held left = record { phase = Long; column = column; held = held; left = left; used = 0 }
 
--- ---- the tests for 11, 12, 20 and 21 were passed
-pub record Sits (r p : List ℕ) (carry block columns nulls : ℕ) (at : Arriving) : Type 0 where
-  pub valid : record_valid r ≡ true
-  pub count : columns ≡ count_of r
-  pub bits : nulls ≡ bytes_for (count_bits p columns)
-  pub few : columns ≤ most_columns
+-- ---- the state is fit, and the carry is large enough
+pub record Sits (carry columns nulls : ℕ) (at : Arriving) : Type 0 where
   pub room : nulls + 64 ≤ carry
   pub among : at.column ≤ columns
   pub fits : at.held ≤ carry
-  pub small : at.used + block < 18446744073709551616
-  pub sum : at.held + block < 18446744073709551616
 
 -- and, the null bits being there, the column found is one that is not NULL
 pub record Holds (carry block nulls : ℕ) (at : Arriving) (found : ℕ) (kind : Column) : Type 0 where
@@ -64,8 +58,6 @@ pub record Holds (carry block nulls : ℕ) (at : Arriving) (found : ℕ) (kind :
   pub narrow : nulls < 65536
   pub there : nulls ≤ at.held + block
   pub fits : at.held ≤ carry
-  pub small : at.used + block < 18446744073709551616
-  pub sum : at.held + block < 18446744073709551616
   pub column : found < 65536
   pub taken : is_taken (shape_of kind) ≡ true
 
@@ -75,7 +67,6 @@ pub record Wholes (sh : Shape) (carry block : List ℕ) (nulls : ℕ) (at : Arri
   pub there : nulls ≤ at.held + length block
   pub upto : nulls + n ≤ length carry
   pub high : nulls + n ≤ at.held + length block
-  pub small : at.used + length block < 18446744073709551616
   pub column : found < 65536
   pub taken : is_taken sh ≡ true
   pub size : need sh (drop nulls (at_hand at carry block)) ≡ n
@@ -86,20 +77,6 @@ unfoldable pub held_shape : List ℕ → List ℕ → List ℕ → ℕ → ℕ �
 unfolding bit_lsb0 count_bits shape_at
 held_shape r p y n j =
     cond (eqb j n) (NotTaken 0) (cond (bit_lsb0 p j) (cond (bit_lsb0 y (count_bits p j)) (NotTaken 0) (shape_at r j)) (NotTaken 0))
-
--- the tests for 11, 12 and 20 were passed
-pub record Tested (r p : List ℕ) (carry columns nulls : ℕ) : Type 0 where
-  pub valid : record_valid r ≡ true
-  pub presence : length p ≡ bytes_for (count_of r)
-  pub count : columns ≡ count_of r
-  pub bits : nulls ≡ bytes_for (count_bits p columns)
-  pub few : columns ≤ most_columns
-  pub least : 1024 ≤ carry
-
--- the numbers of a state are within their bounds
-pub record Numbered (carry columns : ℕ) (at : Arriving) : Type 0 where
-  pub among : at.column ≤ columns
-  pub fits : at.held ≤ carry
 
 -- the first present column that is not NULL of the m from j on, or where they end
 unfoldable pub due_from : ℕ → List ℕ → List ℕ → ℕ → ℕ
