@@ -2,7 +2,7 @@
 -- the end call tells what is to come when nothing comes. `Joins`, `Wholes`: the stream from the first state, long values joined, is the
 -- walk. `Runs`: so blocks given one after the other tell the walk. `Fits`: fit states are those that the laws speak of. `Taken`: what a
 -- call takes, counts and leaves. `Answers`: which refusals a call has. `Carries`, `Turned`, `Spends`: what these lean on. `Hands`, `Opens`,
--- `Values`, `Sitting`, `Heldings`, `Fitting`: for the functions. `Worked`: document 01's worked image, cut at every place, computed.
+-- `Values`, `Sitting`, `Heldings`, `Seats`, `Fitting`: for the functions. `Worked`: document 01's worked image, cut at every place, computed.
 pub mod Carries
 pub mod Turned
 pub mod Spends
@@ -21,5 +21,6 @@ pub mod Opens
 pub mod Values
 pub mod Sitting
 pub mod Heldings
+pub mod Seats
 pub mod Fitting
 mod Worked

@@ -14,9 +14,8 @@ use wire::refusal::{IMAGE_SHORT, UNFIT_STATE};
 impl Seat<'_> {
     // The first present column from the state's on that is not NULL, or how many columns there are.
     fn first_due(self) -> usize
-        ensures { result
-            ≡ due_from (self.entry.lent.head.columns - self.entry.at.column) self.entry.lent.presence.now (take self.entry.at.held self.entry.carry.now)
-            self.entry.at.column }
+        ensures { let s = self.entry in
+            result ≡ due_from (s.lent.head.columns - s.at.column) s.lent.presence.now (take s.at.held s.carry.now) s.at.column }
     {
         let presence = self.lent.presence;
         let columns = self.lent.head.columns;
@@ -36,7 +35,7 @@ impl Seat<'_> {
 
     #[tactic(auto, unfolding(crate::specs::Inner::Hands::end_open))]
     fn end_open(self) -> Result<usize, Refusal>
-        ensures { result ≡ end_open self.entry.lent.presence.now self.entry.lent.head.columns self.entry.lent.head.nulls self.entry.at self.entry.carry.now }
+        ensures { let s = self.entry in let l = s.lent in result ≡ end_open l.presence.now l.head.columns l.head.nulls s.at s.carry.now }
     {
         if self.at.held < self.lent.head.nulls {
             return Err(wire::refuse(IMAGE_SHORT, 0));

@@ -14,7 +14,7 @@ use value::Shape;
 
 #[tactic(auto, unfolding(crate::specs::Fits::is_fit, crate::specs::Fits::fits_in))]
 pub(crate) fn is_fit<'a>(lent: Lent<'a>, carry: &'a [u8], at: Arriving) -> bool
-    ensures { result ≡ is_fit lent.entry.profile.now lent.entry.presence.now lent.entry.head.columns lent.entry.head.nulls at carry.now }
+    ensures { let l = lent.entry in result ≡ is_fit l.profile.now l.presence.now l.head.columns l.head.nulls at carry.now }
 {
     if !is_counted(lent, carry.len(), at) {
         return false;
@@ -30,7 +30,7 @@ pub(crate) fn is_fit<'a>(lent: Lent<'a>, carry: &'a [u8], at: Arriving) -> bool
 // What its numbers obey in each phase.
 #[tactic(auto, using(wire::proofs::Rules::tests), unfolding(crate::specs::Fits::is_counted))]
 fn is_counted(lent: Lent, len: usize, at: Arriving) -> bool
-    ensures { result ≡ is_counted lent.entry.profile.now lent.entry.presence.now lent.entry.head.columns len at }
+    ensures { let l = lent.entry in result ≡ is_counted l.profile.now l.presence.now l.head.columns len at }
 {
     at.column <= lent.head.columns
         && at.held <= len
@@ -40,7 +40,7 @@ fn is_counted(lent: Lent, len: usize, at: Arriving) -> bool
 
 // No image takes more bytes than there is room for.
 fn is_within(lent: Lent, used: usize) -> bool
-    ensures { result ≡ leb used (image_room lent.entry.profile.now lent.entry.presence.now) }
+    ensures { let l = lent.entry in result ≡ leb used (image_room l.profile.now l.presence.now) }
 {
     match image::image_room(lent.profile, lent.presence) {
         Ok(room) => used as u64 <= room,
@@ -51,7 +51,7 @@ fn is_within(lent: Lent, used: usize) -> bool
 impl<'a> Seat<'a> {
     #[tactic(auto, using(wire::proofs::Rules::tests), unfolding(crate::specs::Fits::fits_in))]
     fn fits_open(self) -> bool
-        ensures { result ≡ fits_in Open self.entry.lent.profile.now self.entry.lent.presence.now self.entry.lent.head.nulls self.entry.at self.entry.carry.now }
+        ensures { let s = self.entry in result ≡ fits_in Open s.lent.profile.now s.lent.presence.now s.lent.head.nulls s.at s.carry.now }
     {
         let at = self.at;
         let nulls = self.lent.head.nulls;
@@ -67,7 +67,7 @@ impl<'a> Seat<'a> {
 
     #[tactic(auto, using(wire::proofs::Rules::tests), unfolding(crate::specs::Fits::fits_in))]
     fn fits_long(self) -> bool
-        ensures { result ≡ fits_in Long self.entry.lent.profile.now self.entry.lent.presence.now self.entry.lent.head.nulls self.entry.at self.entry.carry.now }
+        ensures { let s = self.entry in result ≡ fits_in Long s.lent.profile.now s.lent.presence.now s.lent.head.nulls s.at s.carry.now }
     {
         let at = self.at;
         let nulls = self.lent.head.nulls;
@@ -84,9 +84,8 @@ impl<'a> Seat<'a> {
     // nothing waits.
     #[tactic(auto, using(wire::proofs::Rules::tests), unfolding(crate::specs::Inner::Hands::held_shape, image::specs::Present::shape_at))]
     fn held_shape(self) -> Shape
-        ensures { result
-            ≡ held_shape self.entry.lent.profile.now self.entry.lent.presence.now (take self.entry.at.held self.entry.carry.now) self.entry.lent.head.columns
-            self.entry.at.column }
+        ensures { let s = self.entry in let l = s.lent in
+            result ≡ held_shape l.profile.now l.presence.now (take s.at.held s.carry.now) l.head.columns s.at.column }
     {
         let lent = self.lent;
         let column = self.at.column;
@@ -103,10 +102,10 @@ impl<'a> Seat<'a> {
     // What the bytes that are held say of it.
     fn held_turn(self) -> Turn
         requires { self.lent.head.nulls ≤ self.at.held }
-        ensures { result
-            ≡ turn_of (length self.entry.carry.now - self.entry.lent.head.nulls)
-            (held_shape self.entry.lent.profile.now self.entry.lent.presence.now (take self.entry.at.held self.entry.carry.now) self.entry.lent.head.columns self.entry.at.column)
-            (drop self.entry.lent.head.nulls (take self.entry.at.held self.entry.carry.now)) }
+        ensures { let s = self.entry in let l = s.lent in let held = take s.at.held s.carry.now in
+            result
+            ≡ turn_of (length s.carry.now - l.head.nulls) (held_shape l.profile.now l.presence.now held l.head.columns s.at.column)
+            (drop l.head.nulls held) }
     {
         let nulls = self.lent.head.nulls;
         let hand = Hand {

@@ -48,7 +48,10 @@ fn give_long(call: Call, nulls: usize) -> BlockGiven
     ensures { ok result ≡ answer_of (give_long nulls call.entry.at [] call.entry.block.now) }
 {
     let Arriving {
-        column, held, left, ..
+        column,
+        held,
+        left,
+        ..
     } = call.at;
     let len = call.block.len();
     if len == 0 {

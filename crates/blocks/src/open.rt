@@ -17,11 +17,7 @@ use image::Head;
 use value::{Column, Shape};
 use wire::Refusal;
 
-pub(crate) fn give_open(
-    lent: Lent,
-    carry: &mut [u8],
-    call: Call,
-) -> Result<BlockGiven, Refusal>
+pub(crate) fn give_open(lent: Lent, carry: &mut [u8], call: Call) -> Result<BlockGiven, Refusal>
     requires { Sits (length carry.old) lent.head.columns lent.head.nulls call.at }
     ensures value { let l = lent.entry in let c = call.entry in
         result ≡ answer_of (give_open l.profile.now l.presence.now l.head.nulls c.at carry.old c.block.now) }

@@ -1,13 +1,12 @@
 -- What the functions over the bytes at hand answer, and what they count on. Assumes nothing.
 use Rattle.std.specs.Prelude.{ℕ, zero, suc, ◌+◌, ◌-◌, ◌≤◌, ◌<◌, ◌≡◌, true, cond, ◌&&◌, List, length, get_or, take, drop, leb, ltb, eqb}
-use Rattle.wire.specs.Bits.{bytes_for, bit_lsb0}
+use Rattle.wire.specs.Bits.{bit_lsb0}
 use Rattle.wire.specs.Outcome.{Outcome, ok, refuse}
 use Rattle.value.specs.declared.shape.Shape.{Shape}
 use Rattle.value.specs.declared.shape.Shape.TheVariants.{NotTaken}
 use Rattle.value.specs.declared.column.Column.{Column}
 use Rattle.value.specs.Columns.{shape_of, is_taken}
 use Rattle.value.specs.Shapes.{need}
-use Rattle.record.specs.Records.{most_columns, count_of, record_valid}
 use Rattle.image.specs.Present.{count_bits, shape_at}
 use Rattle.blocks.specs.declared.state.Phase.TheVariants.{Open, Long}
 use Rattle.blocks.specs.declared.state.Arriving.{Arriving}

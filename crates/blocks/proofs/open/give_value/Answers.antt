@@ -25,8 +25,12 @@ take_to-requires c =
 pub overflow_add-upto : goal.overflow_add-upto
 overflow_add-upto c =
     let a = c.args in
-    omega (arith, c.requires.narrow, c.prefix_of.ensures,
-    prefix_few a.carry.now a.call.block.now c.requires c.head-head.ensures c.shape_of-shape.ensures c.turn_of.ensures)
+    omega (
+      arith,
+      c.requires.narrow,
+      c.prefix_of.ensures,
+      prefix_few a.carry.now a.call.block.now c.requires c.head-head.ensures c.shape_of-shape.ensures c.turn_of.ensures,
+    )
 
 pub take_to-requires-in-Long : goal.take_to-requires-in-Long
 take_to-requires-in-Long c =
