@@ -7,7 +7,7 @@ use wire::Refusal;
 use wire::refusal::BAD_BITS;
 
 // A column, and an offset in the image.
-#[derive(Clone, Copy)]
+#[derive(Clone, Copy, Debug, PartialEq, Eq)]
 pub struct Cursor {
     pub column: usize,
     pub offset: usize,
@@ -15,7 +15,7 @@ pub struct Cursor {
 
 // What a valid record and presence bits of its length say: how many columns there are, how many of them are present, and how many bytes of
 // null bits these have.
-#[derive(Clone, Copy)]
+#[derive(Clone, Copy, Debug, PartialEq, Eq)]
 pub struct Head {
     pub columns: usize,
     pub present: usize,

@@ -2,8 +2,8 @@
 ghost use Rattle.std.specs.Prelude.{◌≡◌};
 ghost use Rattle.image.specs.Walk.{walk_image};
 
-use crate::cursor::read_head;
-use crate::step::{InnerCursor, NullBit, Step, step_inner};
+use crate::cursor::{Cursor, read_head};
+use crate::step::{InnerCursor, Step, step_inner};
 use wire::Refusal;
 use wire::refusal::IMAGE_SHORT;
 
@@ -13,24 +13,19 @@ pub fn walk_end(profile: &[u8], presence: &[u8], image: &[u8]) -> Result<usize, 
     ensures { result ≡ (walk_image profile.now presence.now image.now).how }
 {
     let head = read_head(profile, presence)?;
-    let columns = head.columns;
-    let offset = head.nulls;
-    if image.len() < offset {
+    if image.len() < head.nulls {
         return Err(wire::refuse(IMAGE_SHORT, 0));
     }
     let mut at = InnerCursor {
-        column: 0,
-        bit: NullBit(0),
-        offset,
+        cursor: Cursor {
+            column: 0,
+            offset: head.nulls,
+        },
+        rank: 0,
     };
     loop {
-        match step_inner(profile, presence, image, columns, at)? {
-            Step::Null { column: _, next } => at = next,
-            Step::Value {
-                column: _,
-                value: _,
-                next,
-            } => at = next,
+        match step_inner(profile, presence, image, head.columns, at)? {
+            Step::Null { next, .. } | Step::Value { next, .. } => at = next,
             Step::End { used } => return Ok(used),
         }
     }

@@ -1,27 +1,15 @@
 // Bits of presence, one for each column of the record, the lowest of each byte first.
-ghost use Rattle.std.specs.Prelude.{◌≡◌, cond, ◌-◌, ◌≤◌};
-ghost use Rattle.wire.specs.Bits.{bit_lsb0};
+ghost use Rattle.std.specs.Prelude.{◌≡◌, ◌-◌};
 ghost use Rattle.image.specs.Present.{count_bits, first_from};
 
-// What bit i adds to a count: 1 if it is set, else 0.
-fn weight(s: &[u8], i: usize) -> usize
-    ensures { (result ≡ cond (bit_lsb0 s.now i) 1 0) × (result ≤ 1) }
-{
-    if wire::bit_lsb0(s, i) {
-        return 1;
-    }
-    0
-}
-
-// How many of the first n bits are set.
+// How many of the first n bits are set. A sum by hand: `filter` and `count` take more than twice as long.
+#[tactic(auto, using(crate::proofs::PresenceLaws::Firsts::count_none, crate::proofs::PresenceLaws::Firsts::count_more, crate::proofs::PresenceLaws::Firsts::count_at_most))]
 pub fn count_bits(s: &[u8], n: usize) -> usize
     ensures { result ≡ count_bits s.now n }
 {
-    let mut count: usize = 0;
-    let mut i: usize = 0;
-    while i < n {
-        count += weight(s, i);
-        i += 1;
+    let mut count = 0;
+    for i in 0..n {
+        count += usize::from(wire::bit_lsb0(s, i));
     }
     count
 }
@@ -30,12 +18,7 @@ pub fn count_bits(s: &[u8], n: usize) -> usize
 pub fn first_set(s: &[u8], from: usize, n: usize) -> usize
     ensures { result ≡ first_from (n - from) s.now from }
 {
-    let mut j = from;
-    while j < n {
-        if wire::bit_lsb0(s, j) {
-            return j;
-        }
-        j += 1;
-    }
-    j
+    (from..n)
+        .find(|&i| wire::bit_lsb0(s, i))
+        .unwrap_or(from.max(n))
 }

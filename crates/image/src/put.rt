@@ -4,13 +4,13 @@ ghost use Rattle.wire.specs.Bits.{bytes_for};
 ghost use Rattle.wire.specs.Stored.{stored, answer_of, left_of};
 ghost use Rattle.value.specs.Reading.{datum_of};
 ghost use Rattle.image.specs.Split.{slots_at};
-ghost use Rattle.image.specs.Inner.Steps.{cursor_of, Placed};
+ghost use Rattle.image.specs.Inner.Steps.{Placed};
 ghost use Rattle.image.specs.Rows.{is_null};
 ghost use Rattle.image.specs.Puts.{head_nulls, spare_set, filled, start_image, put_over, put_from};
 
 use crate::cursor::{Cursor, Head, read_head};
 use crate::presence::{count_bits, first_set};
-use crate::step::{InnerCursor, NullBit};
+use crate::step::InnerCursor;
 use value::Value;
 use wire::Refusal;
 use wire::refusal::{BAD_BITS, NO_COLUMN, NO_ROOM, NOT_TAKEN};
@@ -41,12 +41,14 @@ pub fn start(
         ≡ left_of (start_image profile.now presence.now nulls.now buf.old) buf.old }
 {
     let head = read_head_nulls(profile, presence, nulls)?;
-    let offset = head.nulls;
-    if buf.len() < offset {
+    if buf.len() < head.nulls {
         return Err(wire::refuse(NO_ROOM, 0));
     }
     put_nulls(nulls, head.present, buf);
-    Ok(Cursor { column: 0, offset })
+    Ok(Cursor {
+        column: 0,
+        offset: head.nulls,
+    })
 }
 
 // A byte whose lowest `used` bits are as they were, the others set.
@@ -63,13 +65,12 @@ fn put_nulls(nulls: &[u8], n: usize, buf: &mut [u8])
     requires { (length nulls.now ≡ bytes_for n) × (length nulls.now ≤ length buf.old) }
     ensures { buf.new ≡ stored (filled n nulls.now) buf.old 0 }
 {
-    let _ = wire::write_bytes(nulls, buf, 0);
+    buf[..nulls.len()].copy_from_slice(nulls);
     let used = n % 8;
-    if used == 0 {
-        return;
+    if used != 0 {
+        let last = n / 8;
+        buf[last] = spare_set(used, nulls[last]);
     }
-    let last = n / 8;
-    buf[last] = spare_set(used, nulls[last]);
 }
 
 // A step on a record, presence bits and null bits that were tested: the next present column from the cursor on takes the value, whose bytes
@@ -86,50 +87,43 @@ fn put_inner(
 ) -> Result<Cursor, Refusal>
     requires { Placed profile.now presence.now columns at }
     ensures result_value { result
-        ≡ answer_of (put_over (slots_at profile.now presence.now nulls.now at.column) (cursor_of at)
+        ≡ answer_of (put_over (slots_at profile.now presence.now nulls.now at.cursor.column) at.cursor
         lent.now value buf.old) }
     ensures buf_after { buf.new
-        ≡ left_of (put_over (slots_at profile.now presence.now nulls.now at.column) (cursor_of at)
+        ≡ left_of (put_over (slots_at profile.now presence.now nulls.now at.cursor.column) at.cursor
         lent.now value buf.old)
         buf.old }
 {
-    let column = first_set(presence, at.column, columns);
+    let offset = at.cursor.offset;
+    let column = first_set(presence, at.cursor.column, columns);
     if column == columns {
-        return Err(wire::refuse(NO_COLUMN, at.column));
+        return Err(wire::refuse(NO_COLUMN, at.cursor.column));
     }
-    let offset = at.offset;
+    let null = is_null(value);
+    if null != wire::bit_lsb0(nulls, at.rank) {
+        return Err(wire::refuse(NOT_TAKEN, column));
+    }
     let behind = column + 1;
-    let is_marked = wire::bit_lsb0(nulls, at.bit.0);
-    if is_null(value) {
-        if !is_marked {
-            return Err(wire::refuse(NOT_TAKEN, column));
-        }
-        if buf.len() < offset {
-            return Err(wire::refuse(NO_ROOM, 0));
-        }
+    if null {
+        let offset = wire::write_bytes(&[], buf, offset)?;
         return Ok(Cursor {
             column: behind,
             offset,
         });
     }
-    if is_marked {
-        return Err(wire::refuse(NOT_TAKEN, column));
-    }
     let stored = record::column_of(record::entry_in(profile, column));
-    let next = value::write_value(stored, value, lent, buf, offset, column)?;
+    let offset = value::write_value(stored, value, lent, buf, offset, column)?;
     Ok(Cursor {
         column: behind,
-        offset: next,
+        offset,
     })
 }
 
+#[tactic(auto, unfolding(crate::specs::Rows::is_null, value::specs::Reading::datum_of))]
 fn is_null(value: Value) -> bool
     ensures { result ≡ is_null (datum_of [] value) }
 {
-    match value {
-        Value::Null => true,
-        _ => false,
-    }
+    matches!(value, Value::Null)
 }
 
 impl Cursor {
@@ -152,19 +146,14 @@ impl Cursor {
             buf.old)
             buf.old }
     {
-        let column = self.column;
-        let offset = self.offset;
         let head = read_head_nulls(profile, presence, nulls)?;
-        let columns = head.columns;
-        if columns < column {
-            return Err(wire::refuse(NO_COLUMN, column));
+        if head.columns < self.column {
+            return Err(wire::refuse(NO_COLUMN, self.column));
         }
-        let bit = NullBit(count_bits(presence, column));
         let at = InnerCursor {
-            column,
-            bit,
-            offset,
+            cursor: self,
+            rank: count_bits(presence, self.column),
         };
-        put_inner(profile, presence, nulls, columns, at, value, lent, buf)
+        put_inner(profile, presence, nulls, head.columns, at, value, lent, buf)
     }
 }

@@ -26,12 +26,9 @@ pub fn image_room(profile: &[u8], presence: &[u8]) -> Result<u64, Refusal>
     ensures { result ≡ read_room profile.now presence.now }
 {
     let head = read_head(profile, presence)?;
-    let columns = head.columns;
     let mut bytes = head.nulls as u64;
-    let mut column: usize = 0;
-    while column < columns {
+    for column in 0..head.columns {
         bytes += column_room(profile, presence, column);
-        column += 1;
     }
     Ok(bytes)
 }

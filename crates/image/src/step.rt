@@ -1,7 +1,7 @@
 // One step over an image: the next present column from a cursor on.
 ghost use Rattle.std.specs.Prelude.{◌≡◌};
 ghost use Rattle.image.specs.Split.{step_over, slots_at, step_from};
-ghost use Rattle.image.specs.Inner.Steps.{Placed, cursor_of, without_bit, inner_told, Ranked};
+ghost use Rattle.image.specs.Inner.Steps.{Placed, without_rank, inner_told, Ranked};
 
 use crate::cursor::{Cursor, read_head};
 use crate::presence::{count_bits, first_set};
@@ -27,17 +27,12 @@ pub enum Step<C> {
     },
 }
 
-// Which null bit: as many as present columns stand before the column.
-#[derive(Clone, Copy)]
-pub(crate) struct NullBit(pub usize);
-
-// A cursor that knows its null bit. A loop over the steps of a row need not count present columns again; the public step, which believes no
-// cursor, counts them each time.
-#[derive(Clone, Copy)]
+// A cursor that knows its rank: how many present columns stand before its own, which is the number of the next one's null bit. A loop over
+// the steps of a row need not count them again; the public step, which believes no cursor, counts them each time.
+#[derive(Clone, Copy, Debug, PartialEq, Eq)]
 pub(crate) struct InnerCursor {
-    pub column: usize,
-    pub bit: NullBit,
-    pub offset: usize,
+    pub cursor: Cursor,
+    pub rank: usize,
 }
 
 // A step on a record and presence bits that were tested.
@@ -50,56 +45,52 @@ pub(crate) fn step_inner(
 ) -> Result<Step<InnerCursor>, Refusal>
     requires { Placed profile.now presence.now columns at }
     ensures result_value { inner_told result
-        ≡ step_over (slots_at profile.now presence.now image.now at.column) image.now
-        at.offset }
+        ≡ step_over (slots_at profile.now presence.now image.now at.cursor.column) image.now
+        at.cursor.offset }
     ensures ranked { Ranked presence.now result }
 {
-    let column = first_set(presence, at.column, columns);
+    let offset = at.cursor.offset;
+    let column = first_set(presence, at.cursor.column, columns);
     if column == columns {
-        return Ok(Step::End { used: at.offset });
+        return Ok(Step::End { used: offset });
     }
     let behind = column + 1;
-    let rank = at.bit.0 + 1;
-    if wire::bit_lsb0(image, at.bit.0) {
+    let rank = at.rank + 1;
+    if wire::bit_lsb0(image, at.rank) {
         return Ok(Step::Null {
             column,
             next: InnerCursor {
-                column: behind,
-                bit: NullBit(rank),
-                offset: at.offset,
+                cursor: Cursor {
+                    column: behind,
+                    offset,
+                },
+                rank,
             },
         });
     }
     let stored = record::column_of(record::entry_in(profile, column));
-    let (value, offset) = value::read_value(stored, image, at.offset, column)?;
+    let (value, offset) = value::read_value(stored, image, offset, column)?;
     Ok(Step::Value {
         column,
         value,
         next: InnerCursor {
-            column: behind,
-            bit: NullBit(rank),
-            offset,
+            cursor: Cursor {
+                column: behind,
+                offset,
+            },
+            rank,
         },
     })
 }
 
-fn cursor_of(at: InnerCursor) -> Cursor
-    ensures { result ≡ cursor_of at }
-{
-    Cursor {
-        column: at.column,
-        offset: at.offset,
-    }
-}
-
-// The answer without null bits.
-fn without_bit(step: Step<InnerCursor>) -> Step<Cursor>
-    ensures { result ≡ without_bit step }
+// The step without ranks.
+fn without_rank(step: Step<InnerCursor>) -> Step<Cursor>
+    ensures { result ≡ without_rank step }
 {
     match step {
         Step::Null { column, next } => Step::Null {
             column,
-            next: cursor_of(next),
+            next: next.cursor,
         },
         Step::Value {
             column,
@@ -108,7 +99,7 @@ fn without_bit(step: Step<InnerCursor>) -> Step<Cursor>
         } => Step::Value {
             column,
             value,
-            next: cursor_of(next),
+            next: next.cursor,
         },
         Step::End { used } => Step::End { used },
     }
@@ -125,26 +116,21 @@ impl Cursor {
     ) -> Result<Step<Cursor>, Refusal>
         ensures { result ≡ step_from profile.now presence.now image.now self }
     {
-        let column = self.column;
-        let offset = self.offset;
         let head = read_head(profile, presence)?;
-        let columns = head.columns;
-        if columns < column {
-            return Err(wire::refuse(NO_COLUMN, column));
+        if head.columns < self.column {
+            return Err(wire::refuse(NO_COLUMN, self.column));
         }
         if image.len() < head.nulls {
             return Err(wire::refuse(IMAGE_SHORT, 0));
         }
-        if image.len() < offset {
-            return Err(wire::refuse(IMAGE_SHORT, column));
+        if image.len() < self.offset {
+            return Err(wire::refuse(IMAGE_SHORT, self.column));
         }
-        let bit = NullBit(count_bits(presence, column));
         let at = InnerCursor {
-            column,
-            bit,
-            offset,
+            cursor: self,
+            rank: count_bits(presence, self.column),
         };
-        let step = step_inner(profile, presence, image, columns, at)?;
-        Ok(without_bit(step))
+        let step = step_inner(profile, presence, image, head.columns, at)?;
+        Ok(without_rank(step))
     }
 }

@@ -3,7 +3,7 @@
 use Prim.Native.Nat.{ℕ, ◌+◌, ◌-◌, ◌≤◌, ◌<◌}
 use mathlib.Core.Path.{◌≡◌, refl, sym, ap, subst, ◌∙◌}
 use mathlib.Core.Bool.{Bool, true, false}
-use mathlib.Core.Logic.{dite}
+use mathlib.Core.Logic.{dite, inl, inr, ◌⊎◌}
 use mathlib.Core.List.{List, [], ◌∷◌}
 use native.Mathlib.Decide.{dec_le}
 use native.Mathlib.Omega.{arith}
@@ -24,7 +24,7 @@ use Rattle.image.specs.declared.step.InnerCursor.{InnerCursor}
 use Rattle.image.specs.declared.step.Step.{Step}
 use Rattle.image.specs.Present.{count_bits, first_from}
 use Rattle.image.specs.Split.{Slot, slots_at, cursor, head_of, first_cursor, ColumnStepped, null, value, end, step_over, slots_left}
-use Rattle.image.specs.Inner.Steps.{cursor_of, inner_told, Ranked, Placed}
+use Rattle.image.specs.Inner.Steps.{inner_told, Ranked, Placed}
 use Rattle.image.specs.Walk.{RowWalked, going_on, walk_from, walk_image, row_onward}
 use Rattle.image.proofs.PresenceLaws.Firsts.{first_is, count_none, slot_at, slots_end, slots_first}
 use Rattle.image.proofs.CursorLaws.Heads.{head_tested}
@@ -91,8 +91,8 @@ moves r p im j o t h l e =
 -- what holds at each turn: the cursor is one that an inner step can count on, and the walk ends as it does from there
 pub record Going (r p im : List ℕ) (columns : ℕ) (at : InnerCursor) : Type 0 where
   pub placed : Placed r p columns at
-  pub within : at.offset ≤ length im
-  pub rest : (walk_image r p im).how ≡ (walk_from r p im (cursor_of at)).how
+  pub within : at.cursor.offset ≤ length im
+  pub rest : (walk_image r p im).how ≡ (walk_from r p im at.cursor).how
 
 -- before the first turn
 pub walk_refused : (r p im : List ℕ) {w : Refusal} → head_of r p ≡ refused w → (walk_image r p im).how ≡ refused w
@@ -109,7 +109,7 @@ module _ (r p im : List ℕ) {h : Head} (e : head_of r p ≡ ok h) where
   walk_cut l = ap (λ (w : RowWalked). w.how) walk_begins ∙ rw (e, le-ltb h.columns 0 (omega arith), lt-ltb (length im) h.nulls l)
 
   module _ (l : h.nulls ≤ length im) where
-    pub going_first : Going r p im h.columns (record { column = 0; bit = record { 0 = 0 }; offset = h.nulls })
+    pub going_first : Going r p im h.columns (record { cursor = cursor 0 h.nulls; rank = 0 })
     going_first =
         let t = head_tested r p e in
         record {
@@ -125,24 +125,24 @@ module _ (r p im : List ℕ) {h : Head} (e : head_of r p ≡ ok h) where
 
     -- x being what the step at the cursor answered
     module _ {at : InnerCursor} (g : Going r p im h.columns at) (x : Outcome (Step InnerCursor))
-        (q : inner_told x ≡ step_over (slots_at r p im at.column) im at.offset) where
+        (q : inner_told x ≡ step_over (slots_at r p im at.cursor.column) im at.cursor.offset) where
       -- the walk ends as it ends from the step's cursor
       rest_is : (walk_image r p im).how ≡ (row_onward (walk_from r p im) im (inner_told x)).how
       rest_is =
           g.rest
           ∙ ap (λ (w : RowWalked). w.how)
-          (walk_on r p im (cursor_of at)
-          ∙ ap (row_onward (walk_from r p im) im) (step_goes r p im (cursor_of at) e g.placed.column l g.within ∙ sym q))
+          (walk_on r p im at.cursor
+          ∙ ap (row_onward (walk_from r p im) im) (step_goes r p im at.cursor e g.placed.column l g.within ∙ sym q))
 
-      further : (t : ColumnStepped) → inner_told x ≡ ok t → Moves h.columns at.column (length im) t
+      further : (t : ColumnStepped) → inner_told x ≡ ok t → Moves h.columns at.cursor.column (length im) t
       further t y =
           let n = (head_tested r p e).columns in
-          subst (λ (m : ℕ). Moves m at.column (length im) t) (sym n)
-          (moves r p im at.column at.offset t (omega (arith, g.placed.column)) g.within (sym q ∙ y))
+          subst (λ (m : ℕ). Moves m at.cursor.column (length im) t) (sym n)
+          (moves r p im at.cursor.column at.cursor.offset t (omega (arith, g.placed.column)) g.within (sym q ∙ y))
 
-      next_going : (next : InnerCursor) → Further h.columns at.column (length im) (cursor_of next)
-          → next.bit.0 ≡ count_bits p next.column
-          → (walk_image r p im).how ≡ (walk_from r p im (cursor_of next)).how → Going r p im h.columns next
+      next_going : (next : InnerCursor) → Further h.columns at.cursor.column (length im) next.cursor
+          → next.rank ≡ count_bits p next.cursor.column
+          → (walk_image r p im).how ≡ (walk_from r p im next.cursor).how → Going r p im h.columns next
       next_going next f k w =
           record {
             placed =
@@ -151,17 +151,23 @@ module _ (r p im : List ℕ) {h : Head} (e : head_of r p ≡ ok h) where
             rest = w;
           }
 
-      pub going_null : (j : ℕ) (next : InnerCursor) → x ≡ ok (null j next) → Ranked p x
-          → (at.column < next.column) × Going r p im h.columns next
+      going_null : (j : ℕ) (next : InnerCursor) → x ≡ ok (null j next) → Ranked p x
+          → (at.cursor.column < next.cursor.column) × Going r p im h.columns next
       going_null j next y k =
-          let f : Further h.columns at.column (length im) (cursor_of next) = further (null j (cursor_of next)) (ap inner_told y) in
+          let f : Further h.columns at.cursor.column (length im) next.cursor = further (null j next.cursor) (ap inner_told y) in
           (f.on, next_going next f (rw y at k) (rest_is ∙ ap (λ (z : Outcome (Step InnerCursor)). (row_onward (walk_from r p im) im (inner_told z)).how) y))
 
-      pub going_value : (j : ℕ) (v : Value) (next : InnerCursor) → x ≡ ok (value j v next) → Ranked p x
-          → (at.column < next.column) × Going r p im h.columns next
+      going_value : (j : ℕ) (v : Value) (next : InnerCursor) → x ≡ ok (value j v next) → Ranked p x
+          → (at.cursor.column < next.cursor.column) × Going r p im h.columns next
       going_value j v next y k =
-          let f : Further h.columns at.column (length im) (cursor_of next) = further (value j v (cursor_of next)) (ap inner_told y) in
+          let f : Further h.columns at.cursor.column (length im) next.cursor = further (value j v next.cursor) (ap inner_told y) in
           (f.on, next_going next f (rw y at k) (rest_is ∙ ap (λ (z : Outcome (Step InnerCursor)). (row_onward (walk_from r p im) im (inner_told z)).how) y))
+
+      pub going_further : {t : Step InnerCursor} {next : InnerCursor} → x ≡ ok t
+          → ((j : ℕ) × (t ≡ null j next)) ⊎ ((j : ℕ) × (v : Value) × (t ≡ value j v next)) → Ranked p x
+          → (at.cursor.column < next.cursor.column) × Going r p im h.columns next
+      going_further y (inl (j, z)) k = going_null j _ (y ∙ ap ok z) k
+      going_further y (inr (j, v, z)) k = going_value j v _ (y ∙ ap ok z) k
 
       pub going_end : (used : ℕ) → x ≡ ok (end used) → ok used ≡ (walk_image r p im).how
       going_end used y = sym (rest_is ∙ ap (λ (z : Outcome (Step InnerCursor)). (row_onward (walk_from r p im) im (inner_told z)).how) y)

@@ -1,11 +1,15 @@
 -- Which present column comes first from a column on, and which come after it; how many bits are set. Assumes nothing.
-use Prim.Native.Nat.{ℕ, zero, suc, ◌+◌, ◌-◌, ◌≤◌, ◌<◌}
+use Prim.Native.Nat.{ℕ, zero, suc, ◌+◌, ◌-◌, ◌≤◌, ◌<◌, max}
 use mathlib.Core.Path.{◌≡◌, refl, sym, ap, ◌∙◌}
 use mathlib.Core.Bool.{Bool, true, false, cond}
+use mathlib.Core.Logic.{dite}
 use mathlib.Core.List.{List, [], ◌∷◌}
+use native.Mathlib.Decide.{dec_le}
 use native.Mathlib.Nat.{add-zero}
 use native.Mathlib.Numerals.{add-one}
 use native.Mathlib.Omega.{arith}
+use Rattle.std.specs.Prelude.{Option, Some, None}
+use Rattle.std.specs.Option.{MatchOption, unwrap_or}
 use Rattle.wire.specs.Bits.{bit_lsb0}
 use Rattle.record.specs.Records.{count_of}
 use Rattle.image.specs.Present.{Present, count_bits, first_from, shape_at, present_from}
@@ -88,21 +92,43 @@ present_first (suc m) r p j h = go (present_first m r p (suc j)) (bit_lsb0 p j) 
         let n : j + suc m ≡ suc j + m = omega arith in
         rw (first_on m p j e, n, e) (i (omega arith))
 
--- ---- as the loops go
+-- ---- as a search goes
 pub first_stop : (n j : ℕ) (s : List ℕ) → j < n → bit_lsb0 s j ≡ true → first_from (n - j) s j ≡ j
 first_stop n j s h e =
     let k : n - j ≡ suc (n - (j + 1)) = omega arith in
     ap (λ (m : ℕ). first_from m s j) k ∙ first_here (n - (j + 1)) s j e
 
-pub first_step : (n j : ℕ) (s : List ℕ) → j < n → bit_lsb0 s j ≡ false → first_from (n - j) s j ≡ first_from (n - (j + 1)) s (j + 1)
-first_step n j s h e =
-    let k : n - j ≡ suc (n - (j + 1)) = omega arith in
-    ap (λ (m : ℕ). first_from m s j) k ∙ first_on (n - (j + 1)) s j e ∙ ap (first_from (n - (j + 1)) s) (sym (add-one j))
+-- bits that are not set are passed
+first_past : (m j : ℕ) (s : List ℕ) (f : ℕ) → j ≤ f → f ≤ j + m → ((k : ℕ) → j ≤ k → k < f → bit_lsb0 s k ≡ false)
+    → first_from m s j ≡ first_from (j + m - f) s f
+first_past zero j s f l h u =
+    let e : j ≡ f = omega arith in
+    let z : j + 0 - f ≡ 0 = omega arith in
+    ap (first_from 0 s) e ∙ ap (λ (m : ℕ). first_from m s f) (sym z)
+first_past (suc m) j s f l h u =
+    dite (dec_le f j)
+    (λ (a : f ≤ j).
+    let e : j ≡ f = omega arith in
+    let z : j + suc m - f ≡ suc m = omega arith in
+    ap (first_from (suc m) s) e ∙ ap (λ (m : ℕ). first_from m s f) (sym z))
+    (λ a.
+    let z : suc j + m - f ≡ j + suc m - f = omega arith in
+    first_on m s j (u j (omega arith) (omega arith)) ∙ first_past m (suc j) s f (omega arith) (omega arith) (λ k b c. u k (omega arith) c)
+    ∙ ap (λ (m : ℕ). first_from m s f) z)
 
-pub first_done : (n j : ℕ) (s : List ℕ) → n ≤ j → first_from (n - j) s j ≡ j
-first_done n j s h =
-    let k : n - j ≡ 0 = omega arith in
-    ap (λ (m : ℕ). first_from m s j) k ∙ first_end s j
+-- what a search of the bits below n tells
+pub first_told : (s : List ℕ) (from n : ℕ) (r : Option ℕ)
+    → MatchOption r ((k : ℕ) → from ≤ k → k < n → bit_lsb0 s k ≡ false)
+    (λ i. (from ≤ i) × (i < n) × (bit_lsb0 s i ≡ true) × ((k : ℕ) → from ≤ k → k < i → bit_lsb0 s k ≡ false))
+    → unwrap_or r (max from n) ≡ first_from (n - from) s from
+first_told s from n None h =
+    let f = max from n in
+    let z : from + (n - from) - f ≡ 0 = omega arith in
+    sym (first_past (n - from) from s f (omega arith) (omega arith) (λ k a b. h k a (omega arith))
+    ∙ ap (λ (m : ℕ). first_from m s f) z ∙ first_end s f)
+first_told s from n (Some i) (a, b, e, h) =
+    let z : from + (n - from) - i ≡ n - i = omega arith in
+    sym (first_past (n - from) from s i a (omega arith) h ∙ ap (λ (m : ℕ). first_from m s i) z ∙ first_stop n i s b e)
 
 pub count_none : (s : List ℕ) → count_bits s 0 ≡ 0
 unfolding count_bits

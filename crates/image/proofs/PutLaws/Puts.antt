@@ -1,7 +1,7 @@
 -- What the image writer answers and leaves, by what the code finds. Assumes nothing.
 use Prim.Native.Nat.{ℕ, ◌+◌, ◌-◌, ◌≤◌, ◌<◌}
 use mathlib.Core.Path.{◌≡◌, refl, sym, ap, ◌∙◌}
-use mathlib.Core.Bool.{true, false}
+use mathlib.Core.Bool.{Bool, true, false, not, beq}
 use mathlib.Core.List.{List, []}
 use native.Mathlib.Nat.{add-zero}
 use native.Mathlib.Omega.{arith}
@@ -25,7 +25,7 @@ use Rattle.image.specs.declared.cursor.Head.{Head}
 use Rattle.image.specs.declared.step.InnerCursor.{InnerCursor}
 use Rattle.image.specs.Present.{first_from, shape_at}
 use Rattle.image.specs.Split.{cursor, slots_at}
-use Rattle.image.specs.Inner.Steps.{Placed, cursor_of}
+use Rattle.image.specs.Inner.Steps.{Placed}
 use Rattle.image.specs.Rows.{is_null}
 use Rattle.image.specs.Puts.{filled, head_nulls, start_image, slot_bytes, put_over, put_from}
 use Rattle.image.proofs.CursorLaws.Heads.{Tested, head_tested, nulls_tested}
@@ -76,8 +76,15 @@ module _ (r p nulls buf : List ℕ) {h : Head} (e : head_nulls r p nulls ≡ ok 
   start_done x y l = put_next buf (start_goes l ∙ ap (λ (b : List ℕ). ok (cursor 0 h.nulls, b)) (sym y))
 
 -- ---- a step
+-- value and bit agree on NULL
+pub alike : (a b : Bool) → not (beq a b) ≡ false → a ≡ b
+alike true true e = refl
+alike true false e = cc
+alike false true e = cc
+alike false false e = refl
+
 -- the cursor behind a value takes the place after it
-abbrev behind : ℕ → Outcome (ℕ × List ℕ) → Outcome (Cursor × List ℕ)
+abbrev pub behind : ℕ → Outcome (ℕ × List ℕ) → Outcome (Cursor × List ℕ)
 behind j w = after w (λ x. ok (cursor j x.0, x.1))
 
 behind_answer : (j : ℕ) (w : Outcome (ℕ × List ℕ)) → answer_of (behind j w) ≡ after (answer_of w) (λ n. ok (cursor j n))
@@ -91,56 +98,44 @@ behind_left j buf (refused z) = refl
 -- f being the first present column from the cursor on
 module _
     (nulls lent buf : List ℕ) (v : Value) {r p : List ℕ} {n : ℕ} {s : InnerCursor} (h : Placed r p n s) {f : ℕ}
-    (e : f ≡ first_from (n - s.column) p s.column) where
+    (e : f ≡ first_from (n - s.cursor.column) p s.cursor.column) where
   abbrev put : Outcome (Cursor × List ℕ)
-  put = put_over (slots_at r p nulls s.column) (cursor_of s) lent v buf
+  put = put_over (slots_at r p nulls s.cursor.column) s.cursor lent v buf
 
-  pub put_end : f ≡ n → put ≡ refuse 14 s.column
+  pub put_end : f ≡ n → put ≡ refuse 14 s.cursor.column
   unfolding put_over
   put_end u = rw (slots_none h e nulls u)
 
   module _ (u : f ≡ n → ⊥) where
-    -- NULL for a column whose bit says a value
-    pub put_unmarked : is_null (datum_of lent v) ≡ true → bit_lsb0 nulls s.bit.0 ≡ false → put ≡ refuse 13 f
+    -- NULL for a column whose bit says a value, or a value for one whose bit says NULL
+    pub put_unlike : (a b : Bool) → is_null (datum_of lent v) ≡ a → bit_lsb0 nulls s.rank ≡ b → not (beq a b) ≡ true → put ≡ refuse 13 f
     unfolding put_over slot_bytes
-    put_unmarked i b = rw (slots_some h e nulls u, i, b)
-
-    -- and a value for one whose bit says NULL
-    pub put_marked : is_null (datum_of lent v) ≡ false → bit_lsb0 nulls s.bit.0 ≡ true → put ≡ refuse 13 f
-    unfolding put_over slot_bytes
-    put_marked i b = rw (slots_some h e nulls u, i, b)
+    put_unlike true true i b d = cc
+    put_unlike true false i b d = rw (slots_some h e nulls u, i, b)
+    put_unlike false true i b d = rw (slots_some h e nulls u, i, b)
+    put_unlike false false i b d = cc
 
     -- NULL takes no bytes, but the offset must be in the buffer
-    put_null : is_null (datum_of lent v) ≡ true → bit_lsb0 nulls s.bit.0 ≡ true → put ≡ behind (f + 1) (store [] buf s.offset)
+    pub put_null : is_null (datum_of lent v) ≡ true → bit_lsb0 nulls s.rank ≡ true → put ≡ behind (f + 1) (store [] buf s.cursor.offset)
     unfolding put_over slot_bytes
     put_null i b = rw (slots_some h e nulls u, i, b)
 
-    pub put_null_full : is_null (datum_of lent v) ≡ true → bit_lsb0 nulls s.bit.0 ≡ true → length buf < s.offset → put ≡ refuse 8 0
-    put_null_full i b l = put_null i b ∙ ap (behind (f + 1)) (store_full buf [] s.offset (omega arith))
-
-    pub put_null_goes : is_null (datum_of lent v) ≡ true → bit_lsb0 nulls s.bit.0 ≡ true → s.offset ≤ length buf
-        → put ≡ ok (cursor (f + 1) s.offset, buf)
-    put_null_goes i b l = put_null i b ∙ ap (behind (f + 1)) (store_none buf s.offset l)
-
     -- the value as the record's column stores it
-    module _ (i : is_null (datum_of lent v) ≡ false) (b : bit_lsb0 nulls s.bit.0 ≡ false) {k : Column} (g : k ≡ column_of (entry_in r f))
-      where
-        put_value : put ≡ behind (f + 1) (write_value (shape_of k) f lent v buf s.offset)
-        unfolding put_over slot_bytes write_value shape_at
-        put_value =
-            rw (slots_some h e nulls u, i, b)
-            (sym (after_after (stored_bytes (shape_at r f) f lent v) (λ b. store b buf s.offset) (λ x. ok (cursor (f + 1) x.0, x.1)))
-            ∙ ap (λ (c : Column). behind (f + 1) (after (stored_bytes (shape_of c) f lent v) (λ b. store b buf s.offset))) (sym g))
+    pub put_value : is_null (datum_of lent v) ≡ false → bit_lsb0 nulls s.rank ≡ false → {k : Column} → k ≡ column_of (entry_in r f)
+        → put ≡ behind (f + 1) (write_value (shape_of k) f lent v buf s.cursor.offset)
+    unfolding put_over slot_bytes write_value shape_at
+    put_value i b g =
+        rw (slots_some h e nulls u, i, b)
+        (sym (after_after (stored_bytes (shape_at r f) f lent v) (λ b. store b buf s.cursor.offset) (λ x. ok (cursor (f + 1) x.0, x.1)))
+        ∙ ap (λ (c : Column). behind (f + 1) (after (stored_bytes (shape_of c) f lent v) (λ b. store b buf s.cursor.offset))) (sym g))
 
-        -- a being what its writer answered, and x the buffer that it left
-        pub put_wrote : (a : Outcome ℕ) (x : List ℕ) → a ≡ answer_of (write_value (shape_of k) f lent v buf s.offset)
-            → x ≡ left_of (write_value (shape_of k) f lent v buf s.offset) buf
-            → Puts buf put (after a (λ m. ok (cursor (f + 1) m))) x
-        put_wrote a x q y =
-            let w = write_value (shape_of k) f lent v buf s.offset in (
-              sym (ap answer_of put_value ∙ behind_answer (f + 1) w ∙ ap (λ (z : Outcome ℕ). after z (λ m. ok (cursor (f + 1) m))) (sym q)),
-              y ∙ sym (ap (λ (o : Outcome (Cursor × List ℕ)). left_of o buf) put_value ∙ behind_left (f + 1) buf w),
-            )
+    -- a being what a writer of w answered, and x the buffer that it left
+    pub put_wrote : (w : Outcome (ℕ × List ℕ)) (a : Outcome ℕ) (x : List ℕ) → put ≡ behind (f + 1) w → a ≡ answer_of w → x ≡ left_of w buf
+        → Puts buf put (after a (λ m. ok (cursor (f + 1) m))) x
+    put_wrote w a x p q y = (
+      sym (ap answer_of p ∙ behind_answer (f + 1) w ∙ ap (λ (z : Outcome ℕ). after z (λ m. ok (cursor (f + 1) m))) (sym q)),
+      y ∙ sym (ap (λ (o : Outcome (Cursor × List ℕ)). left_of o buf) p ∙ behind_left (f + 1) buf w),
+    )
 
 -- a step from a column above the record's
 pub put_above : (r p nulls : List ℕ) (c : Cursor) (lent : List ℕ) (v : Value) (buf : List ℕ) {h : Head} → head_nulls r p nulls ≡ ok h

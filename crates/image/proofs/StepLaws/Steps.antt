@@ -27,58 +27,58 @@ use Rattle.image.specs.Inner.Steps.{Placed}
 use Rattle.image.proofs.PresenceLaws.Firsts.{IsFirst, first_is, present_at, count_set, count_at_most, slots_end, slots_first}
 
 -- the slots from a cursor on, f being the first present column from it on
-module _ {r p : List ℕ} {n : ℕ} {s : InnerCursor} (h : Placed r p n s) {f : ℕ} (e : f ≡ first_from (n - s.column) p s.column) where
-  here : first_from (count_of r - s.column) p s.column ≡ f
-  here = ap (λ (m : ℕ). first_from (m - s.column) p s.column) (sym h.count) ∙ sym e
+module _ {r p : List ℕ} {n : ℕ} {s : InnerCursor} (h : Placed r p n s) {f : ℕ} (e : f ≡ first_from (n - s.cursor.column) p s.cursor.column) where
+  here : first_from (count_of r - s.cursor.column) p s.cursor.column ≡ f
+  here = ap (λ (m : ℕ). first_from (m - s.cursor.column) p s.cursor.column) (sym h.count) ∙ sym e
 
-  facts : IsFirst (n - s.column) p s.column f
-  facts = subst (IsFirst (n - s.column) p s.column) (sym e) (first_is (n - s.column) p s.column)
+  facts : IsFirst (n - s.cursor.column) p s.cursor.column f
+  facts = subst (IsFirst (n - s.cursor.column) p s.cursor.column) (sym e) (first_is (n - s.cursor.column) p s.cursor.column)
 
   pub column_below : (f ≡ n → ⊥) → f < n
   column_below u = omega (arith, facts.high, h.column)
 
-  rank_is : count_bits p f ≡ s.bit.0
+  rank_is : count_bits p f ≡ s.rank
   rank_is = facts.rank ∙ sym h.rank
 
   -- the rank behind it
-  pub rank_next : (f ≡ n → ⊥) → s.bit.0 + 1 ≡ count_bits p (f + 1)
+  pub rank_next : (f ≡ n → ⊥) → s.rank + 1 ≡ count_bits p (f + 1)
   rank_next u =
       sym (ap (count_bits p) (add-one f) ∙ count_set p f (facts.found (omega (arith, column_below u, h.column))) ∙ ap suc rank_is
-      ∙ sym (add-one s.bit.0))
+      ∙ sym (add-one s.rank))
 
   -- which is no large number
-  pub rank_small : s.bit.0 ≤ most_columns
-  rank_small = omega (arith, h.rank, count_at_most p s.column, h.column, h.few)
+  pub rank_small : s.rank ≤ most_columns
+  rank_small = omega (arith, h.rank, count_at_most p s.cursor.column, h.column, h.few)
 
-  pub slots_none : (im : List ℕ) → f ≡ n → slots_at r p im s.column ≡ []
-  slots_none im u = slots_end r p im s.column (omega (arith, h.column, h.count)) (omega (arith, here, h.count))
+  pub slots_none : (im : List ℕ) → f ≡ n → slots_at r p im s.cursor.column ≡ []
+  slots_none im u = slots_end r p im s.cursor.column (omega (arith, h.column, h.count)) (omega (arith, here, h.count))
 
   pub slots_some : (im : List ℕ) → (f ≡ n → ⊥)
-      → slots_at r p im s.column ≡ record { present = present_at r f; null = bit_lsb0 im s.bit.0 } ∷ slots_at r p im (f + 1)
+      → slots_at r p im s.cursor.column ≡ record { present = present_at r f; null = bit_lsb0 im s.rank } ∷ slots_at r p im (f + 1)
   slots_some im u =
       let w =
-      rw here at (slots_first r p im s.column (omega (arith, h.column, h.count))
+      rw here at (slots_first r p im s.cursor.column (omega (arith, h.column, h.count))
       (omega (arith, here, h.count, column_below u))) in
       rw rank_is at w
 
   module _ (im : List ℕ) (o : ℕ) where
-    pub step_end : f ≡ n → step_over (slots_at r p im s.column) im o ≡ ok (end o)
+    pub step_end : f ≡ n → step_over (slots_at r p im s.cursor.column) im o ≡ ok (end o)
     unfolding step_over
     step_end u = rw (slots_none im u)
 
-    pub step_null : (f ≡ n → ⊥) → bit_lsb0 im s.bit.0 ≡ true
-        → step_over (slots_at r p im s.column) im o ≡ ok (null f (cursor (f + 1) o))
+    pub step_null : (f ≡ n → ⊥) → bit_lsb0 im s.rank ≡ true
+        → step_over (slots_at r p im s.cursor.column) im o ≡ ok (null f (cursor (f + 1) o))
     unfolding step_over
     step_null u b = rw (slots_some im u, b)
 
     -- the value that the record's column says
-    module _ (u : f ≡ n → ⊥) (b : bit_lsb0 im s.bit.0 ≡ false) {k : Column} (g : k ≡ column_of (entry_in r f)) where
+    module _ (u : f ≡ n → ⊥) (b : bit_lsb0 im s.rank ≡ false) {k : Column} (g : k ≡ column_of (entry_in r f)) where
       abbrev pub then : Outcome (Value × ℕ) → Outcome ColumnStepped
       then w = after w (λ x. ok (value f x.0 (cursor (f + 1) x.1)))
 
       -- a being what the reader answered
       pub step_read : (a : Outcome (Value × ℕ)) → a ≡ read_value (shape_of k) f im o
-          → step_over (slots_at r p im s.column) im o ≡ then a
+          → step_over (slots_at r p im s.cursor.column) im o ≡ then a
       unfolding step_over shape_at
       step_read a q = rw (slots_some im u, b) (ap then (ap (λ (c : Column). read_value (shape_of c) f im o) (sym g) ∙ sym q))
 

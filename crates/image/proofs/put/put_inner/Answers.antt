@@ -7,8 +7,8 @@ use Rattle.wire.specs.Outcome.{ok, refused}
 use Rattle.record.specs.Entries.{column_of}
 use Rattle.image.proofs.PutLaws.Sorts.{null_anywhere}
 use Rattle.image.proofs.StepLaws.Steps.{column_below}
-use Rattle.image.proofs.PutLaws.Puts.{put_end, put_unmarked, put_marked, put_null_full, put_null_goes, put_wrote}
-use Rattle.image.proofs.PutLaws.Puts.{put_refused, put_next}
+use Rattle.image.proofs.PutLaws.Puts.{alike, put_end, put_unlike, put_null, put_value, put_wrote}
+use Rattle.image.proofs.PutLaws.Puts.{put_refused}
 use Rattle.image.proofs.put.put_inner.Goals as goal
 
 pub returns-then-column-columns : goal.returns-then-column-columns
@@ -27,66 +27,51 @@ overflow_add-behind c =
       c.requires.few,
     )
 
-pub returns-then-not-is_marked : goal.returns-then-not-is_marked
-returns-then-not-is_marked c = let a = c.args in
-    let i =
-    null_anywhere a.lent.now [] a.value ∙ sym c.is_null.ensures ∙ c.if-is_null.true in
-    let p = put_refused a.buf.now
-    (put_unmarked a.nulls.now a.lent.now a.buf.now a.value
-    c.requires
-    c.first_set-column.ensures c.if-column-columns.false i
-    (sym c.bit_lsb0-is_marked.ensures ∙ c.if-not-is_marked.true)
-    ∙ ap refused (sym c.refuse-then-not-is_marked.ensures)) in record { result_value = p.0; buf_after = p.1 }
-
-pub returns-then-buf-offset : goal.returns-then-buf-offset
-returns-then-buf-offset c = let a = c.args in
-    let i =
-    null_anywhere a.lent.now [] a.value ∙ sym c.is_null.ensures
-    ∙ c.if-is_null.true in
-    let p = put_refused a.buf.now
-    (put_null_full a.nulls.now a.lent.now a.buf.now a.value
-    c.requires
-    c.first_set-column.ensures
-    c.if-column-columns.false i
-    (sym c.bit_lsb0-is_marked.ensures ∙ c.if-not-is_marked.false)
-    c.if-buf-offset.true
-    ∙ ap refused (sym c.refuse-then-buf-offset.ensures)) in record { result_value = p.0; buf_after = p.1 }
-
-pub returns-then-is_null : goal.returns-then-is_null
-returns-then-is_null c = let a = c.args in
-    let i =
-    null_anywhere a.lent.now [] a.value ∙ sym c.is_null.ensures ∙ c.if-is_null.true in
-    let p = put_next a.buf.now
-    (put_null_goes a.nulls.now a.lent.now a.buf.now a.value
-    c.requires
-    c.first_set-column.ensures c.if-column-columns.false i
-    (sym c.bit_lsb0-is_marked.ensures ∙ c.if-not-is_marked.false) c.if-buf-offset.false) in record { result_value = p.0; buf_after = p.1 }
-
-pub returns-then-is_marked : goal.returns-then-is_marked
-returns-then-is_marked c = let a = c.args in
-    let i = null_anywhere a.lent.now [] a.value ∙ sym c.is_null.ensures ∙ c.if-is_null.false in
-    let p = put_refused a.buf.now
-    (put_marked a.nulls.now a.lent.now a.buf.now a.value
-    c.requires
-    c.first_set-column.ensures c.if-column-columns.false i
-    (sym c.bit_lsb0-is_marked.ensures ∙ c.if-is_marked.true)
-    ∙ ap refused (sym c.refuse-then-is_marked.ensures)) in record { result_value = p.0; buf_after = p.1 }
-
-pub returns-in_err-next : goal.returns-in_err-next
-returns-in_err-next c =
+pub returns-then-null-bit_lsb0 : goal.returns-then-null-bit_lsb0
+returns-then-null-bit_lsb0 c =
     let a = c.args in
-    let i = null_anywhere a.lent.now [] a.value ∙ sym c.is_null.ensures ∙ c.if-is_null.false in
-    let g = c.column_of-stored.ensures ∙ ap column_of c.entry_in.ensures in
-    let w = put_wrote a.nulls.now a.lent.now a.buf.now a.value c.requires c.first_set-column.ensures c.if-column-columns.false i
-    (sym c.bit_lsb0-is_marked.ensures ∙ c.if-is_marked.false) g (refused c.in_err-next.field-0.0) _ c.in_err-next.ensures.result_value c.in_err-next.ensures.buf_after in
+    let i = null_anywhere a.lent.now [] a.value ∙ sym c.is_null-null.ensures in
+    let p = put_refused a.buf.now
+    (put_unlike a.nulls.now a.lent.now a.buf.now a.value c.requires c.first_set-column.ensures c.if-column-columns.false _ _ i (sym c.bit_lsb0.ensures) c.if-null-bit_lsb0.true
+    ∙ ap refused (sym c.refuse-then-null-bit_lsb0.ensures)) in
+    record { result_value = p.0; buf_after = p.1 }
+
+pub returns-in_err-offset : goal.returns-in_err-offset
+returns-in_err-offset c =
+    let a = c.args in
+    let i = null_anywhere a.lent.now [] a.value ∙ sym c.is_null-null.ensures ∙ c.if-null.true in
+    let n = put_null a.nulls.now a.lent.now a.buf.now a.value c.requires c.first_set-column.ensures c.if-column-columns.false i (sym c.bit_lsb0.ensures ∙ sym (alike _ _ c.if-null-bit_lsb0.false) ∙ c.if-null.true) in
+    let w = put_wrote a.nulls.now a.lent.now a.buf.now a.value c.requires c.first_set-column.ensures c.if-column-columns.false _ (refused c.in_err-offset.field-0.0) _ n
+    c.in_err-offset.ensures.result_value c.in_err-offset.ensures.buf_after in
     let p = err_from_is_err_and c.from_residual.result c.from_residual.ensures.1 in
+    rw (p.1, p.2) (record { result_value = w.0; buf_after = w.1 })
+
+pub returns-then-null : goal.returns-then-null
+returns-then-null c =
+    let a = c.args in
+    let i = null_anywhere a.lent.now [] a.value ∙ sym c.is_null-null.ensures ∙ c.if-null.true in
+    let n = put_null a.nulls.now a.lent.now a.buf.now a.value c.requires c.first_set-column.ensures c.if-column-columns.false i (sym c.bit_lsb0.ensures ∙ sym (alike _ _ c.if-null-bit_lsb0.false) ∙ c.if-null.true) in
+    let w = put_wrote a.nulls.now a.lent.now a.buf.now a.value c.requires c.first_set-column.ensures c.if-column-columns.false _ (ok c.in_ok-offset.offset) _ n
+    c.in_ok-offset.ensures.result_value c.in_ok-offset.ensures.buf_after in
+    record { result_value = w.0; buf_after = w.1 }
+
+pub returns-in_err-offset-2 : goal.returns-in_err-offset-2
+returns-in_err-offset-2 c =
+    let a = c.args in
+    let i = null_anywhere a.lent.now [] a.value ∙ sym c.is_null-null.ensures ∙ c.if-null.false in
+    let n = put_value a.nulls.now a.lent.now a.buf.now a.value c.requires c.first_set-column.ensures c.if-column-columns.false i (sym c.bit_lsb0.ensures ∙ sym (alike _ _ c.if-null-bit_lsb0.false) ∙ c.if-null.false)
+    (c.column_of-stored.ensures ∙ ap column_of c.entry_in.ensures) in
+    let w = put_wrote a.nulls.now a.lent.now a.buf.now a.value c.requires c.first_set-column.ensures c.if-column-columns.false _ (refused c.in_err-offset-2.field-0.0) _ n
+    c.in_err-offset-2.ensures.result_value c.in_err-offset-2.ensures.buf_after in
+    let p = err_from_is_err_and c.from_residual-in_err-offset-2.result c.from_residual-in_err-offset-2.ensures.1 in
     rw (p.1, p.2) (record { result_value = w.0; buf_after = w.1 })
 
 pub returns : goal.returns
 returns c =
     let a = c.args in
-    let i = null_anywhere a.lent.now [] a.value ∙ sym c.is_null.ensures ∙ c.if-is_null.false in
-    let g = c.column_of-stored.ensures ∙ ap column_of c.entry_in.ensures in
-    let p = put_wrote a.nulls.now a.lent.now a.buf.now a.value c.requires c.first_set-column.ensures c.if-column-columns.false i
-    (sym c.bit_lsb0-is_marked.ensures ∙ c.if-is_marked.false) g (ok c.in_ok-next.next) _ c.in_ok-next.ensures.result_value c.in_ok-next.ensures.buf_after in
-    record { result_value = p.0; buf_after = p.1 }
+    let i = null_anywhere a.lent.now [] a.value ∙ sym c.is_null-null.ensures ∙ c.if-null.false in
+    let n = put_value a.nulls.now a.lent.now a.buf.now a.value c.requires c.first_set-column.ensures c.if-column-columns.false i (sym c.bit_lsb0.ensures ∙ sym (alike _ _ c.if-null-bit_lsb0.false) ∙ c.if-null.false)
+    (c.column_of-stored.ensures ∙ ap column_of c.entry_in.ensures) in
+    let w = put_wrote a.nulls.now a.lent.now a.buf.now a.value c.requires c.first_set-column.ensures c.if-column-columns.false _ (ok c.in_ok-offset-2.offset) _ n
+    c.in_ok-offset-2.ensures.result_value c.in_ok-offset-2.ensures.buf_after in
+    record { result_value = w.0; buf_after = w.1 }

@@ -4,12 +4,12 @@ use Rattle.wire.specs.Outcome.{refused}
 use Rattle.image.proofs.PutLaws.Puts.{nulls_size, nulls_fit, start_full, start_done, put_refused}
 use Rattle.image.proofs.put.start.Goals as goal
 
-pub returns-then-buf-offset : goal.returns-then-buf-offset
-returns-then-buf-offset c = let a = c.args in
+pub returns-then-buf-head : goal.returns-then-buf-head
+returns-then-buf-head c = let a = c.args in
     let q =
     sym c.in_ok-head.ensures in
     let p = put_refused a.buf.now
-    (start_full a.profile.now a.presence.now a.nulls.now a.buf.now q c.if-buf-offset.true
+    (start_full a.profile.now a.presence.now a.nulls.now a.buf.now q c.if-buf-head.true
     ∙ ap refused (sym c.refuse.ensures)) in record { result_value = p.0; buf_after = p.1 }
 
 pub put_nulls-requires : goal.put_nulls-requires
@@ -17,11 +17,11 @@ put_nulls-requires c = let a = c.args in
     let q =
     sym c.in_ok-head.ensures in (
       nulls_size a.profile.now a.presence.now a.nulls.now a.buf.now q,
-      nulls_fit a.profile.now a.presence.now a.nulls.now a.buf.now q c.if-buf-offset.false,
+      nulls_fit a.profile.now a.presence.now a.nulls.now a.buf.now q c.if-buf-head.false,
     )
 
 pub returns : goal.returns
 returns c = let a = c.args in
     let p = start_done a.profile.now a.presence.now a.nulls.now a.buf.now
     (sym c.in_ok-head.ensures) _ c.put_nulls.ensures
-    c.if-buf-offset.false in record { result_value = p.0; buf_after = p.1 }
+    c.if-buf-head.false in record { result_value = p.0; buf_after = p.1 }

@@ -7,13 +7,13 @@ use Rattle.image.proofs.CursorLaws.Heads.{head_tested, nulls_tested}
 use Rattle.image.proofs.PutLaws.Puts.{put_above, put_goes, put_refused}
 use Rattle.image.proofs.cursor.Cursor.put.Goals as goal
 
-pub returns-then-columns-column : goal.returns-then-columns-column
-returns-then-columns-column c = let a = c.args in
+pub returns-then-head-self : goal.returns-then-head-self
+returns-then-head-self c = let a = c.args in
     let q =
     sym c.in_ok-head.ensures in
     let p = put_refused a.buf.now
     (put_above a.profile.now a.presence.now a.nulls.now a.self a.lent.now a.value a.buf.now q
-    c.if-columns-column.true ∙ ap refused (sym c.refuse.ensures)) in record { result_value = p.0; buf_after = p.1 }
+    c.if-head-self.true ∙ ap refused (sym c.refuse.ensures)) in record { result_value = p.0; buf_after = p.1 }
 
 pub put_inner-requires : goal.put_inner-requires
 put_inner-requires c = let a = c.args in
@@ -34,4 +34,4 @@ returns c =
     let q =
     sym c.in_ok-head.ensures in
     rw (put_goes a.profile.now a.presence.now a.nulls.now a.self a.lent.now a.value a.buf.now q
-    c.if-columns-column.false) (record { result_value = c.put_inner.ensures.result_value; buf_after = c.put_inner.ensures.buf_after })
+    c.if-head-self.false) (record { result_value = c.put_inner.ensures.result_value; buf_after = c.put_inner.ensures.buf_after })

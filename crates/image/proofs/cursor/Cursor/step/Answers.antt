@@ -31,5 +31,5 @@ returns-in_err-step c =
 pub returns : goal.returns
 returns c =
     let a = c.args in
-    ap ok c.without_bit.ensures ∙ c.in_ok-step.ensures.result_value
+    ap ok c.without_rank.ensures ∙ c.in_ok-step.ensures.result_value
     ∙ sym (step_goes a.profile.now a.presence.now a.image.now a.self (sym c.in_ok-head.ensures) (omega arith) (omega arith) (omega arith))
