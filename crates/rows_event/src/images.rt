@@ -1,7 +1,7 @@
 // The images of a rows event, one after the other.
-ghost use Rattle.std.specs.Prelude.{◌≡◌, true, ◌&&◌, ◌≤◌, length, drop};
+ghost use Rattle.std.specs.Prelude.{◌≡◌, true, ◌&&◌};
 ghost use Rattle.record.specs.Records.{record_valid};
-ghost use Rattle.rows_event.specs.Images.{in_pairs, second_bits, set_of, is_empty, image_at, next_image};
+ghost use Rattle.rows_event.specs.Images.{in_pairs, set_of, is_empty, next_image};
 
 use crate::event::Rows;
 use wire::refusal::IMAGE_SHORT;
@@ -22,46 +22,31 @@ pub struct Image {
     pub second: bool,
 }
 
-// The bits of the second set, none where there is none.
-fn second_bits(event: &[u8], second: Option<Part>) -> &[u8]
-    ensures { result.now ≡ second_bits event.now second }
-{
-    match second {
-        Some(part) => wire::part_of(event, part),
-        None => &event[..0],
-    }
-}
-
 // The presence bits that an image stands under: the first set, or the second, which is empty where there is none.
 pub fn set_of(rows: Rows, event: &[u8], second: bool) -> &[u8]
     ensures { result.now ≡ set_of rows event.now second }
 {
-    if second {
-        return second_bits(event, rows.after);
+    if !second {
+        return wire::part_of(event, rows.before);
     }
-    wire::part_of(event, rows.before)
+    match rows.after {
+        Some(bits) => wire::part_of(event, bits),
+        None => &event[..0],
+    }
 }
 
 // Whether neither set has a column of the record present. Spare bits may be set: they count for nothing.
+#[tactic(auto, using(wire::proofs::Rules::tests, record::proofs::Valid::read_valid), unfolding(crate::specs::Images::is_empty, record::specs::Records::read_record))]
 fn is_empty(profile: &[u8], rows: Rows, event: &[u8]) -> bool
     requires { record_valid profile.now ≡ true }
     ensures { result ≡ is_empty profile.now rows event.now }
 {
     let Ok(columns) = record::read_record(profile) else {
+        // The record is valid.
         unreachable!()
     };
     image::count_bits(set_of(rows, event, false), columns) == 0
         && image::count_bits(set_of(rows, event, true), columns) == 0
-}
-
-// The bytes from a place on, none where it lies past them.
-fn rest_from(event: &[u8], at: usize) -> &[u8]
-    ensures { result.now ≡ drop at event.now }
-{
-    if event.len() < at {
-        return &event[..0];
-    }
-    &event[at..]
 }
 
 // Whether an image stands under the second set: only where there is one.
@@ -69,32 +54,6 @@ fn is_second(rows: Rows, second: bool) -> bool
     ensures { result ≡ (in_pairs rows && second) }
 {
     rows.after.is_some() && second
-}
-
-// The image at a place of the event, under one of its sets. Where no set has a column it takes no bytes, so what is there is left over.
-fn image_at(
-    profile: &[u8],
-    rows: Rows,
-    event: &[u8],
-    at: usize,
-    second: bool,
-) -> Result<Option<(Image, Images)>, Refusal>
-    requires { at ≤ length event.now }
-    ensures { result ≡ image_at profile.now rows event.now at second }
-{
-    let used = image::walk_end(profile, set_of(rows, event, second), rest_from(event, at))?;
-    if used == 0 && is_empty(profile, rows, event) {
-        return Err(wire::refuse(IMAGE_SHORT, 0));
-    }
-    let part = Part {
-        start: at,
-        len: used,
-    };
-    let next = Images {
-        at: at + used,
-        second: is_second(rows, !second),
-    };
-    Ok(Some((Image { part, second }, next)))
 }
 
 impl Images {
@@ -115,6 +74,19 @@ impl Images {
         if self.at == event.len() && !second {
             return Ok(None);
         }
-        image_at(profile, rows, event, self.at, second)
+        let used = image::walk_end(profile, set_of(rows, event, second), &event[self.at..])?;
+        // Where no set has a column the image takes no bytes, so what there is is left over.
+        if used == 0 && is_empty(profile, rows, event) {
+            return Err(wire::refuse(IMAGE_SHORT, 0));
+        }
+        let part = Part {
+            start: self.at,
+            len: used,
+        };
+        let next = Images {
+            at: self.at + used,
+            second: is_second(rows, !second),
+        };
+        Ok(Some((Image { part, second }, next)))
     }
 }
