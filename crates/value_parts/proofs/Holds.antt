@@ -98,3 +98,17 @@ held_time t a b c d =
       le-leb t.seconds (top_of_bits 8) c,
       le-leb t.micros (top_of_bits 32) d,
     )
+
+pub ruleset held = (
+  held_null,
+  held_int,
+  held_uint,
+  held_float,
+  held_double,
+  held_year,
+  held_bytes,
+  held_seconds,
+  held_date,
+  held_datetime,
+  held_time,
+)

@@ -1,4 +1,6 @@
 // The parts of a value, each a number.
+#![tactic(auto, using(crate::proofs::Holds::held), unfolding(crate::specs::Parts::padded, crate::specs::Parts::parts_of))]
+
 ghost use Rattle.std.specs.Prelude.{◌≡◌, true, ◌∷◌, []};
 ghost use Rattle.value_parts.specs.Parts.{parts_of, padded, is_held};
 
@@ -10,23 +12,23 @@ fn temporal_parts(t: Temporal) -> [u64; 7]
     ensures t_value { is_held (Value.Temporal t) ≡ true }
 {
     match t {
-        Temporal::Seconds(s) => [s.seconds as u64, s.micros as u64, 0, 0, 0, 0, 0],
-        Temporal::Date(d) => [d.year as u64, d.month as u64, d.day as u64, 0, 0, 0, 0],
+        Temporal::Seconds(s) => [s.seconds.into(), s.micros.into(), 0, 0, 0, 0, 0],
+        Temporal::Date(d) => [d.year.into(), d.month.into(), d.day.into(), 0, 0, 0, 0],
         Temporal::Datetime(m) => [
-            m.year as u64,
-            m.month as u64,
-            m.day as u64,
-            m.hour as u64,
-            m.minute as u64,
-            m.second as u64,
-            m.micros as u64,
+            m.year.into(),
+            m.month.into(),
+            m.day.into(),
+            m.hour.into(),
+            m.minute.into(),
+            m.second.into(),
+            m.micros.into(),
         ],
         Temporal::Time(t) => [
-            t.negative as u64,
-            t.hours as u64,
-            t.minutes as u64,
-            t.seconds as u64,
-            t.micros as u64,
+            t.negative.into(),
+            t.hours.into(),
+            t.minutes.into(),
+            t.seconds.into(),
+            t.micros.into(),
             0,
             0,
         ],
@@ -47,12 +49,12 @@ pub fn parts_of(value: Value) -> [u64; 7]
     ensures value_value { is_held value ≡ true }
 {
     match value {
-        Value::Null => [0, 0, 0, 0, 0, 0, 0],
+        Value::Null => [0; 7],
         Value::Int(z) => one_part(wire::twos_of(8, z)),
         Value::Uint(n) => one_part(n),
-        Value::Float(bits) => one_part(bits as u64),
+        Value::Float(bits) => one_part(u64::from(bits)),
         Value::Double(bits) => one_part(bits),
-        Value::Year(y) => one_part(y as u64),
+        Value::Year(y) => one_part(u64::from(y)),
         Value::Temporal(t) => temporal_parts(t),
         Value::Bytes(part) => [part.start as u64, part.len as u64, 0, 0, 0, 0, 0],
     }

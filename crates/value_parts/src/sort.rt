@@ -1,4 +1,6 @@
-// The sorts of values, each with its number.
+// The sorts of values, each with its number. They stay numbers: C passes them, and the definitions sort_of and value_of go by them.
+#![tactic(auto, unfolding(crate::specs::Parts::sort_of))]
+
 ghost use Rattle.std.specs.Prelude.{◌≡◌};
 ghost use Rattle.value_parts.specs.Parts.{sort_of};
 
