@@ -4,13 +4,13 @@ ghost use Rattle.wire.specs.Bits.{bytes_for};
 ghost use Rattle.wire.specs.Stored.{stored, answer_of, left_of};
 ghost use Rattle.value.specs.Reading.{datum_of};
 ghost use Rattle.image.specs.Split.{slots_at};
-ghost use Rattle.image.specs.Inner.Steps.{Placed};
+ghost use Rattle.image.specs.Inner.Steps.{Placed, Puts};
 ghost use Rattle.image.specs.Rows.{is_null};
 ghost use Rattle.image.specs.Puts.{head_nulls, spare_set, filled, start_image, put_over, put_from};
 
 use crate::cursor::{Cursor, Head, read_head};
 use crate::presence::{count_bits, first_set};
-use crate::step::InnerCursor;
+use crate::step::{InnerCursor, column_in};
 use value::Value;
 use wire::Refusal;
 use wire::refusal::{BAD_BITS, NO_COLUMN, NO_ROOM, NOT_TAKEN};
@@ -86,13 +86,8 @@ fn put_inner(
     buf: &mut [u8],
 ) -> Result<Cursor, Refusal>
     requires { Placed profile.now presence.now columns at }
-    ensures result_value { result
-        ≡ answer_of (put_over (slots_at profile.now presence.now nulls.now at.cursor.column) at.cursor
-        lent.now value buf.old) }
-    ensures buf_after { buf.new
-        ≡ left_of (put_over (slots_at profile.now presence.now nulls.now at.cursor.column) at.cursor
-        lent.now value buf.old)
-        buf.old }
+    ensures { Puts buf.old (put_over (slots_at profile.now presence.now nulls.now at.cursor.column) at.cursor lent.now value buf.old) result
+        buf.new }
 {
     let offset = at.cursor.offset;
     let column = first_set(presence, at.cursor.column, columns);
@@ -111,7 +106,7 @@ fn put_inner(
             offset,
         });
     }
-    let stored = record::column_of(record::entry_in(profile, column));
+    let stored = column_in(profile, column);
     let offset = value::write_value(stored, value, lent, buf, offset, column)?;
     Ok(Cursor {
         column: behind,

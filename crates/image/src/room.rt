@@ -7,6 +7,7 @@ ghost use Rattle.image.specs.Present.{shape_at};
 ghost use Rattle.image.specs.Room.{read_room};
 
 use crate::cursor::read_head;
+use crate::step::column_in;
 use wire::Refusal;
 
 // What a column adds: its largest value if it is present, else nothing.
@@ -15,7 +16,7 @@ fn column_room(profile: &[u8], presence: &[u8], column: usize) -> u64
         × (result ≤ 4294967299) }
 {
     if wire::bit_lsb0(presence, column) {
-        return value::most_size(record::column_of(record::entry_in(profile, column)));
+        return value::most_size(column_in(profile, column));
     }
     0
 }

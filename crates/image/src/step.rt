@@ -1,17 +1,19 @@
 // One step over an image: the next present column from a cursor on.
 ghost use Rattle.std.specs.Prelude.{◌≡◌};
+ghost use Rattle.record.specs.Entries.{column_of};
+ghost use Rattle.record.specs.Records.{entry_in};
 ghost use Rattle.image.specs.Split.{step_over, slots_at, step_from};
 ghost use Rattle.image.specs.Inner.Steps.{Placed, without_rank, inner_told, Ranked};
 
 use crate::cursor::{Cursor, read_head};
 use crate::presence::{count_bits, first_set};
-use value::Value;
+use value::{Column, Value};
 use wire::Refusal;
 use wire::refusal::{IMAGE_SHORT, NO_COLUMN};
 
 // What stands at a cursor: NULL or a value, with its column and the next cursor; or the end, with the bytes used. Walks of one kind share it,
 // each with cursors of its own: under a record, inside a loop that knows its null bits, and by a plan.
-#[derive(Clone, Copy)]
+#[derive(Clone, Copy, Debug, PartialEq, Eq)]
 pub enum Step<C> {
     Null {
         column: usize,
@@ -33,6 +35,13 @@ pub enum Step<C> {
 pub(crate) struct InnerCursor {
     pub cursor: Cursor,
     pub rank: usize,
+}
+
+// How the record says that a column is stored.
+pub(crate) fn column_in(profile: &[u8], column: usize) -> Column
+    ensures { result ≡ column_of (entry_in profile.now column) }
+{
+    record::column_of(record::entry_in(profile, column))
 }
 
 // A step on a record and presence bits that were tested.
@@ -68,8 +77,7 @@ pub(crate) fn step_inner(
             },
         });
     }
-    let stored = record::column_of(record::entry_in(profile, column));
-    let (value, offset) = value::read_value(stored, image, offset, column)?;
+    let (value, offset) = value::read_value(column_in(profile, column), image, offset, column)?;
     Ok(Step::Value {
         column,
         value,

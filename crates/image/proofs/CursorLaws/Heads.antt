@@ -1,8 +1,9 @@
 -- The tests before a call on an image: what they tell when they went well, and when they go well. Assumes nothing.
-use Prim.Native.Nat.{ℕ}
+use Prim.Native.Nat.{ℕ, ◌≤◌}
 use mathlib.Core.Path.{◌≡◌, refl, ap, subst, ◌∙◌}
 use mathlib.Core.Bool.{true}
 use mathlib.Core.List.{List}
+use native.Mathlib.Omega.{arith}
 use borrow.Author.Tests.{eqb-true, eq-eqb}
 use lib.ListN.{length}
 use lib.Dec.{eqb}
@@ -10,11 +11,13 @@ use Rattle.wire.specs.Outcome.{ok, why}
 use Rattle.wire.specs.Bits.{bytes_for}
 use Rattle.wire.proofs.Outcomes.{after_is_ok, test_is_ok}
 use Rattle.record.specs.Records.{count_of, record_valid, read_record}
-use Rattle.record.proofs.Valid.{read_valid}
+use Rattle.record.proofs.Valid.{read_valid, valid_few}
 use Rattle.image.specs.declared.cursor.Head.{Head}
+use Rattle.image.specs.declared.step.InnerCursor.{InnerCursor}
 use Rattle.image.specs.Present.{count_bits}
 use Rattle.image.specs.Split.{head_with, head_of}
 use Rattle.image.specs.Puts.{head_nulls}
+use Rattle.image.specs.Inner.Steps.{Placed}
 
 -- ---- what they tell
 -- the record is valid; the columns that it counts, those of them that are present, and the bytes of a null bit for each of these
@@ -32,6 +35,14 @@ head_tested r p {h} e =
     let t = test_is_ok (eqb (length p) (bytes_for n)) (head_with n (count_bits p n)) (why 12 0) h w.2 in
     let v = read_valid r n w.1 in
     subst (Tested r p) t.1 (record { valid = v.0; columns = v.1; present = refl; nulls = refl })
+
+-- so a cursor that stands in the record, and knows its rank, can be counted on
+pub placed : (r p : List ℕ) {h : Head} (at : InnerCursor) → head_of r p ≡ ok h → at.cursor.column ≤ h.columns
+    → at.rank ≡ count_bits p at.cursor.column
+    → Placed r p h.columns at
+placed r p at e l k =
+    let t = head_tested r p e in
+    record { count = t.columns; few = omega (arith, t.columns, valid_few r t.valid); column = l; rank = k }
 
 -- with null bits: the same tests, and they are just so many bytes
 pub nulls_tested : (r p nulls : List ℕ) {h : Head} → head_nulls r p nulls ≡ ok h → (head_of r p ≡ ok h) × (length nulls ≡ h.nulls)

@@ -17,7 +17,6 @@ use Rattle.value.specs.declared.shape.Shape.{Shape}
 use Rattle.value.specs.Reading.{read_datum, read_value}
 use Rattle.value.proofs.Laws.{took}
 use Rattle.record.specs.Records.{count_of}
-use Rattle.record.proofs.Valid.{valid_few}
 use Rattle.image.specs.declared.cursor.Cursor.{Cursor}
 use Rattle.image.specs.declared.cursor.Head.{Head}
 use Rattle.image.specs.declared.step.InnerCursor.{InnerCursor}
@@ -27,7 +26,7 @@ use Rattle.image.specs.Split.{Slot, slots_at, cursor, head_of, first_cursor, Col
 use Rattle.image.specs.Inner.Steps.{inner_told, Ranked, Placed}
 use Rattle.image.specs.Walk.{RowWalked, going_on, walk_from, walk_image, row_onward}
 use Rattle.image.proofs.PresenceLaws.Firsts.{first_is, count_none, slot_at, slots_end, slots_first}
-use Rattle.image.proofs.CursorLaws.Heads.{head_tested}
+use Rattle.image.proofs.CursorLaws.Heads.{head_tested, placed}
 use Rattle.image.proofs.StepLaws.Steps.{step_goes}
 use Rattle.image.proofs.CursorLaws.Ways.{walk_on}
 
@@ -111,14 +110,8 @@ module _ (r p im : List ℕ) {h : Head} (e : head_of r p ≡ ok h) where
   module _ (l : h.nulls ≤ length im) where
     pub going_first : Going r p im h.columns (record { cursor = cursor 0 h.nulls; rank = 0 })
     going_first =
-        let t = head_tested r p e in
         record {
-          placed = record {
-            count = t.columns;
-            few = omega (arith, t.columns, valid_few r t.valid);
-            column = omega arith;
-            rank = sym (count_none p);
-          };
+          placed = placed r p (record { cursor = cursor 0 h.nulls; rank = 0 }) e (omega arith) (sym (count_none p));
           within = l;
           rest = ap (λ (w : RowWalked). w.how) walk_begins;
         }

@@ -25,16 +25,12 @@ use Rattle.image.specs.declared.cursor.Head.{Head}
 use Rattle.image.specs.declared.step.InnerCursor.{InnerCursor}
 use Rattle.image.specs.Present.{first_from, shape_at}
 use Rattle.image.specs.Split.{cursor, slots_at}
-use Rattle.image.specs.Inner.Steps.{Placed}
+use Rattle.image.specs.Inner.Steps.{Placed, Puts}
 use Rattle.image.specs.Rows.{is_null}
 use Rattle.image.specs.Puts.{filled, head_nulls, start_image, slot_bytes, put_over, put_from}
 use Rattle.image.proofs.CursorLaws.Heads.{Tested, head_tested, nulls_tested}
 use Rattle.image.proofs.StepLaws.Steps.{slots_none, slots_some}
 use Rattle.image.proofs.PutLaws.Fills.{fill_length}
-
--- the answer a of a call that writes, and the buffer x that it leaves, are those of w
-abbrev pub Puts : List ℕ → Outcome (Cursor × List ℕ) → Outcome Cursor → List ℕ → Type 0
-Puts buf w a x = (a ≡ answer_of w) × (x ≡ left_of w buf)
 
 -- a call whose answer is told and whose buffer is as it was
 pub put_refused : {w : Outcome (Cursor × List ℕ)} {z : Refusal} (buf : List ℕ) → w ≡ refused z → Puts buf w (refused z) buf
@@ -84,7 +80,7 @@ alike false true e = cc
 alike false false e = refl
 
 -- the cursor behind a value takes the place after it
-abbrev pub behind : ℕ → Outcome (ℕ × List ℕ) → Outcome (Cursor × List ℕ)
+abbrev behind : ℕ → Outcome (ℕ × List ℕ) → Outcome (Cursor × List ℕ)
 behind j w = after w (λ x. ok (cursor j x.0, x.1))
 
 behind_answer : (j : ℕ) (w : Outcome (ℕ × List ℕ)) → answer_of (behind j w) ≡ after (answer_of w) (λ n. ok (cursor j n))
@@ -115,27 +111,38 @@ module _
     put_unlike false true i b d = rw (slots_some h e nulls u, i, b)
     put_unlike false false i b d = cc
 
+    -- a being what a writer of w answered, and x the buffer that it left
+    put_wrote : (w : Outcome (ℕ × List ℕ)) → put ≡ behind (f + 1) w → (a : Outcome ℕ) (x : List ℕ) → a ≡ answer_of w → x ≡ left_of w buf
+        → Puts buf put (after a (λ m. ok (cursor (f + 1) m))) x
+    put_wrote w p a x q y = (
+      sym (ap answer_of p ∙ behind_answer (f + 1) w ∙ ap (λ (z : Outcome ℕ). after z (λ m. ok (cursor (f + 1) m))) (sym q)),
+      y ∙ sym (ap (λ (o : Outcome (Cursor × List ℕ)). left_of o buf) p ∙ behind_left (f + 1) buf w),
+    )
+
     -- NULL takes no bytes, but the offset must be in the buffer
-    pub put_null : is_null (datum_of lent v) ≡ true → bit_lsb0 nulls s.rank ≡ true → put ≡ behind (f + 1) (store [] buf s.cursor.offset)
+    null_goes : is_null (datum_of lent v) ≡ true → bit_lsb0 nulls s.rank ≡ true → put ≡ behind (f + 1) (store [] buf s.cursor.offset)
     unfolding put_over slot_bytes
-    put_null i b = rw (slots_some h e nulls u, i, b)
+    null_goes i b = rw (slots_some h e nulls u, i, b)
+
+    pub put_null : is_null (datum_of lent v) ≡ true → bit_lsb0 nulls s.rank ≡ true
+        → (a : Outcome ℕ) (x : List ℕ) → a ≡ answer_of (store [] buf s.cursor.offset) → x ≡ left_of (store [] buf s.cursor.offset) buf
+        → Puts buf put (after a (λ m. ok (cursor (f + 1) m))) x
+    put_null i b = put_wrote _ (null_goes i b)
 
     -- the value as the record's column stores it
-    pub put_value : is_null (datum_of lent v) ≡ false → bit_lsb0 nulls s.rank ≡ false → {k : Column} → k ≡ column_of (entry_in r f)
+    value_goes : is_null (datum_of lent v) ≡ false → bit_lsb0 nulls s.rank ≡ false → {k : Column} → k ≡ column_of (entry_in r f)
         → put ≡ behind (f + 1) (write_value (shape_of k) f lent v buf s.cursor.offset)
     unfolding put_over slot_bytes write_value shape_at
-    put_value i b g =
+    value_goes i b g =
         rw (slots_some h e nulls u, i, b)
         (sym (after_after (stored_bytes (shape_at r f) f lent v) (λ b. store b buf s.cursor.offset) (λ x. ok (cursor (f + 1) x.0, x.1)))
         ∙ ap (λ (c : Column). behind (f + 1) (after (stored_bytes (shape_of c) f lent v) (λ b. store b buf s.cursor.offset))) (sym g))
 
-    -- a being what a writer of w answered, and x the buffer that it left
-    pub put_wrote : (w : Outcome (ℕ × List ℕ)) (a : Outcome ℕ) (x : List ℕ) → put ≡ behind (f + 1) w → a ≡ answer_of w → x ≡ left_of w buf
+    pub put_value : is_null (datum_of lent v) ≡ false → bit_lsb0 nulls s.rank ≡ false → {k : Column} → k ≡ column_of (entry_in r f)
+        → (a : Outcome ℕ) (x : List ℕ) → a ≡ answer_of (write_value (shape_of k) f lent v buf s.cursor.offset)
+        → x ≡ left_of (write_value (shape_of k) f lent v buf s.cursor.offset) buf
         → Puts buf put (after a (λ m. ok (cursor (f + 1) m))) x
-    put_wrote w a x p q y = (
-      sym (ap answer_of p ∙ behind_answer (f + 1) w ∙ ap (λ (z : Outcome ℕ). after z (λ m. ok (cursor (f + 1) m))) (sym q)),
-      y ∙ sym (ap (λ (o : Outcome (Cursor × List ℕ)). left_of o buf) p ∙ behind_left (f + 1) buf w),
-    )
+    put_value i b g = put_wrote _ (value_goes i b g)
 
 -- a step from a column above the record's
 pub put_above : (r p nulls : List ℕ) (c : Cursor) (lent : List ℕ) (v : Value) (buf : List ℕ) {h : Head} → head_nulls r p nulls ≡ ok h

@@ -1,7 +1,9 @@
 -- The inner step, on a record that is known to be valid: its cursor knows its rank. Assumes nothing.
 use Rattle.std.specs.Prelude.{ℕ, ◌≤◌, ◌≡◌, List}
 use Rattle.wire.specs.Outcome.{Outcome, ok, refused}
+use Rattle.wire.specs.Stored.{answer_of, left_of}
 use Rattle.record.specs.Records.{most_columns, count_of}
+use Rattle.image.specs.declared.cursor.Cursor.{Cursor}
 use Rattle.image.specs.declared.step.InnerCursor.{InnerCursor}
 use Rattle.image.specs.declared.step.Step.{Step}
 use Rattle.image.specs.Present.{count_bits}
@@ -30,3 +32,7 @@ pub record Placed (profile presence : List ℕ) (columns : ℕ) (at : InnerCurso
   pub few : columns ≤ most_columns
   pub column : at.cursor.column ≤ columns
   pub rank : at.rank ≡ count_bits presence at.cursor.column
+
+-- what a call that writes answered, and the buffer that it left: those of w
+abbrev pub Puts : List ℕ → Outcome (Cursor × List ℕ) → Outcome Cursor → List ℕ → Type 0
+Puts buf w a x = (a ≡ answer_of w) × (x ≡ left_of w buf)

@@ -5,7 +5,6 @@ use native.Mathlib.Omega.{arith}
 use Rattle.value.specs.declared.column.Column.{Column}
 use Rattle.value.specs.Columns.{shape_of}
 use Rattle.value.specs.Shapes.{most_of}
-use Rattle.record.specs.Entries.{column_of}
 use Rattle.image.specs.Present.{shape_at}
 use Rattle.image.proofs.RoomLaws.Adds.{shape_few}
 use Rattle.image.proofs.room.column_room.Goals as goal
@@ -14,8 +13,7 @@ pub returns-then-bit_lsb0 : goal.returns-then-bit_lsb0
 unfolding shape_at
 returns-then-bit_lsb0 c =
     let a = c.args in
-    let q = c.most_size.ensures
-    ∙ ap (λ (k : Column). most_of (shape_of k)) (c.column_of.ensures ∙ ap column_of c.entry_in.ensures) in
+    let q = c.most_size.ensures ∙ ap (λ (k : Column). most_of (shape_of k)) c.column_in.ensures in
     rw (sym c.bit_lsb0.ensures ∙ c.if-bit_lsb0.true)
     (q, subst (λ (x : ℕ). x ≤ 4294967299) (sym q) (shape_few a.profile.now a.column))
 
