@@ -8,7 +8,7 @@ use wire::{Part, Refusal, part_of, read_le, read_packed, within};
 // The post-header length of events whose table id has 4 bytes.
 const SHORT_POST_HEADER: u8 = 6;
 
-#[derive(Clone, Copy)]
+#[derive(Clone, Copy, Debug, PartialEq, Eq)]
 pub struct Event {
     pub id: u64,
     pub flags: u16,
@@ -57,9 +57,10 @@ fn id_bytes(post_header: u8) -> usize
     ensures { result ≡ id_bytes post_header }
 {
     if post_header == SHORT_POST_HEADER {
-        return 4;
+        4
+    } else {
+        6
     }
-    6
 }
 
 // The event in the lent bytes, which stand behind its header; post_header is the length that the format description gives for table maps.
@@ -89,6 +90,7 @@ pub fn read_event(event: &[u8], post_header: u8) -> Result<Event, Refusal>
 }
 
 // ---- the parts of an event, uncopied: empty where it is refused
+// Each has its own match. One function over the six would have to be told by a closure which part it lends, which is no plainer.
 
 // The name of the database.
 pub fn database_name(event: &[u8], post_header: u8) -> &[u8]

@@ -12,7 +12,7 @@ use wire::refusal::{BAD_FIELD, UNKNOWN_FIELD};
 use wire::{Part, Refusal, bytes_for, part_of, read_packed, refuse, within};
 
 // Where a walk over the optional bytes stands, with what it needs of the map, counted once.
-#[derive(Clone, Copy)]
+#[derive(Clone, Copy, Debug, PartialEq, Eq)]
 pub struct Fields {
     pub at: usize,
     // how many columns have a signedness bit

@@ -1,4 +1,5 @@
-// The types of optional fields, by the Rust's names (binlog/events/table_map_event.rs: OptionalMetadataFieldType).
+// The types of optional fields, by the Rust's names (binlog/events/table_map_event.rs: OptionalMetadataFieldType). They stay numbers: a type
+// byte of the event is lent as it is, and one that is not known is cut out all the same (cut_field).
 
 pub const SIGNEDNESS: u8 = 1;
 

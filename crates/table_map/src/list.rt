@@ -91,7 +91,7 @@ pub fn next_item<I: ListItem>(s: &[u8], at: usize) -> Result<Option<(I, usize)>,
 // They stay four types: each has a line of its own among the calls whose safety is proved (promises/specs/Calls.antt).
 
 // The cursor of a list of integers.
-#[derive(Clone, Copy)]
+#[derive(Clone, Copy, Debug, PartialEq, Eq)]
 pub struct Integers {
     pub at: usize,
 }
@@ -114,7 +114,7 @@ impl Integers {
 }
 
 // The cursor of a list of pairs.
-#[derive(Clone, Copy)]
+#[derive(Clone, Copy, Debug, PartialEq, Eq)]
 pub struct Pairs {
     pub at: usize,
 }
@@ -137,7 +137,7 @@ impl Pairs {
 }
 
 // The cursor of a list of strings.
-#[derive(Clone, Copy)]
+#[derive(Clone, Copy, Debug, PartialEq, Eq)]
 pub struct Strings {
     pub at: usize,
 }
@@ -160,7 +160,7 @@ impl Strings {
 }
 
 // The cursor of a list of groups of strings.
-#[derive(Clone, Copy)]
+#[derive(Clone, Copy, Debug, PartialEq, Eq)]
 pub struct Groups {
     pub at: usize,
 }

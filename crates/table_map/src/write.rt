@@ -1,39 +1,19 @@
 // The event written, all or nothing, and its size (table_map_event.rs: MySerialize and BinlogStruct for TableMapEvent).
-ghost use Rattle.std.specs.Prelude.{◌≡◌, [], ◌+◌, ◌≤◌, length};
+ghost use Rattle.std.specs.Prelude.{◌≡◌, true, ◌+◌, ◌≤◌, length};
 ghost use Rattle.wire.specs.Number.{le_bytes};
 ghost use Rattle.wire.specs.Packed.{packed_bytes};
 ghost use Rattle.wire.specs.Stored.{answer_of, left_of};
 ghost use Rattle.table_map.specs.Writes.{event_parts, name_bytes, is_event, write_event, event_size};
-ghost use Rattle.table_map.specs.Inner.Writes.{event_head, column_bytes, PutAt};
+ghost use Rattle.table_map.specs.Inner.Writes.{lent, event_head, behind_head, PutAt};
 
-use wire::Refusal;
 use wire::refusal::{NO_ROOM, NOT_TAKEN};
+use wire::{Refusal, bytes_for, packed_size, refuse, write_bytes, write_le, write_packed};
 
 // Ids are below this.
 const ID_END: u64 = 1 << 48;
 
 // The most bytes a name has.
 const NAME_MOST: usize = 255;
-
-// The greatest size that a machine number holds.
-const SIZE_MOST: usize = 18446744073709551615;
-
-// Whether the writer takes these parts.
-fn is_event(id: u64, database: &[u8], table: &[u8], types: &[u8], bits: &[u8]) -> bool
-    ensures { result ≡ is_event
-        (event_parts id 0 database.now table.now types.now [] bits.now []) }
-{
-    if ID_END <= id {
-        return false;
-    }
-    if NAME_MOST < database.len() {
-        return false;
-    }
-    if NAME_MOST < table.len() {
-        return false;
-    }
-    bits.len() == wire::bytes_for(types.len())
-}
 
 // How many bytes `write_event` writes of these parts, or why it writes none.
 pub fn event_size(
@@ -50,22 +30,17 @@ pub fn event_size(
         ≡ event_size (event_parts id flags database.now table.now types.now metadata.now
         bits.now optional.now) }
 {
-    if !is_event(id, database, table, types, bits) {
-        return Err(wire::refuse(NOT_TAKEN, 0));
-    }
-    let lengths = wire::packed_size(types.len() as u64) + wire::packed_size(metadata.len() as u64);
-    // id and flags, and for each name a length byte and a zero byte: 12
-    let head = 12 + database.len() + table.len() + lengths;
-    // this sum fits: a slice has fewer than 2^63 bytes, names are short, and the bits are an eighth of the types
-    let front = head + types.len() + bits.len();
-    if !wire::has_room(SIZE_MOST, front, metadata.len()) {
-        return Err(wire::refuse(NO_ROOM, 0));
-    }
-    let body = front + metadata.len();
-    if !wire::has_room(SIZE_MOST, body, optional.len()) {
-        return Err(wire::refuse(NO_ROOM, 0));
-    }
-    Ok(body + optional.len())
+    let parts = Parts {
+        id,
+        flags,
+        database,
+        table,
+        types,
+        metadata,
+        bits,
+        optional,
+    };
+    parts.size()
 }
 
 // Writes the event from the buffer's first byte on, with an id of 6 bytes.
@@ -88,39 +63,125 @@ pub fn write_event(
         bits.now optional.now) buf.old)
         buf.old }
 {
-    let size = event_size(id, flags, database, table, types, metadata, bits, optional)?;
-    if buf.len() < size {
-        return Err(wire::refuse(NO_ROOM, 0));
-    }
-    let behind = put_head(id, flags, database, table, buf);
-    let next = put_columns(types, metadata, bits, optional, buf, behind);
-    Ok(next)
+    let parts = Parts {
+        id,
+        flags,
+        database,
+        table,
+        types,
+        metadata,
+        bits,
+        optional,
+    };
+    parts.write(buf)
 }
 
-// ---- each writes from at on, where there is room, and hands back the place after what it wrote
+// The parts of an event that is written.
+#[derive(Clone, Copy)]
+struct Parts<'a> {
+    id: u64,
+    flags: u16,
+    database: &'a [u8],
+    table: &'a [u8],
+    types: &'a [u8],
+    metadata: &'a [u8],
+    bits: &'a [u8],
+    optional: &'a [u8],
+}
+
+impl<'a> Parts<'a> {
+    // Whether the writer takes them.
+    #[tactic(auto, using(wire::proofs::Rules::tests), unfolding(crate::specs::Writes::is_event))]
+    fn are_taken(self) -> bool
+        ensures { result ≡ is_event (lent self.entry) }
+    {
+        self.id < ID_END
+            && self.database.len() <= NAME_MOST
+            && self.table.len() <= NAME_MOST
+            && self.bits.len() == bytes_for(self.types.len())
+    }
+
+    #[tactic(auto, using(crate::proofs::Puts::size_not_taken))]
+    fn size(self) -> Result<usize, Refusal>
+        ensures { result ≡ event_size (lent self.entry) }
+    {
+        if !self.are_taken() {
+            return Err(refuse(NOT_TAKEN, 0));
+        }
+        let lengths = [
+            self.database.len(),
+            self.table.len(),
+            packed_size(self.types.len() as u64),
+            self.types.len(),
+            packed_size(self.metadata.len() as u64),
+            self.metadata.len(),
+            self.bits.len(),
+            self.optional.len(),
+        ];
+        // id and flags, and for each name a length byte and a zero byte
+        let mut size: usize = 12;
+        for n in &lengths {
+            size = size.checked_add(*n).ok_or(refuse(NO_ROOM, 0))?;
+        }
+        Ok(size)
+    }
+
+    fn write(self, buf: &mut [u8]) -> Result<usize, Refusal>
+        ensures result_value { result ≡ answer_of (write_event (lent self.entry) buf.old) }
+        ensures buf_after { buf.new ≡ left_of (write_event (lent self.entry) buf.old) buf.old }
+    {
+        let size = self.size()?;
+        if buf.len() < size {
+            return Err(refuse(NO_ROOM, 0));
+        }
+        let behind = self.put_head(buf);
+        Ok(self.put_columns(buf, behind))
+    }
+
+    // ---- these write from at on, where there is room, and hand back the place after what they wrote
+
+    fn put_head(self, buf: &mut [u8]) -> usize
+        requires { (is_event (lent self) ≡ true) × (length (event_head (lent self)) ≤ length buf.old) }
+        ensures { PutAt buf.old 0 (event_head (lent self.entry)) buf.new result }
+    {
+        let a = put_le(6, self.id, buf, 0);
+        let b = put_le(2, u64::from(self.flags), buf, a);
+        let c = put_name(self.database, buf, b);
+        put_name(self.table, buf, c)
+    }
+
+    fn put_columns(self, buf: &mut [u8], at: usize) -> usize
+        requires { at + length (behind_head (lent self)) ≤ length buf.old }
+        ensures { PutAt buf.old at (behind_head (lent self.entry)) buf.new result }
+    {
+        let a = put_packed(self.types.len() as u64, buf, at);
+        let b = put_bytes(self.types, buf, a);
+        let c = put_packed(self.metadata.len() as u64, buf, b);
+        let d = put_bytes(self.metadata, buf, c);
+        let e = put_bytes(self.bits, buf, d);
+        put_bytes(self.optional, buf, e)
+    }
+}
 
 fn put_le(k: usize, v: u64, buf: &mut [u8], at: usize) -> usize
     requires { (k ≤ 8) × (at + k ≤ length buf.old) }
     ensures { PutAt buf.old at (le_bytes k v) buf.new result }
 {
-    let _ = wire::write_le(k, v, buf, at);
-    at + k
+    write_le(k, v, buf, at).unwrap()
 }
 
 fn put_packed(v: u64, buf: &mut [u8], at: usize) -> usize
     requires { at + length (packed_bytes v) ≤ length buf.old }
     ensures { PutAt buf.old at (packed_bytes v) buf.new result }
 {
-    let _ = wire::write_packed(v, buf, at);
-    at + wire::packed_size(v)
+    write_packed(v, buf, at).unwrap()
 }
 
 fn put_bytes(bytes: &[u8], buf: &mut [u8], at: usize) -> usize
     requires { at + length bytes.now ≤ length buf.old }
     ensures { PutAt buf.old at bytes.now buf.new result }
 {
-    let _ = wire::write_bytes(bytes, buf, at);
-    at + bytes.len()
+    write_bytes(bytes, buf, at).unwrap()
 }
 
 // A name behind its length, and a zero byte.
@@ -131,35 +192,4 @@ fn put_name(name: &[u8], buf: &mut [u8], at: usize) -> usize
     let start = put_le(1, name.len() as u64, buf, at);
     let end = put_bytes(name, buf, start);
     put_le(1, 0, buf, end)
-}
-
-fn put_head(id: u64, flags: u16, database: &[u8], table: &[u8], buf: &mut [u8]) -> usize
-    requires { (length database.now ≤ 255) × (length table.now ≤ 255)
-        × (12 + length database.now + length table.now ≤ length buf.old) }
-    ensures { PutAt buf.old 0 (event_head id flags database.now table.now) buf.new result }
-{
-    let a = put_le(6, id, buf, 0);
-    let b = put_le(2, flags as u64, buf, a);
-    let c = put_name(database, buf, b);
-    put_name(table, buf, c)
-}
-
-fn put_columns(
-    types: &[u8],
-    metadata: &[u8],
-    bits: &[u8],
-    optional: &[u8],
-    buf: &mut [u8],
-    at: usize,
-) -> usize
-    requires { at + length (column_bytes types.now metadata.now bits.now optional.now) ≤ length buf.old }
-    ensures { PutAt buf.old at
-        (column_bytes types.now metadata.now bits.now optional.now) buf.new result }
-{
-    let a = put_packed(types.len() as u64, buf, at);
-    let b = put_bytes(types, buf, a);
-    let c = put_packed(metadata.len() as u64, buf, b);
-    let d = put_bytes(metadata, buf, c);
-    let e = put_bytes(bits, buf, d);
-    put_bytes(optional, buf, e)
 }

@@ -1,39 +1,35 @@
--- `table_map::write::put_columns` meets its contract. Assumes nothing.
+-- `table_map::write::Parts::put_columns` meets its contract. Assumes nothing.
 use native.Mathlib.Omega.{arith}
+use Rattle.table_map.specs.Inner.Writes.{lent}
 use Rattle.table_map.proofs.Puts.{after_put, then, column_length}
-use Rattle.table_map.proofs.write.put_columns.Goals as goal
+use Rattle.table_map.proofs.write.Parts.put_columns.Goals as goal
 
 pub put_packed-a-requires : goal.put_packed-a-requires
 put_packed-a-requires c =
-    let a = c.args in
-    omega (arith, column_length a.types.now a.metadata.now a.bits.now a.optional.now)
+    omega (arith, column_length (lent c.args.self))
 
 pub put_bytes-b-requires : goal.put_bytes-b-requires
 put_bytes-b-requires c =
-    let a = c.args in
     omega (
       arith,
-      column_length a.types.now a.metadata.now a.bits.now a.optional.now,
+      column_length (lent c.args.self),
       after_put c.put_packed-a.ensures,
     )
 
 pub put_packed-c-requires : goal.put_packed-c-requires
 put_packed-c-requires c =
-    let a = c.args in
     omega (
       arith,
-      column_length a.types.now a.metadata.now a.bits.now a.optional.now,
+      column_length (lent c.args.self),
       after_put c.put_packed-a.ensures,
       after_put c.put_bytes-b.ensures,
     )
 
 pub put_bytes-d-requires : goal.put_bytes-d-requires
 put_bytes-d-requires c =
-    let a =
-    c.args in
     omega (
       arith,
-      column_length a.types.now a.metadata.now a.bits.now a.optional.now,
+      column_length (lent c.args.self),
       after_put c.put_packed-a.ensures,
       after_put c.put_bytes-b.ensures,
       after_put c.put_packed-c.ensures,
@@ -41,11 +37,9 @@ put_bytes-d-requires c =
 
 pub put_bytes-e-requires : goal.put_bytes-e-requires
 put_bytes-e-requires c =
-    let a =
-    c.args in
     omega (
       arith,
-      column_length a.types.now a.metadata.now a.bits.now a.optional.now,
+      column_length (lent c.args.self),
       after_put c.put_packed-a.ensures,
       after_put c.put_bytes-b.ensures,
       after_put c.put_packed-c.ensures,
@@ -54,11 +48,9 @@ put_bytes-e-requires c =
 
 pub put_bytes-requires : goal.put_bytes-requires
 put_bytes-requires c =
-    let a =
-    c.args in
     omega (
       arith,
-      column_length a.types.now a.metadata.now a.bits.now a.optional.now,
+      column_length (lent c.args.self),
       after_put c.put_packed-a.ensures,
       after_put c.put_bytes-b.ensures,
       after_put c.put_packed-c.ensures,
