@@ -1,5 +1,5 @@
 // The parts of a number, and whether each is in its range. Bits and decimals differ in their radices alone. The error is the first part out
-// of range, by its number in a refusal, which C reads.
+// of range, by its number: that is what a refusal lends to C. What is in range fits its narrower type, so no cast loses a bit.
 ghost use Rattle.std.specs.Prelude.{◌≡◌, ◌<◌, ◌≤◌, IfOk, IfErr};
 ghost use Rattle.temporal.specs.Ranges.{clock_fault, day_fault};
 ghost use Rattle.temporal.specs.Times.{time_by};

@@ -6,10 +6,10 @@ ghost use Rattle.temporal.specs.Times.{signed_time, time_by};
 ghost use Rattle.temporal.specs.Datetimes.{signed_datetime, seconds_of};
 ghost use Rattle.temporal.specs.Inner.Ranged.{ranged_time, ranged_seconds, ranged_signed};
 
-use crate::judge::{Radices, check_clock, datetime_by, time_by};
+use crate::judge::{Radices, datetime_by, time_by};
 use crate::parts::{Seconds, Temporal};
 use crate::stored::Stored;
-use wire::refusal::BELOW_ZERO;
+use wire::refusal::{BELOW_ZERO, FRACTION};
 
 // What is added to the whole part of a time, and of a datetime, before it is stored: so nothing is stored below zero.
 pub(crate) const TIMEF_INT_OFS: u64 = 1 << 23;
@@ -73,7 +73,6 @@ pub(crate) fn my_datetime_packed_from_binary(stored: Stored) -> SignedTime
 }
 
 // One below zero is refused, where the Rust takes its absolute value.
-#[tactic(auto)]
 pub(crate) fn datetime_from_packed(tmp: SignedTime) -> Result<Temporal, u8>
     ensures { result ≡ ranged_signed tmp }
 {
@@ -84,13 +83,15 @@ pub(crate) fn datetime_from_packed(tmp: SignedTime) -> Result<Temporal, u8>
 }
 
 // Seconds are unsigned, where the Rust makes an i32 of them.
-#[tactic(auto, using(wire::proofs::Rules::tests), unfolding(crate::specs::Datetimes::seconds_of))]
+#[tactic(auto, using(wire::proofs::Rules::tests), unfolding(crate::specs::Ranges::clock_fault, crate::specs::Datetimes::seconds_of))]
 pub(crate) fn my_timestamp_from_binary(stored: Stored) -> Result<Temporal, u8>
     requires { stored.whole < 2 ^ 32 }
     ensures { result ≡ ranged_seconds (seconds_of stored.width.bytes stored.whole stored.units) }
 {
     let micros = stored.micros();
-    check_clock(0, 0, 0, 0, micros)?;
+    if 999_999 < micros {
+        return Err(FRACTION);
+    }
     Ok(Temporal::Seconds(Seconds {
         seconds: stored.whole as u32,
         micros: micros as u32,
