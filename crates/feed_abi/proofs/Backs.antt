@@ -12,7 +12,7 @@ use Rattle.value_parts.specs.Parts.{sort_of, parts_of, padded, value_of, is_held
 use Rattle.value_parts.proofs.Holds.{held_null}
 use Rattle.value_parts.proofs.Backs.{value_back, seven}
 use Rattle.image.specs.declared.cursor.Cursor.{Cursor}
-use Rattle.image.specs.Split.{null, value}
+use Rattle.image.specs.declared.step.Step.TheVariants.{Null as null, Value as value}
 use Rattle.feed_abi.specs.Calls.{told_numbers}
 
 pub told_back : (column : ℕ) (v : Value) (next : Cursor) (rest : List ℕ) → is_held v ≡ true

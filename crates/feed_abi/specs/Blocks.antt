@@ -6,7 +6,9 @@ use Rattle.value_parts.specs.Parts.{sort_of, parts_of, padded}
 use Rattle.blocks.specs.declared.state.Phase.{Phase}
 use Rattle.blocks.specs.declared.state.Phase.TheVariants.{Open, Long, Closed}
 use Rattle.blocks.specs.declared.state.Arriving.{Arriving}
-use Rattle.blocks.specs.States.{Arrived, more, null, value, long, part, end, BlockGiven, closed}
+use Rattle.blocks.specs.declared.state.Arrival.TheVariants.{More as more, Null as null, Value as value, Long as long, Part as part, End as end}
+use Rattle.blocks.specs.declared.state.BlockGiven.{BlockGiven}
+use Rattle.blocks.specs.States.{Arrived, closed}
 use Rattle.blocks.specs.Gives.{give_block, begin_blocks}
 use Rattle.blocks.specs.Ends.{end_blocks}
 use Rattle.feed_abi.specs.Calls.{said, said_with}

@@ -1,6 +1,5 @@
 -- What each call answers: the rule of the library's call, its answer in numbers. Assumes nothing.
-use Rattle.std.specs.Prelude.{ℕ, ◌-◌, ◌/◌, ◌≡◌, true, cond, not, List, [], ◌∷◌, ◌++◌, ltb, eqb}
-use Rattle.std.proofs.Math.Option.{Option, none, some}
+use Rattle.std.specs.Prelude.{ℕ, ◌-◌, ◌/◌, ◌≡◌, true, cond, not, List, [], ◌∷◌, ◌++◌, ltb, eqb, Option, Some, None}
 use Rattle.wire.specs.Outcome.{Outcome, ok, refused, refuse, after}
 use Rattle.wire.specs.declared.part.Part.{Part}
 use Rattle.wire.specs.Parts.{part}
@@ -17,7 +16,8 @@ use Rattle.map_check.specs.Names.{column_name, names_field}
 use Rattle.map_check.specs.Profile.{one_if}
 use Rattle.map_check.specs.Check.{check}
 use Rattle.image.specs.declared.cursor.Cursor.{Cursor}
-use Rattle.image.specs.Split.{ColumnStepped, null, value, end, cursor, first_cursor, step_from}
+use Rattle.image.specs.declared.step.Step.TheVariants.{Null as null, Value as value, End as end}
+use Rattle.image.specs.Split.{ColumnStepped, cursor, first_cursor, step_from}
 use Rattle.image.specs.Puts.{start_image, put_from}
 use Rattle.image.specs.Room.{read_room}
 use Rattle.row_plan.specs.declared.row.RowCursor.{RowCursor}
@@ -25,15 +25,10 @@ use Rattle.row_plan.specs.declared.put.ItemCursor.{ItemCursor}
 use Rattle.row_plan.specs.Plan.{row_cursor, make_plan}
 use Rattle.row_plan.specs.Runs.{read_run}
 use Rattle.row_plan.specs.Puts.{item_cursor, plan_put}
-use Rattle.rows_event.specs.declared.parts.Extra.{Extra}
-use Rattle.rows_event.specs.declared.parts.Extra.TheVariants.{Absent, Data}
-use Rattle.rows_event.specs.declared.parts.Second.{Second}
-use Rattle.rows_event.specs.declared.parts.Second.TheVariants.{Absent as Absent₁, Bits}
 use Rattle.rows_event.specs.declared.event.Rows.{Rows}
 use Rattle.rows_event.specs.declared.images.Images.{Images}
 use Rattle.rows_event.specs.Events.{read_rows}
-use Rattle.rows_event.specs.Images.{ImageStepped as Told₁, image_met, end as end₁, next_image}
-use Rattle.feed_abi.specs.declared.events.Given.{Given}
+use Rattle.rows_event.specs.Images.{ImageStepped as Told₁, end as end₁, next_image}
 
 -- ---- answers in numbers
 abbrev pub said : {A : Type 0} → (A → List ℕ) → Outcome A → Outcome (List ℕ)
@@ -72,20 +67,23 @@ told_numbers (value column v next) = step_numbers (sort_of v) column next (parts
 told_numbers (end used) = step_numbers 0 0 (cursor 0 used) []
 
 -- a part that may be absent: 1 with its start and length, or zeros
+pub record Given : Type 0 where
+  pub there : ℕ
+  pub start : ℕ
+  pub len : ℕ
+
 abbrev pub given : ℕ → ℕ → ℕ → Given
 given there start len = record { there = there; start = start; len = len }
 
-abbrev pub extra_given : Extra → Given
-extra_given Absent = given 0 0 0
-extra_given (Data p) = given 1 p.start p.len
-
-abbrev pub second_given : Second → Given
-second_given Absent₁ = given 0 0 0
-second_given (Bits p) = given 1 p.start p.len
-
 abbrev pub names_given : Option Part → Given
-names_given none = given 0 0 0
-names_given (some p) = given 1 p.start p.len
+names_given None = given 0 0 0
+names_given (Some p) = given 1 p.start p.len
+
+abbrev pub extra_given : Option Part → Given
+extra_given extra = names_given extra
+
+abbrev pub second_given : Option Part → Given
+second_given second = names_given second
 
 abbrev pub given_numbers : Given → List ℕ
 given_numbers g = g.there ∷ (g.start ∷ (g.len ∷ []))
@@ -98,7 +96,8 @@ rows_numbers w =
 
 -- 1, the image, whether it stands under the second set, and the next cursor; zeros are the end
 abbrev pub image_numbers : Told₁ → List ℕ
-image_numbers (image_met p second next) = 1 ∷ (p.start ∷ (p.len ∷ (one_if second ∷ (next.at ∷ (one_if next.second ∷ [])))))
+image_numbers (Some (image, next)) =
+    1 ∷ (image.part.start ∷ (image.part.len ∷ (one_if image.second ∷ (next.at ∷ (one_if next.second ∷ [])))))
 image_numbers end₁ = 0 ∷ (0 ∷ (0 ∷ (0 ∷ (0 ∷ (0 ∷ [])))))
 
 -- how many bytes a plan has, and how many items
@@ -189,11 +188,11 @@ feed_rows code profile id s = said rows_numbers (read_rows code profile id s)
 
 -- the sets that numbers ask for: 0 is no second set, any other number one. A step over images looks at nothing else of an event that was
 -- read
-abbrev pub second_asked : ℕ → ℕ → ℕ → Second
-second_asked there start len = cond (eqb there 0) Absent₁ (Bits (part start len))
+abbrev pub second_asked : ℕ → ℕ → ℕ → Option Part
+second_asked there start len = cond (eqb there 0) None (Some (part start len))
 
-abbrev pub sets_asked : Part → Second → Rows
-sets_asked before second = record { flags = 0; extra = Absent; before = before; after = second; images = 0 }
+abbrev pub sets_asked : Part → Option Part → Rows
+sets_asked before second = record { flags = 0; extra = None; before = before; after = second; images = 0 }
 
 -- the cursor that numbers ask for: 0 is the first set, any other number the second
 abbrev pub images_at : ℕ → ℕ → Images

@@ -1,6 +1,6 @@
 -- What each call over the parts, the optional fields and the lists of a map answers: the rule of the library's call, its answer in numbers.
 -- Assumes nothing.
-use Rattle.std.specs.Prelude.{ℕ, cond, List, [], ◌∷◌, ◌++◌, eqb}
+use Rattle.std.specs.Prelude.{ℕ, cond, List, [], ◌∷◌, ◌++◌, eqb, Some}
 use Rattle.wire.specs.Outcome.{Outcome, ok, refuse, after}
 use Rattle.wire.specs.declared.part.Part.{Part}
 use Rattle.wire.specs.Parts.{lent_part}
@@ -40,7 +40,7 @@ feed_fields event post_header d = after (dialect_of d) (λ d. said fields_number
 -- 1, its type, start and length of its value, and where the next stands, whose counts are the same; zeros are the end
 abbrev pub field_numbers : Stepped (ℕ × Part) Fields → List ℕ
 field_numbers end = 0 ∷ (0 ∷ (0 ∷ (0 ∷ (0 ∷ []))))
-field_numbers (item f next) = 1 ∷ (f.0 ∷ (f.1.start ∷ (f.1.len ∷ (next.at ∷ []))))
+field_numbers (Some (f, next)) = 1 ∷ (f.0 ∷ (f.1.start ∷ (f.1.len ∷ (next.at ∷ []))))
 
 -- a step from any cursor
 unfoldable pub feed_field : List ℕ → ℕ → ℕ → ℕ → Outcome (List ℕ)
@@ -51,7 +51,7 @@ feed_field event offset numeric columns = said field_numbers (field_step (fields
 -- a step over any of them, its item as two numbers
 abbrev pub step_in_two : {A : Type 0} → (A → ℕ × ℕ) → Stepped A ℕ → Stepped (ℕ × ℕ) ℕ
 step_in_two f end = end
-step_in_two f (item a next) = item (f a) next
+step_in_two f (Some (a, next)) = item (f a) next
 
 abbrev pub in_two : {A : Type 0} → (A → ℕ × ℕ) → Outcome (Stepped A ℕ) → Outcome (Stepped (ℕ × ℕ) ℕ)
 in_two f o = after o (λ x. ok (step_in_two f x))
@@ -70,7 +70,7 @@ item_at list value offset =
 -- 1, the two numbers of the item, and where the next stands; zeros are the end
 abbrev pub item_numbers : Stepped (ℕ × ℕ) ℕ → List ℕ
 item_numbers end = 0 ∷ (0 ∷ (0 ∷ (0 ∷ [])))
-item_numbers (item x next) = 1 ∷ (x.0 ∷ (x.1 ∷ (next ∷ [])))
+item_numbers (Some (x, next)) = 1 ∷ (x.0 ∷ (x.1 ∷ (next ∷ [])))
 
 -- a step from any offset
 unfoldable pub feed_item : ℕ → List ℕ → ℕ → Outcome (List ℕ)

@@ -1,15 +1,16 @@
 // An image that arrives in blocks.
-ghost use Rattle.std.specs.Prelude.{◌≡◌, ◌∷◌, [], ◌≤◌, length};
-ghost use Rattle.wire.specs.Stored.{stored, answer_of};
-ghost use Rattle.value_parts.specs.Parts.{sort_of, parts_of};
-ghost use Rattle.feed_abi.specs.Answers.{answer_number, answer_numbers, status_of, numbers_left, bytes_left};
-ghost use Rattle.feed_abi.specs.Calls.{said};
-ghost use Rattle.feed_abi.specs.Blocks.{phase_number, phase_asked, state_numbers, state_asked};
-ghost use Rattle.feed_abi.specs.Blocks.{arrival_head, arrival_numbers, arrived_numbers, feed_begin, feed_give, feed_end};
-ghost use Rattle.feed_abi.specs.Inner.Blocks.{given_told, noted_of};
+ghost use Rattle.std.specs.Prelude.{◌≡◌, ◌∷◌, []};
+ghost use Rattle.wire.specs.Stored.{answer_of, left_of};
+ghost use Rattle.value_parts.specs.Parts.{padded};
+ghost use Rattle.blocks.specs.Gives.{give_block};
+ghost use Rattle.blocks.specs.Ends.{end_blocks};
+ghost use Rattle.feed_abi.specs.Answers.{status_of, numbers_left, bytes_left};
+ghost use Rattle.feed_abi.specs.Calls.{said, said_with};
+ghost use Rattle.feed_abi.specs.Blocks.{phase_number, phase_asked, state_numbers, state_asked, told_block, arrived_numbers, ended};
+ghost use Rattle.feed_abi.specs.Blocks.{feed_begin, feed_give, feed_end};
 
-use crate::answer::{NO_NUMBERS, put_numbers, tell, tell_refusal};
-use blocks::{Arrival, Arriving, Begun, Given, Phase};
+use crate::answer::{NO_NUMBERS, joined, tell};
+use blocks::{Arrival, Arriving, Given, Phase};
 use value::Value;
 use value_parts::{parts_of, sort_of};
 use wire::Refusal;
@@ -23,54 +24,7 @@ const LONG: u64 = 13;
 
 const PART: u64 = 14;
 
-// What arrived: a value, NULL too, or what has no more than a number of bytes, or why there is nothing.
-#[derive(Clone, Copy)]
-enum Noted {
-    Value {
-        column: usize,
-        value: Value,
-    },
-    Bytes {
-        sort: u64,
-        column: usize,
-        bytes: usize,
-    },
-    Refused(Refusal),
-}
-
-fn note(arrival: Arrival) -> Noted
-    ensures { result ≡ noted_of arrival }
-{
-    match arrival {
-        Arrival::More => Noted::Bytes {
-            sort: MORE,
-            column: 0,
-            bytes: 0,
-        },
-        Arrival::Null { column } => Noted::Value {
-            column,
-            value: Value::Null,
-        },
-        Arrival::Value { column, value } => Noted::Value { column, value },
-        Arrival::Long { column, len } => Noted::Bytes {
-            sort: LONG,
-            column,
-            bytes: len,
-        },
-        Arrival::Part { column, len } => Noted::Bytes {
-            sort: PART,
-            column,
-            bytes: len,
-        },
-        Arrival::End { used } => Noted::Bytes {
-            sort: END,
-            column: 0,
-            bytes: used,
-        },
-        Arrival::Refused(r) => Noted::Refused(r),
-    }
-}
-
+// A phase is not converted by From, nor a number by TryFrom: neither the traits nor the type are of this crate.
 fn phase_number(phase: Phase) -> u64
     ensures { result ≡ phase_number phase }
 {
@@ -85,13 +39,11 @@ fn phase_number(phase: Phase) -> u64
 fn phase_asked(phase: u64) -> Phase
     ensures { result ≡ phase_asked phase }
 {
-    if phase == 0 {
-        return Phase::Open;
+    match phase {
+        0 => Phase::Open,
+        1 => Phase::Long,
+        _ => Phase::Closed,
     }
-    if phase == 1 {
-        return Phase::Long;
-    }
-    Phase::Closed
 }
 
 fn state_asked(phase: u64, column: usize, held: usize, left: usize, used: usize) -> Arriving
@@ -106,90 +58,74 @@ fn state_asked(phase: u64, column: usize, held: usize, left: usize, used: usize)
     }
 }
 
-fn tell_state(at: Arriving, out: &mut [u64]) -> u64
-    requires { 5 ≤ length out.old }
-    ensures value { result ≡ 0 }
-    ensures out_after { out.new ≡ stored (state_numbers at) out.old 0 }
+fn state_numbers(at: Arriving) -> [u64; 5]
+    ensures { result ≡ state_numbers at }
 {
-    let phase = at.phase;
-    let numbers = [
-        phase_number(phase),
+    [
+        phase_number(at.phase),
         at.column as u64,
         at.held as u64,
         at.left as u64,
         at.used as u64,
-    ];
-    tell(&numbers, out)
+    ]
 }
 
-// What arrived, by its sort and column, and the bytes taken, behind the next state; the parts are put behind them.
-fn put_arrival(next: Arriving, sort: u64, column: usize, taken: usize, out: &mut [u64])
-    requires { 8 ≤ length out.old }
-    ensures { out.new ≡ stored (arrival_head next sort column taken) out.old 0 }
+#[tactic(auto, unfolding(crate::specs::Blocks::feed_begin))]
+fn begin(profile: &[u8], presence: &[u8], carry: &[u8]) -> Result<[u64; 5], Refusal>
+    ensures { result ≡ feed_begin profile.now presence.now carry.now }
 {
-    let phase = next.phase;
-    let numbers = [
-        phase_number(phase),
-        next.column as u64,
-        next.held as u64,
-        next.left as u64,
-        next.used as u64,
-        sort,
-        column as u64,
-        taken as u64,
-    ];
-    put_numbers(&numbers, out, 0);
+    let at = blocks::begin(profile, presence, carry)?;
+    Ok(state_numbers(at))
 }
 
-// A column's value, NULL too.
-fn tell_value(column: usize, value: Value, taken: usize, next: Arriving, out: &mut [u64]) -> u64
-    requires { 15 ≤ length out.old }
-    ensures value { result ≡ 0 }
-    ensures out_after { out.new
-        ≡ stored (arrival_numbers next (sort_of value) column taken (parts_of value)) out.old 0 }
+// What has no value has no parts but a number of bytes.
+#[tactic(auto, unfolding(value_parts::specs::Parts::padded))]
+fn bytes_alone(bytes: usize) -> [u64; 7]
+    ensures { result ≡ padded 7 (bytes ∷ []) }
 {
-    let parts = parts_of(value);
-    put_arrival(next, sort_of(value), column, taken, out);
-    put_numbers(&parts, out, 8);
-    0
+    [bytes as u64, 0, 0, 0, 0, 0, 0]
 }
 
-fn tell_bytes(
-    sort: u64,
-    column: usize,
-    bytes: usize,
-    taken: usize,
-    next: Arriving,
-    out: &mut [u64],
-) -> u64
-    requires { 15 ≤ length out.old }
-    ensures value { result ≡ 0 }
-    ensures out_after { out.new ≡ stored (arrival_numbers next sort column taken (bytes ∷ [])) out.old 0 }
+// What a call answered: the next state, sort, column, bytes taken, and parts.
+#[tactic(auto, unfolding(crate::specs::Blocks::told_block, value_parts::specs::Parts::padded))]
+fn arrived(given: Given) -> Result<[u64; 15], Refusal>
+    ensures { result ≡ said (told_block given.next given.taken) given.arrival }
 {
-    let parts = [bytes as u64, 0, 0, 0, 0, 0, 0];
-    put_arrival(next, sort, column, taken, out);
-    put_numbers(&parts, out, 8);
-    0
+    let (sort, column, parts) = match given.arrival? {
+        Arrival::More => (MORE, 0, bytes_alone(0)),
+        Arrival::Null { column } => (sort_of(Value::Null), column, parts_of(Value::Null)),
+        Arrival::Value { column, value } => (sort_of(value), column, parts_of(value)),
+        Arrival::Long { column, len } => (LONG, column, bytes_alone(len)),
+        Arrival::Part { column, len } => (PART, column, bytes_alone(len)),
+        Arrival::End { used } => (END, 0, bytes_alone(used)),
+    };
+    let taken = [sort, column as u64, given.taken as u64];
+    let front: [u64; 8] = joined(state_numbers(given.next), taken);
+    Ok(joined(front, parts))
 }
 
-// What a call answered.
-fn tell_given(given: Given, out: &mut [u64]) -> u64
-    requires { 15 ≤ length out.old }
-    ensures value { result ≡ answer_number (said arrived_numbers (given_told given)) }
-    ensures out_after { out.new ≡ stored (answer_numbers (said arrived_numbers (given_told given))) out.old 0 }
+#[tactic(auto, using(crate::proofs::Arrives::given_back, crate::proofs::Arrives::left_back))]
+fn give(
+    profile: &[u8],
+    presence: &[u8],
+    carry: &mut [u8],
+    block: &[u8],
+    at: Arriving,
+) -> Result<[u64; 15], Refusal>
+    ensures value { result
+        ≡ answer_of (said_with arrived_numbers (give_block profile.now presence.now at carry.old block.now)) }
+    ensures carry_after { carry.new
+        ≡ left_of (said_with arrived_numbers (give_block profile.now presence.now at carry.old block.now))
+        carry.old }
 {
-    let arrival = given.arrival;
-    let taken = given.taken;
-    let next = given.next;
-    match note(arrival) {
-        Noted::Value { column, value } => tell_value(column, value, taken, next, out),
-        Noted::Bytes {
-            sort,
-            column,
-            bytes,
-        } => tell_bytes(sort, column, bytes, taken, next, out),
-        Noted::Refused(r) => tell_refusal(r, out),
-    }
+    arrived(at.give(profile, presence, carry, block))
+}
+
+#[tactic(auto, using(crate::proofs::Arrives::ended_back))]
+fn end(profile: &[u8], presence: &[u8], carry: &[u8], at: Arriving) -> Result<[u64; 15], Refusal>
+    ensures { result ≡ said (λ n. arrived_numbers (ended n)) (end_blocks profile.now presence.now at carry.now) }
+{
+    arrived(at.end(profile, presence, carry))
 }
 
 // The state that an image begins with: phase, column, held, left, used.
@@ -198,17 +134,12 @@ pub fn feed_begin(profile: &[u8], presence: &[u8], carry: &[u8], out: &mut [u64]
     ensures out_after { out.new
         ≡ numbers_left 5 (feed_begin profile.now presence.now carry.now) out.old }
 {
-    if out.len() < 5 {
-        return NO_NUMBERS;
-    }
-    match blocks::begin(profile, presence, carry) {
-        Begun::Begins(at) => tell_state(at, out),
-        Begun::Refused(r) => tell_refusal(r, out),
-    }
+    tell(begin(profile, presence, carry), out)
 }
 
 // Takes bytes from the front of the block, as many as one answer needs, to any state: the next state, sort, column, bytes taken, and seven
 // parts.
+#[tactic(auto, using(crate::proofs::Leaves::leaves), unfolding(crate::specs::Blocks::feed_give))]
 pub fn feed_give(
     profile: &[u8],
     presence: &[u8],
@@ -235,10 +166,11 @@ pub fn feed_give(
         return NO_NUMBERS;
     }
     let at = state_asked(phase, column, held, left, used);
-    tell_given(at.give(profile, presence, carry, block), out)
+    tell(give(profile, presence, carry, block, at), out)
 }
 
 // No more bytes come: the end, with the bytes used, in the layout of `feed_give`. The next state is the closed one.
+#[tactic(auto, unfolding(crate::specs::Blocks::feed_end))]
 pub fn feed_end(
     profile: &[u8],
     presence: &[u8],
@@ -257,9 +189,6 @@ pub fn feed_end(
         ≡ numbers_left 15 (feed_end profile.now presence.now carry.now phase column held left used)
         out.old }
 {
-    if out.len() < 15 {
-        return NO_NUMBERS;
-    }
     let at = state_asked(phase, column, held, left, used);
-    tell_given(at.end(profile, presence, carry), out)
+    tell(end(profile, presence, carry, at), out)
 }

@@ -1,4 +1,0 @@
--- Definitions that no public contract and no statement reaches: what the crate's own functions go by. Nobody need believe them.
-pub mod Blocks
-pub mod Calls
-pub mod Fields
