@@ -1,12 +1,13 @@
 -- Whatever the state, made up or not: only the end call can refuse with 9; and a closed state is refused, 21 at 0. Assumes nothing.
 use Prim.Native.Nat.{ℕ, ◌-◌, ◌≤◌}
 use mathlib.Core.Path.{◌≡◌, refl}
-use mathlib.Core.Bool.{Bool, true, false, cond, ◌&&◌}
+use mathlib.Core.Bool.{Bool, true, false, cond}
 use mathlib.Core.List.{List, [], ◌∷◌}
 use native.Mathlib.Omega.{arith}
 use borrow.Author.Tests.{le-ltb}
 use lib.ListN.{length, take, drop}
 use lib.Dec.{leb, ltb, eqb}
+use Rattle.std.proofs.Math.Bool.{and-false}
 use Rattle.wire.specs.declared.refusal.Refusal.{Refusal}
 use Rattle.wire.specs.Outcome.{Outcome, ok, refused, refuse, after, why}
 use Rattle.wire.specs.Bits.{bytes_for}
@@ -73,16 +74,12 @@ give_not_9 r p st carry block =
     not_test (is_fit r p h.columns h.nulls st carry) (not_in st.phase r p h.nulls st carry block)
     (other _ (λ (e : 21 ≡ 9). absurd (omega arith))))
 
-and_false : (b : Bool) → (b && false) ≡ false
-and_false true = refl
-and_false false = refl
-
 -- behind a refusal and behind the end call the state is closed
 pub closed_refused : (r p : List ℕ) (st : Arriving) (carry block : List ℕ) → Over r p → 1024 ≤ length carry → st.phase ≡ Closed
     → (give_block r p st carry block ≡ refuse 21 0) × (end_blocks r p st carry ≡ refuse 21 0)
 unfolding give_block head_carry given_fit end_blocks ended_fit is_fit fits_in
 closed_refused r p st carry block u h e =
-    rw (head_is r p u, le-ltb (length carry) 1024 h, e, and_false (is_counted r p (count_of r) (length carry) st)) (refl, refl)
+    rw (head_is r p u, le-ltb (length carry) 1024 h, e, and-false (is_counted r p (count_of r) (length carry) st)) (refl, refl)
 
 -- and so is any other that is not fit
 pub unfit_refused : (r p : List ℕ) (st : Arriving) (carry block : List ℕ) → Over r p → 1024 ≤ length carry

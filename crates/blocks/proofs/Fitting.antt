@@ -7,7 +7,6 @@ use native.Mathlib.Omega.{arith}
 use borrow.Author.Tests.{leb-true, eqb-true, ltb-false}
 use lib.ListN.{length}
 use lib.Dec.{leb, ltb, eqb}
-use Rattle.wire.specs.declared.refusal.Refusal.{Refusal}
 use Rattle.wire.specs.Outcome.{Outcome, ok, refused, refuse, after, why}
 use Rattle.wire.specs.Bits.{bytes_for}
 use Rattle.wire.specs.Stored.{answer_of}
@@ -22,11 +21,11 @@ use Rattle.image.proofs.CursorLaws.Heads.{head_tested}
 use Rattle.image.proofs.PresenceLaws.Firsts.{count_at_most}
 use Rattle.image.proofs.RoomLaws.Adds.{room_small}
 use Rattle.blocks.specs.declared.state.Phase.{Phase}
-use Rattle.blocks.specs.declared.state.Phase.TheVariants.{Open, Long, Closed}
+use Rattle.blocks.specs.declared.state.Phase.TheVariants.{Open, Long}
 use Rattle.blocks.specs.declared.state.Arriving.{Arriving}
 use Rattle.blocks.specs.States.{opened, longed, more, part, BlockGiven}
-use Rattle.blocks.specs.Fits.{fits_in, is_counted, is_fit}
-use Rattle.blocks.specs.Gives.{Handed, parted, give_open, give_long, give_in, given_fit, head_carry, give_block}
+use Rattle.blocks.specs.Fits.{is_counted, is_fit}
+use Rattle.blocks.specs.Gives.{Handed, parted, give_long, give_in, given_fit, head_carry, give_block}
 use Rattle.blocks.specs.Ends.{end_in, ended_fit, end_blocks}
 use Rattle.blocks.specs.Inner.Hands.{Sits, end_open}
 use Rattle.blocks.proofs.Values.{Answers}
@@ -57,15 +56,6 @@ module _ (r p : List ℕ) (n len : ℕ) (at : Arriving) where
 
 -- ---- the state
 module _ (r p carry : List ℕ) (n nb : ℕ) (at : Arriving) where
-  pub fit_not : {b : Bool} → b ≡ is_counted r p n (length carry) at → b ≡ false → false ≡ is_fit r p n nb at carry
-  unfolding is_fit
-  fit_not e f = rw (sym e ∙ f)
-
-  pub fit_in : (f : Phase) {b c : Bool} → b ≡ is_counted r p n (length carry) at → b ≡ true → at.phase ≡ f → c ≡ fits_in f r p nb at carry
-      → c ≡ is_fit r p n nb at carry
-  unfolding is_fit
-  fit_in f e g h i = i ∙ ap (λ (z : Phase). fits_in z r p nb at carry) (sym h) ∙ rw (sym e ∙ g)
-
   pub fit_numbered : {b : Bool} → b ≡ is_fit r p n nb at carry → b ≡ true → Numbered (length carry) n at
   unfolding is_fit
   fit_numbered e f = numbered r p n (length carry) at refl (both_true (is_counted r p n (length carry) at) _ (sym e ∙ f)).0
@@ -99,20 +89,10 @@ parts at nb n c x z =
 
 module _ (r p carry block : List ℕ) (at : Arriving) {h : Head} (t : head_carry r p carry ≡ ok h) where
   -- behind them the call answers as the phase says
-  pub given_unfit : {b : Bool} {w : Refusal} → b ≡ is_fit r p h.columns h.nulls at carry → b ≡ false → w ≡ why 21 0
-      → Answers (give_block r p at carry block) carry (refused w) carry
-  unfolding give_block given_fit
-  given_unfit e f k = rw (t, sym e ∙ f, k) (refl, refl)
-
   module _ {b : Bool} (e : b ≡ is_fit r p h.columns h.nulls at carry) (f : b ≡ true) where
     given_in : (q : Phase) → at.phase ≡ q → give_block r p at carry block ≡ give_in q r p h.nulls at carry block
     unfolding give_block given_fit
     given_in q i = rw (t, sym e ∙ f) (ap (λ (z : Phase). give_in z r p h.nulls at carry block) i)
-
-    pub given_open : {g : Outcome BlockGiven} {c : List ℕ} → at.phase ≡ Open → Answers (give_open r p h.nulls at carry block) carry g c
-        → Answers (give_block r p at carry block) carry g c
-    unfolding give_in
-    given_open i w = rw (given_in Open i) w
 
     pub given_long : {g : Outcome BlockGiven} → at.phase ≡ Long → g ≡ answer_of (give_long h.nulls at [] block)
         → Answers (give_block r p at carry block) carry g carry
@@ -124,10 +104,6 @@ module _ (r p carry block : List ℕ) (at : Arriving) {h : Head} (t : head_carry
         go true z k = (k, refl)
         go false true k = (k, refl)
         go false false k = (k, refl)
-
-    pub given_closed : {w : Refusal} → at.phase ≡ Closed → w ≡ why 21 0 → Answers (give_block r p at carry block) carry (refused w) carry
-    unfolding give_in
-    given_closed i k = rw (given_in Closed i, k) (refl, refl)
 
     ended_in : (q : Phase) → at.phase ≡ q → end_blocks r p at carry ≡ end_in q r p h.nulls at carry
     unfolding end_blocks ended_fit
@@ -154,7 +130,7 @@ carry_tested r p carry {h} e = go (head_of r p) refl e
   where
     test : (k : Head) → head_of r p ≡ ok k → (b : Bool) → ltb (length carry) 1024 ≡ b → cond b (refuse 20 0) (ok k) ≡ ok h
         → Tested r p (length carry) h.columns h.nulls
-    test k f true l g = let z : ◌≡◌ {A = ℕ} 0 1 = cc in absurd (omega arith)
+    test k f true l g = absurd (cc)
     test k f false l g =
         let t = head_tested r p f in
         let s : k ≡ h = same_ok g in
@@ -170,4 +146,4 @@ carry_tested r p carry {h} e = go (head_of r p) refl e
     go : (o : Outcome Head) → head_of r p ≡ o → after o (λ k. cond (ltb (length carry) 1024) (refuse 20 0) (ok k)) ≡ ok h
         → Tested r p (length carry) h.columns h.nulls
     go (ok k) f g = test k f (ltb (length carry) 1024) refl g
-    go (refused w) f g = let z : ◌≡◌ {A = ℕ} 0 1 = cc in absurd (omega arith)
+    go (refused w) f g = absurd (cc)

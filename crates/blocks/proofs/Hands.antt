@@ -2,15 +2,13 @@
 use Prim.Native.Nat.{ℕ, ◌+◌, ◌-◌, ◌*◌, ◌/◌, ◌%◌, ◌^◌, ◌≤◌, ◌<◌, min}
 use mathlib.Core.Path.{◌≡◌, refl, sym, ap, subst, ◌∙◌}
 use mathlib.Core.Logic.{dite}
-use mathlib.Core.Bool.{Bool, true, false, ◌&&◌}
 use mathlib.Core.List.{List, ◌++◌}
 use native.Mathlib.Nat.{pow-le-pow_right, zero-lt-suc}
 use native.Mathlib.Decide.{dec_le}
 use native.Mathlib.Omega.{arith}
-use borrow.Author.Tests.{lt-ltb, le-ltb, lt-leb}
+use borrow.Author.Tests.{lt-ltb, lt-leb}
 use lib.ListN.{length, get_or, set, take, drop, length-set, length-drop, get_or-append}
 use lib.Seq.{length-take-le, get_or-take, get_or-drop, get_or-append-add, get_or-set_same, get_or-set_other, ext_get_or}
-use lib.Dec.{leb, ltb}
 use Rattle.wire.specs.Bits.{digit, bit_lsb0}
 use Rattle.wire.specs.Number.{le_value}
 use Rattle.value.specs.declared.shape.Shape.TheVariants.{Unsigned, Signed, FloatBits, DoubleBits, YearByte, Timed, Fixed, Counted}
@@ -19,7 +17,7 @@ use Rattle.value.specs.declared.shape.Shape.{Shape}
 use Rattle.value.specs.Shapes.{need, prefix}
 use Rattle.value.specs.Inner.Shapes.{Sized}
 use Rattle.value.proofs.Appends.{prefix_within}
-use Rattle.blocks.specs.Turns.{wait, long, whole, too_long, turn_of}
+use Rattle.blocks.specs.Turns.{too_long, turn_of}
 use Rattle.blocks.specs.Inner.Hands.{turn_by, Heads}
 
 pub bit_held : (h b : List ℕ) (i : ℕ) → i / 8 < length h → bit_lsb0 h i ≡ bit_lsb0 (h ++ b) i
@@ -99,23 +97,7 @@ need_head (Fixed n) y from head z h l = refl
 need_head (Counted k) y from head z h l = ap (λ (x : List ℕ). k + le_value x) (heads_take y from head k h (omega (arith, z)) l)
 need_head (NotTaken n) y from head z h l = refl
 
--- ---- the turn
-pub turn_long : (room told len size : ℕ) (b : Bool) → b ≡ (leb told len && ltb room size) → b ≡ true → long (size - told)
-    ≡ turn_by room told len size
-unfolding turn_by
-turn_long room told len size b e h = rw (sym e ∙ h)
-
-pub turn_wait : (room told len size : ℕ) (b : Bool) → b ≡ (leb told len && ltb room size) → b ≡ false → len < size → wait
-    ≡ turn_by room told len size
-unfolding turn_by
-turn_wait room told len size b e h l = rw (sym e ∙ h, lt-ltb len size l)
-
-pub turn_whole : (room told len size : ℕ) (b : Bool) → b ≡ (leb told len && ltb room size) → b ≡ false → size ≤ len → whole size
-    ≡ turn_by room told len size
-unfolding turn_by
-turn_whole room told len size b e h l = rw (sym e ∙ h, le-ltb len size l)
-
--- what it says of the first eight bytes it says of all
+-- ---- what the turn says of the first eight bytes it says of all
 pub turn_head : (room : ℕ) (sh : Shape) (y : List ℕ) (from : ℕ) (head : List ℕ) → Sized sh → Heads y from head 8 → from ≤ length y
     → turn_by room (prefix sh) (length (drop from y)) (need sh head) ≡ turn_of room sh (drop from y)
 unfolding turn_by turn_of too_long

@@ -9,6 +9,7 @@ use native.Mathlib.Omega.{arith}
 use borrow.Author.Tests.{le-leb, le-ltb, eq-eqb, ne_eqb}
 use lib.ListN.{length, take}
 use lib.Dec.{leb, ltb, eqb}
+use Rattle.std.proofs.Math.Bool.{and-false}
 use Rattle.wire.specs.Outcome.{Outcome, ok, refuse}
 use Rattle.wire.specs.Bits.{bit_lsb0}
 use Rattle.value.specs.declared.shape.Shape.{Shape}
@@ -127,14 +128,10 @@ module _ (r p y : List ℕ) (j : ℕ) (h : j ≤ count_of r) where
   unfolding is_long
   longs_turn room left x =
       by_slot (λ is sh. (eqb (length x) (prefix sh) && is_long_of left (turn_of room sh x)) ≡ is_long room j left is x)
-      (rw (none_turn room x) (and_false (eqb (length x) (prefix (NotTaken 0)))))
-      (λ i is e. rw (none_turn room x, e) (and_false (eqb (length x) (prefix (NotTaken 0)))))
-      (λ i is e f. rw (none_turn room x, eq-eqb i.present.column j e, f) (and_false (eqb (length x) (prefix (NotTaken 0)))))
+      (rw (none_turn room x) (and-false (eqb (length x) (prefix (NotTaken 0)))))
+      (λ i is e. rw (none_turn room x, e) (and-false (eqb (length x) (prefix (NotTaken 0)))))
+      (λ i is e f. rw (none_turn room x, eq-eqb i.present.column j e, f) (and-false (eqb (length x) (prefix (NotTaken 0)))))
       (λ i is e f. rw (eq-eqb i.present.column j e, f, long_turn room i.present.shape x left))
-    where
-      and_false : (b : Bool) → (b && false) ≡ false
-      and_false true = refl
-      and_false false = refl
 
 -- ---- the end: the first column that is due
 pub due_most : (m : ℕ) (p y : List ℕ) (j : ℕ) → due_from m p y j ≤ j + m

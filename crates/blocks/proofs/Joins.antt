@@ -9,7 +9,8 @@ use native.Mathlib.Decide.{dec_le}
 use native.Mathlib.Omega.{arith}
 use borrow.Author.Tests.{le-leb, lt-leb, eq-eqb, ne_eqb}
 use lib.ListN.{length, take, drop, length-drop}
-use lib.Seq.{take-add, drop_at, drop-drop, length-take-le}
+use lib.Seq.{drop-drop}
+use Rattle.std.proofs.lemmas.List.{drop-take}
 use Rattle.wire.specs.Outcome.{Outcome, ok, refused, refuse, why}
 use Rattle.wire.specs.Bits.{bit_lsb0}
 use Rattle.value.specs.declared.shape.Shape.{Shape}
@@ -66,9 +67,6 @@ long_decode (NotTaken n) b h = absurd (omega arith)
 abbrev pub Roomy : ℕ → Present → Type 0
 Roomy room c = prefix c.shape ≡ 0 → (s : List ℕ) → need c.shape s ≤ room
 
-part_of : (m n : ℕ) (s : List ℕ) → m ≤ length s → take n (drop m s) ≡ drop m (take (m + n) s)
-part_of m n s h = sym (ap (drop m) (take-add m n s) ∙ drop_at (take m s) (take n (drop m s)) m (length-take-le m s h))
-
 -- ---- one column
 -- a long value in pieces, joined, is that value read
 long_joined : (sh : Shape) (j room : ℕ) (f : List ℕ → ℕ → Stream) (s : List ℕ) (o : ℕ) → Good (record { column = j; shape = sh }) → 4 ≤ room
@@ -89,7 +87,7 @@ long_joined sh j room f s o g h z w =
     (λ (b : n ≤ length s).
     let x = long_decode sh (take n s) kp in
     let d : decode sh (take n s) ≡ bytes (take m (drop k s)) = x.0 ∙ ap bytes
-    (ap (λ (q : ℕ). drop k (take q s)) (sym e) ∙ sym (part_of k m s w.there)) in
+    (ap (λ (q : ℕ). drop k (take q s)) (sym e) ∙ drop-take k m s) in
     let r : read_datum sh j s ≡ ok (bytes (take m (drop k s)), n) = reads sh j s n g.taken refl b x.1 ∙ ap
     (λ (q : Datum). ok (q, n)) d in
     let u : drop m (drop k s) ≡ drop n s = drop-drop m k s ∙ ap (λ (q : ℕ). drop q s) e in

@@ -9,8 +9,9 @@ use native.Mathlib.Decide.{dec_le}
 use native.Mathlib.Omega.{arith}
 use borrow.Author.Tests.{lt-ltb, le-ltb}
 use lib.ListN.{length, take, drop, length-append, length-drop, take-append-drop}
-use lib.Seq.{length-take-le, drop-append-le, drop_at, drop-drop, drop-length, take-add, take-length}
+use lib.Seq.{length-take-le, drop-append-le, drop_at, drop-drop, drop-length, take-length}
 use lib.Dec.{ltb}
+use Rattle.std.proofs.lemmas.List.{drop-take}
 use Rattle.wire.specs.Outcome.{Outcome, ok, refused, refuse, after, why}
 use Rattle.wire.specs.Bits.{bit_lsb0}
 use Rattle.value.specs.declared.shape.Shape.{Shape}
@@ -72,9 +73,6 @@ slots_again r p y column h l =
     let e : first_from (n - f) p f ≡ f = first_stop n f p l (i.found (omega arith)) in
     let a = slots_first r p y f (omega arith) (subst (λ (k : ℕ). k < n) (sym e) l) in
     subst (λ (k : ℕ). slots_at r p y f ≡ slot_at r p y k ∷ slots_at r p y (k + 1)) e a ∙ sym (slots_first r p y column h l)
-
-part_of : (m n : ℕ) (s : List ℕ) → m ≤ length s → take n (drop m s) ≡ drop m (take (m + n) s)
-part_of m n s h = sym (ap (drop m) (take-add m n s) ∙ drop_at (take m s) (take n (drop m s)) m (length-take-le m s h))
 
 -- ---- what a call is to keep
 -- `more` takes all, and with nothing more there is nothing to tell; no part is empty; the end, once told, stays whatever comes
@@ -580,7 +578,7 @@ module _ (K : Type 0) (r p : List ℕ) (column held used : ℕ) (carry block t :
             let upto = nulls + prefix sh in
             ap (drop nulls) (sym (carried_before carry block held upto (long_within v) [] upto (omega arith)))
             ∙ ap (λ (s : List ℕ). drop nulls (take upto s)) (ap (λ (s : List ℕ). take held carry ++ s) (append-nil block))
-            ∙ sym (part_of nulls (prefix sh) y l)
+            ∙ drop-take nulls (prefix sh) y
 
         long_turn_left : too_long space sh x ≡ true → leaves (by_turn nulls sh f x st carry block (long₁ (need sh x - prefix sh)))
         unfolding by_turn commit
@@ -638,11 +636,10 @@ module _ (K : Type 0) (r p : List ℕ) (column held used : ℕ) (carry block t :
           bytes_are : take (need sh x) (drop nulls (carried carry block held upto)) ≡ take (need sh x) x
           bytes_are =
               let c = carried carry block held upto in
-              let m : nulls ≤ length c = omega (arith, carried_length carry block held upto within, q.room) in
-              part_of nulls (need sh x) c m
+              sym (drop-take nulls (need sh x) c)
               ∙ ap (drop nulls) (sym (carried_before carry block held upto within [] upto (omega arith)))
               ∙ ap (λ (s : List ℕ). drop nulls (take upto s)) (ap (λ (s : List ℕ). take held carry ++ s) (append-nil block))
-              ∙ sym (part_of nulls (need sh x) y l)
+              ∙ drop-take nulls (need sh x) y
 
           whole_turn : kept (by_turn nulls sh f x st carry block (whole (need sh x)))
           unfolding by_turn commit

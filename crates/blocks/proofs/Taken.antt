@@ -131,7 +131,7 @@ module _ (r : List ℕ) (nb : ℕ) (st : Arriving) (carry block : List ℕ) wher
     adds_turn j (whole n) e =
         let w = turn_whole room (shape_at r j) x n e in
         adds_after (judged (shape_at r j) j (take n x)) _
-        (λ d. adds_all _ _ _ refl (omega (arith, hand_most, length-drop nb (at_hand st carry block), w, h)) tt)
+        (λ d. adds_all _ _ _ refl (omega (arith, hand_most, length-drop nb (at_hand st carry block), w.1, w.2, h)) tt)
 
     adds_over : (is : List Slot) → Shaped r is → has (give_over room nb is x st carry block)
     unfolding give_over

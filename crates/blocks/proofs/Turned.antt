@@ -44,39 +44,34 @@ not_long room sh x e h =
     let f : ltb room (need sh x) ≡ false = rw (le-leb (prefix sh) (length x) h) at e in
     ltb-false room (need sh x) f
 
--- what a turn says
+-- ---- what a turn says
 -- it is one of three, which crates above cannot name
 pub each_turn : (P : TurnSaid → Type 1) (t : TurnSaid) → P wait → ((n : ℕ) → P (long n)) → ((n : ℕ) → P (whole n)) → P t
 each_turn P wait waits longs wholes = waits
 each_turn P (long n) waits longs wholes = longs n
 each_turn P (whole n) waits longs wholes = wholes n
 
-abbrev long_size : TurnSaid → ℕ
-long_size wait = 0
-long_size (long n) = n + 1
-long_size (whole n) = 0
+module _ (room : ℕ) (sh : Shape) (x : List ℕ) where
+  turn_by_cases : {P : Type 0} (t : TurnSaid) → turn_of room sh x ≡ t
+      → (too_long room sh x ≡ true → long (need sh x - prefix sh) ≡ t → P)
+      → (too_long room sh x ≡ false → length x < need sh x → wait ≡ t → P)
+      → (too_long room sh x ≡ false → need sh x ≤ length x → whole (need sh x) ≡ t → P) → P
+  unfolding turn_of
+  turn_by_cases t e f g h =
+      by_test (too_long room sh x) _ _ _ e f
+      (λ u v.
+      by_test (ltb (length x) (need sh x)) _ _ _ v (λ l w. g u (ltb-true (length x) (need sh x) l) w)
+      (λ l w. h u (ltb-false (length x) (need sh x) l) w))
 
-abbrev whole_size : TurnSaid → ℕ
-whole_size wait = 0
-whole_size (long n) = 0
-whole_size (whole n) = n + 1
+  pub turn_wait : turn_of room sh x ≡ wait → (too_long room sh x ≡ false) × (length x < need sh x)
+  turn_wait e = turn_by_cases wait e (λ u v. absurd (cc)) (λ u l v. (u, l)) (λ u l v. absurd (cc))
 
-pub turn_long : (room : ℕ) (sh : Shape) (x : List ℕ) (n : ℕ) → turn_of room sh x ≡ long n → TooLong room sh x × (need sh x - prefix sh ≡ n)
-unfolding turn_of
-turn_long room sh x n e =
-    by_test (too_long room sh x) _ _ _ e
-    (λ u f. let k : need sh x - prefix sh + 1 ≡ n + 1 = ap long_size f in (is_long_lem room sh x u, omega (arith, k)))
-    (λ u f.
-    by_test (ltb (length x) (need sh x)) _ _ _ f (λ v g. let k : 0 ≡ n + 1 = ap long_size g in absurd (omega (arith, k)))
-    (λ v g. let k : 0 ≡ n + 1 = ap long_size g in absurd (omega (arith, k))))
+  pub turn_long : (n : ℕ) → turn_of room sh x ≡ long n → TooLong room sh x × (need sh x - prefix sh ≡ n)
+  turn_long n e =
+      turn_by_cases (long n) e (λ u v. (is_long_lem room sh x u, cc)) (λ u l v. absurd (cc)) (λ u l v. absurd (cc))
 
-pub turn_whole : (room : ℕ) (sh : Shape) (x : List ℕ) (n : ℕ) → turn_of room sh x ≡ whole n → n ≤ length x
-unfolding turn_of
-turn_whole room sh x n e =
-    by_test (too_long room sh x) _ _ _ e (λ u f. let k : 0 ≡ n + 1 = ap whole_size f in absurd (omega (arith, k)))
-    (λ u f.
-    by_test (ltb (length x) (need sh x)) _ _ _ f (λ v g. let k : 0 ≡ n + 1 = ap whole_size g in absurd (omega (arith, k)))
-    (λ v g. let k : need sh x + 1 ≡ n + 1 = ap whole_size g in omega (arith, k, ltb-false (length x) (need sh x) v)))
+  pub turn_whole : (n : ℕ) → turn_of room sh x ≡ whole n → (too_long room sh x ≡ false) × (need sh x ≤ length x) × (need sh x ≡ n)
+  turn_whole n e = turn_by_cases (whole n) e (λ u v. absurd (cc)) (λ u l v. absurd (cc)) (λ u l v. (u, l, cc))
 
 -- once the length is told
 pub long_front : (room : ℕ) (sh : Shape) (x t : List ℕ) → prefix sh ≤ length x → too_long room sh (x ++ t) ≡ too_long room sh x

@@ -7,10 +7,11 @@ use mathlib.Core.List.{List, [], ◌++◌, append-nil}
 use native.Mathlib.Nat.{add-zero}
 use native.Mathlib.Decide.{dec_le}
 use native.Mathlib.Omega.{arith}
-use borrow.Author.Tests.{le-leb, lt-leb, eq-eqb, ne_eqb, lt-ltb, le-ltb}
+use borrow.Author.Tests.{le-leb, lt-leb, eq-eqb, ne_eqb}
 use lib.ListN.{length, take, drop, length-append, length-drop, take-append-drop}
-use lib.Seq.{length-take-le, take-add, drop_at, take-append-le, take-take}
+use lib.Seq.{length-take-le, take-append-le, take-take}
 use lib.Dec.{eqb}
+use Rattle.std.proofs.lemmas.List.{drop-take}
 use Rattle.wire.specs.declared.refusal.Refusal.{Refusal}
 use Rattle.wire.specs.Outcome.{Outcome, ok, refused, after, out_of}
 use Rattle.wire.specs.Stored.{stored, answer_of, left_of}
@@ -34,11 +35,11 @@ use Rattle.value.proofs.Tables.{sized}
 use Rattle.value.proofs.Appends.{prefix_within, need_more}
 use Rattle.blocks.specs.declared.state.Arriving.{Arriving}
 use Rattle.blocks.specs.States.{opened, longed, Arrived, more, value, long, part, BlockGiven}
-use Rattle.blocks.specs.Turns.{TurnSaid, wait, long as long₁, whole, too_long, turn_of}
+use Rattle.blocks.specs.Turns.{TurnSaid, wait, long as long₁, whole, turn_of}
 use Rattle.blocks.specs.Gives.{Handed, commit, used_to, waiting, by_turn, give_long}
 use Rattle.blocks.specs.Inner.Hands.{Heads, turn_by, value_over, took_by, standing, longing, Holds, Wholes}
 use Rattle.blocks.proofs.Carries.{carried, carried_length, carried_before}
-use Rattle.blocks.proofs.Turned.{is_long_lem, not_long, prefix_most, read_whole}
+use Rattle.blocks.proofs.Turned.{not_long, prefix_most, read_whole, turn_wait, turn_long, turn_whole}
 use Rattle.blocks.proofs.Hands.{heads_take, turn_head}
 
 -- ---- answers that take bytes up to `upto`
@@ -89,10 +90,6 @@ module _ (at : Arriving) (nb : ℕ) (block : List ℕ) {g : BlockGiven} where
   part_some h l f e =
       ap ok (e ∙ ap (took_by at (length block) (part at.column (length block))) f)
       ∙ rw (ne_eqb (length block) 0 h, lt-leb at.left (length block) l)
-
--- ---- a value that is whole
-part_of : (m n : ℕ) (s : List ℕ) → m ≤ length s → take n (drop m s) ≡ drop m (take (m + n) s)
-part_of m n s h = sym (ap (drop m) (take-add m n s) ∙ drop_at (take m s) (take n (drop m s)) m (length-take-le m s h))
 
 -- no value but a temporal is refused
 pub no_fault : (sh : Shape) → ((k : Storage) → sh ≡ Timed k → ⊥) → (b : List ℕ) → fault sh b ≡ 0
@@ -151,7 +148,7 @@ module _ (sh : Shape) (carry block : List ℕ) (nb : ℕ) (at : Arriving) (j n :
 
   pub bytes_are : take n (drop nb c) ≡ take n x
   bytes_are =
-      part_of nb n c (omega (arith, c_length, w.upto)) ∙ ap (drop nb) front ∙ sym (part_of nb n y (omega (arith, y_length, w.there)))
+      sym (drop-take nb n c) ∙ ap (drop nb) front ∙ drop-take nb n y
 
   c_there : n ≤ length (drop nb c)
   c_there = omega (arith, length-drop nb c, c_length, w.upto)
@@ -265,31 +262,6 @@ module _ (sh : Shape) (carry block : List ℕ) (nb : ℕ) (at : Arriving) (j n :
             let r : read_value sh j head 0 ≡ refused u = timed_read ∙ rw f in
             rw f (ap refused (same_refused (sym r ∙ e)))
 
--- ---- what a turn says
-module _ (room : ℕ) (sh : Shape) (s : List ℕ) where
-  by_turn_lem : {P : Type 0} (t : TurnSaid) → turn_of room sh s ≡ t
-      → (too_long room sh s ≡ true → long₁ (need sh s - prefix sh) ≡ t → P)
-      → (too_long room sh s ≡ false → length s < need sh s → wait ≡ t → P)
-      → (too_long room sh s ≡ false → need sh s ≤ length s → whole (need sh s) ≡ t → P) → P
-  unfolding turn_of
-  by_turn_lem {P} t e f g h = go (too_long room sh s) refl
-    where
-      go : (b : Bool) → too_long room sh s ≡ b → P
-      go true u = f u (rw u at e)
-      go false u =
-          dite (dec_le (need sh s) (length s))
-          (λ (l : need sh s ≤ length s). h u l (rw (u, le-ltb (length s) (need sh s) l) at e))
-          (λ l. g u (omega arith) (rw (u, lt-ltb (length s) (need sh s) (omega arith)) at e))
-
-  pub is_wait : turn_of room sh s ≡ wait → (too_long room sh s ≡ false) × (length s < need sh s)
-  is_wait e = by_turn_lem wait e (λ u v. absurd (cc)) (λ u l v. (u, l)) (λ u l v. absurd (cc))
-
-  pub is_long_turn : (n : ℕ) → turn_of room sh s ≡ long₁ n → (too_long room sh s ≡ true) × (need sh s - prefix sh ≡ n)
-  is_long_turn n e = by_turn_lem (long₁ n) e (λ u v. (u, cc)) (λ u l v. absurd (cc)) (λ u l v. absurd (cc))
-
-  pub is_whole : (n : ℕ) → turn_of room sh s ≡ whole n → (too_long room sh s ≡ false) × (need sh s ≤ length s) × (need sh s ≡ n)
-  is_whole n e = by_turn_lem (whole n) e (λ u v. absurd (cc)) (λ u l v. absurd (cc)) (λ u l v. (u, l, cc))
-
 -- ---- a value that is not NULL: `t` is what the code found of its head
 module _ {kind : Column} (carry block : List ℕ) {head : List ℕ} {nb : ℕ} {at : Arriving} {j : ℕ}
     (q : Holds (length carry) (length block) nb at j kind) (h : Heads (take at.held carry ++ block) nb head 8)
@@ -327,7 +299,7 @@ module _ {kind : Column} (carry block : List ℕ) {head : List ℕ} {nb : ℕ} {
 
   pub wait_fits : t ≡ wait → at.held + length block ≤ length carry
   wait_fits e =
-      let w = is_wait space sh rest (turn_is ∙ e) in
+      let w = turn_wait space sh rest (turn_is ∙ e) in
       let m : length rest < length carry - nb =
       dite (dec_le (prefix sh) (length rest))
       (λ (k : prefix sh ≤ length rest). omega (arith, w.1, not_long space sh rest w.0 k))
@@ -341,9 +313,8 @@ module _ {kind : Column} (carry block : List ℕ) {head : List ℕ} {nb : ℕ} {
   module _ {n : ℕ} where
     pub long_fits : t ≡ long₁ n → (nb + prefix shape ≤ length carry) × (nb + prefix shape ≤ at.held + length block)
     long_fits e =
-        let w = is_long_turn space sh rest n (turn_is ∙ e) in
-        let i = is_long_lem space sh rest w.0 in
-        (omega (arith, prefix_few, q.room), omega (arith, prefix_is, i.there, rest_length, q.there))
+        let w = turn_long space sh rest n (turn_is ∙ e) in
+        (omega (arith, prefix_few, q.room), omega (arith, prefix_is, w.0.there, rest_length, q.there))
 
     pub long_answers : t ≡ long₁ n → value_over nb sh j at carry block
         ≡ ok (commit at carry block (nb + prefix shape) (long j n) (longed j (nb + prefix shape) n (used_to at (nb + prefix shape))))
@@ -352,7 +323,7 @@ module _ {kind : Column} (carry block : List ℕ) {head : List ℕ} {nb : ℕ} {
 
     pub whole_fits : t ≡ whole n → Wholes sh carry block nb at j n
     whole_fits e =
-        let w = is_whole space sh rest n (turn_is ∙ e) in
+        let w = turn_whole space sh rest n (turn_is ∙ e) in
         let m = not_long space sh rest w.0 (omega (arith, prefix_within sh rest, w.1)) in
         record {
           fits = q.fits;

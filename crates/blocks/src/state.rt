@@ -6,7 +6,7 @@ ghost use Rattle.blocks.specs.Inner.Hands.{standing, longing};
 use value::Value;
 use wire::Refusal;
 
-#[derive(Clone, Copy)]
+#[derive(Clone, Copy, Debug, PartialEq, Eq)]
 pub enum Phase {
     Open,
     Long,
@@ -15,7 +15,7 @@ pub enum Phase {
 
 // `held` bytes stand at the front of the carry: null bits, then the value in progress, which is that of `column`. `left` bytes of a long
 // value are still to come. `used` counts all bytes that were taken.
-#[derive(Clone, Copy)]
+#[derive(Clone, Copy, Debug, PartialEq, Eq)]
 pub struct Arriving {
     pub phase: Phase,
     pub column: usize,
@@ -25,7 +25,7 @@ pub struct Arriving {
 }
 
 // The bytes of a value stand in the carry, those of a part at the front of the block.
-#[derive(Clone, Copy)]
+#[derive(Clone, Copy, Debug, PartialEq, Eq)]
 pub enum Arrival {
     More,
     Null { column: usize },
@@ -36,7 +36,7 @@ pub enum Arrival {
 }
 
 // One answer, how many bytes were taken from the front of the block, and the state for the next call.
-#[derive(Clone, Copy)]
+#[derive(Clone, Copy, Debug, PartialEq, Eq)]
 pub struct Given {
     pub arrival: Result<Arrival, Refusal>,
     pub taken: usize,
@@ -44,7 +44,7 @@ pub struct Given {
 }
 
 // The same where nothing is refused: public, since the statements of crates above name it.
-#[derive(Clone, Copy)]
+#[derive(Clone, Copy, Debug, PartialEq, Eq)]
 pub struct BlockGiven {
     pub arrival: Arrival,
     pub taken: usize,
