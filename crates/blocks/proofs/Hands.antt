@@ -60,19 +60,6 @@ no_prefix (Counted k) h = absurd (h k refl)
 no_prefix (NotTaken n) h = refl
 
 -- ---- the first eight bytes of what is at hand
-pub heads_none : (y : List ℕ) (from : ℕ) (head : List ℕ) → length head ≡ 8 → Heads y from head 0
-heads_none y from head e = record { size = e; each = λ i (h : i < 0). absurd (omega arith) }
-
-pub heads_more : (y : List ℕ) (from : ℕ) (head : List ℕ) (n b : ℕ) → Heads y from head n → n < 8 → b ≡ get_or y (from + n) 0
-    → Heads y from (set head n b) (n + 1)
-heads_more y from head n b h l e = record {
-  size = length-set head n b ∙ h.size;
-  each = λ i (k : i < n + 1).
-      dite (dec_le n i)
-      (λ (a : n ≤ i). let z : i ≡ n = omega arith in rw z (get_or-set_same head n b 0 (omega (arith, h.size)) ∙ e))
-      (λ a. get_or-set_other head n i b 0 (λ (z : i ≡ n). absurd (omega arith)) ∙ h.each i (omega arith));
-}
-
 -- as many of them as there are
 pub heads_take : (y : List ℕ) (from : ℕ) (head : List ℕ) (k : ℕ) → Heads y from head 8 → k ≤ 8 → from + k ≤ length y → take k head
     ≡ take k (drop from y)

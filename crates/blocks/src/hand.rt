@@ -3,6 +3,8 @@ ghost use Rattle.std.specs.Prelude.{◌≡◌, ◌++◌, ◌<◌, get_or};
 ghost use Rattle.wire.specs.Bits.{bit_lsb0};
 ghost use Rattle.blocks.specs.Inner.Hands.{Heads};
 
+use std::array;
+
 #[derive(Clone, Copy)]
 pub(crate) struct Hand<'a> {
     pub held: &'a [u8],
@@ -14,19 +16,14 @@ impl Hand<'_> {
     pub(crate) fn byte(self, i: usize) -> u8
         ensures { result ≡ get_or (self.entry.held.now ++ self.entry.block.now) i 0 }
     {
-        let held = self.held;
-        let block = self.block;
-        if i < held.len() {
-            return held[i];
+        match self.held.get(i) {
+            Some(byte) => *byte,
+            None => self.block.get(i - self.held.len()).copied().unwrap_or(0),
         }
-        let k = i - held.len();
-        if k < block.len() {
-            return block[k];
-        }
-        0
     }
 
     // One of their bits, the lowest of each byte first.
+    #[tactic(auto, using(crate::proofs::Hands::bit_held, crate::proofs::Hands::bit_block))]
     pub(crate) fn bit(self, i: usize) -> bool
         ensures { result ≡ bit_lsb0 (self.entry.held.now ++ self.entry.block.now) i }
     {
@@ -42,10 +39,6 @@ impl Hand<'_> {
         requires { from < 65536 }
         ensures { Heads (self.entry.held.now ++ self.entry.block.now) from result 8 }
     {
-        let mut head = [0; 8];
-        for i in 0..8 {
-            head[i] = self.byte(from + i);
-        }
-        head
+        array::from_fn(|i| self.byte(from + i))
     }
 }

@@ -15,7 +15,7 @@ pub(crate) enum Turn {
 }
 
 // How many bytes tell the length of a value.
-#[tactic(auto, unfolding(value::specs::Shapes::prefix))]
+#[tactic(auto, using(crate::proofs::Hands::no_prefix), unfolding(value::specs::Shapes::prefix))]
 pub(crate) fn prefix_of(shape: Shape) -> usize
     ensures { result ≡ prefix shape }
 {
@@ -42,6 +42,7 @@ pub(crate) fn need_of(shape: Shape, head: &[u8]) -> usize
     }
 }
 
+#[tactic(auto, using(crate::proofs::Hands::count_is))]
 fn counted_need(k: usize, head: &[u8]) -> usize
     requires { k ≤ 4 }
     ensures { result ≡ need (Shape.Counted k) head.now }
@@ -50,7 +51,7 @@ fn counted_need(k: usize, head: &[u8]) -> usize
 }
 
 // `len` bytes are at hand, the first eight of them in `head`, and the carry has room for `room`.
-#[tactic(auto, using(wire::proofs::Rules::tests), unfolding(crate::specs::Inner::Hands::turn_by))]
+#[tactic(auto, using(wire::proofs::Rules::tests, value::proofs::Appends::prefix_within), unfolding(crate::specs::Inner::Hands::turn_by))]
 pub(crate) fn turn_of(shape: Shape, head: &[u8], len: usize, room: usize) -> Turn
     requires { Sized shape }
     ensures { result ≡ turn_by room (prefix shape) len (need shape head.now) }
