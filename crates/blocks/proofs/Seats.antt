@@ -14,12 +14,10 @@ use Rattle.wire.specs.Bits.{bit_lsb0}
 use Rattle.wire.proofs.Outcomes.{same_ok, ok_not_refused}
 use Rattle.value.specs.declared.shape.Shape.{Shape}
 use Rattle.value.specs.declared.shape.Shape.TheVariants.{NotTaken}
-use Rattle.value.specs.declared.column.Column.{Column}
 use Rattle.value.specs.Columns.{shape_of}
 use Rattle.value.specs.Shapes.{need, prefix}
 use Rattle.value.specs.Inner.Shapes.{Sized}
 use Rattle.value.proofs.Tables.{sized}
-use Rattle.record.specs.declared.entry.Entry.{Entry}
 use Rattle.record.specs.Entries.{column_of}
 use Rattle.record.specs.Records.{count_of, entry_in}
 use Rattle.record.proofs.Valid.{valid_few}
@@ -87,28 +85,6 @@ module _ (s : Seat) where
   -- ---- the value in progress
   abbrev pub shape : Shape
   shape = held_shape r p y n at.column
-
-  pub shape_none : at.column ≡ n → NotTaken 0 ≡ shape
-  unfolding held_shape
-  shape_none e = rw (eq-eqb at.column n e)
-
-  module _ (h : at.column ≡ n → ⊥) {b : Bool} (e : b ≡ bit_lsb0 p at.column) where
-    pub shape_absent : b ≡ false → NotTaken 0 ≡ shape
-    unfolding held_shape
-    shape_absent f = rw (ne_eqb at.column n h, sym e ∙ f)
-
-    module _ (f : b ≡ true) {c : Bool} {rank : ℕ} (g : rank ≡ count_bits p at.column) (i : c ≡ bit_lsb0 y rank) where
-      bit_is : bit_lsb0 y (count_bits p at.column) ≡ c
-      bit_is = sym (i ∙ ap (bit_lsb0 y) g)
-
-      pub shape_null : c ≡ true → NotTaken 0 ≡ shape
-      unfolding held_shape
-      shape_null k = rw (ne_eqb at.column n h, sym e ∙ f, bit_is ∙ k)
-
-      pub shape_there : {x : Entry} {kind : Column} {sh : Shape} → c ≡ false → x ≡ entry_in r at.column → kind ≡ column_of x
-          → sh ≡ shape_of kind → sh ≡ shape
-      unfolding held_shape shape_at
-      shape_there k u v w = w ∙ ap shape_of (v ∙ ap column_of u) ∙ rw (ne_eqb at.column n h, sym e ∙ f, bit_is ∙ k)
 
   pub held_sized : {sh : Shape} → sh ≡ shape → Sized sh
   unfolding held_shape shape_at

@@ -4,10 +4,8 @@ use mathlib.Core.Path.{◌≡◌, refl, sym, ap, subst, ◌∙◌}
 use mathlib.Core.Bool.{Bool, true, false, cond}
 use mathlib.Core.Logic.{dite}
 use mathlib.Core.List.{List, [], ◌++◌, append-nil}
-use native.Mathlib.Nat.{add-zero}
 use native.Mathlib.Decide.{dec_le}
 use native.Mathlib.Omega.{arith}
-use borrow.Author.Tests.{le-leb, lt-leb, eq-eqb, ne_eqb}
 use lib.ListN.{length, take, drop, length-append, length-drop, take-append-drop}
 use lib.Seq.{length-take-le, take-append-le, take-take}
 use lib.Dec.{eqb}
@@ -34,9 +32,9 @@ use Rattle.value.proofs.Laws.{reads}
 use Rattle.value.proofs.Tables.{sized}
 use Rattle.value.proofs.Appends.{prefix_within, need_more}
 use Rattle.blocks.specs.declared.state.Arriving.{Arriving}
-use Rattle.blocks.specs.States.{opened, longed, Arrived, more, value, long, part, BlockGiven}
+use Rattle.blocks.specs.States.{opened, longed, Arrived, value, long, BlockGiven}
 use Rattle.blocks.specs.Turns.{TurnSaid, wait, long as long₁, whole, turn_of}
-use Rattle.blocks.specs.Gives.{Handed, commit, used_to, waiting, by_turn, give_long}
+use Rattle.blocks.specs.Gives.{Handed, commit, used_to, waiting, by_turn}
 use Rattle.blocks.specs.Inner.Hands.{Heads, turn_by, value_over, took_by, standing, longing, Holds, Wholes}
 use Rattle.blocks.proofs.Carries.{carried, carried_length, carried_before}
 use Rattle.blocks.proofs.Turned.{not_long, prefix_most, read_whole, turn_wait, turn_long, turn_whole}
@@ -70,27 +68,7 @@ pub no_answer : {o : Outcome Handed} {carry c : List ℕ} {g : Outcome BlockGive
     → Answers o carry g c
 no_answer {o} {carry} {c} {g} e f k = rw e (f, k)
 
--- ---- a part of a long value
-module _ (at : Arriving) (nb : ℕ) (block : List ℕ) {g : BlockGiven} where
-  pub part_none : length block ≡ 0 → g ≡ took_by at 0 more at → ok g ≡ answer_of (give_long nb at [] block)
-  unfolding give_long
-  part_none h e = ap ok e ∙ rw (eq-eqb (length block) 0 h, add-zero at.used)
-
-  pub part_last : {next : Arriving} → (length block ≡ 0 → ⊥) → at.left ≤ length block → next ≡ standing (at.column + 1) nb
-      → g ≡ took_by at at.left (part at.column at.left) next → ok g ≡ answer_of (give_long nb at [] block)
-  unfolding give_long
-  part_last h l f e =
-      ap ok (e ∙ ap (took_by at at.left (part at.column at.left)) f)
-      ∙ rw (ne_eqb (length block) 0 h, le-leb at.left (length block) l)
-
-  pub part_some : {next : Arriving} → (length block ≡ 0 → ⊥) → length block < at.left
-      → next ≡ longing at.column at.held (at.left - length block)
-      → g ≡ took_by at (length block) (part at.column (length block)) next → ok g ≡ answer_of (give_long nb at [] block)
-  unfolding give_long
-  part_some h l f e =
-      ap ok (e ∙ ap (took_by at (length block) (part at.column (length block))) f)
-      ∙ rw (ne_eqb (length block) 0 h, lt-leb at.left (length block) l)
-
+-- ---- a value that is whole
 -- no value but a temporal is refused
 pub no_fault : (sh : Shape) → ((k : Storage) → sh ≡ Timed k → ⊥) → (b : List ℕ) → fault sh b ≡ 0
 unfolding fault

@@ -93,7 +93,7 @@ impl<'a> Seat<'a> {
             return Shape::NotTaken(0);
         }
         let rank = image::count_bits(lent.presence, column);
-        if wire::bit_lsb0(self.held(), rank) {
+        if wire::bit_lsb0(&self.carry[..self.at.held], rank) {
             return Shape::NotTaken(0);
         }
         value::shape_of(record::column_of(record::entry_in(lent.profile, column)))

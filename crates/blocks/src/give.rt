@@ -43,6 +43,7 @@ pub fn begin(profile: &[u8], presence: &[u8], carry: &[u8]) -> Result<Arriving, 
 }
 
 // A part of a long value stores nothing.
+#[tactic(auto, using(wire::proofs::Rules::tests), unfolding(crate::specs::Gives::give_long))]
 fn give_long(call: Call, nulls: usize) -> BlockGiven
     requires { call.at.column < 65536 }
     ensures { ok result ≡ answer_of (give_long nulls call.entry.at [] call.entry.block.now) }
