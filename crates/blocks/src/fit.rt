@@ -12,7 +12,7 @@ use crate::state::{Arriving, Phase};
 use crate::turn::{Turn, prefix_of, turn_of};
 use value::Shape;
 
-#[tactic(auto, unfolding(crate::specs::Fits::is_fit, crate::specs::Fits::fits_in))]
+#[tactic(auto, using(crate::proofs::Fitting::numbered), unfolding(crate::specs::Fits::is_fit, crate::specs::Fits::fits_in))]
 pub(crate) fn is_fit<'a>(lent: Lent<'a>, carry: &'a [u8], at: Arriving) -> bool
     ensures { let l = lent.entry in result ≡ is_fit l.profile.now l.presence.now l.head.columns l.head.nulls at carry.now }
 {
@@ -39,6 +39,7 @@ fn is_counted(lent: Lent, len: usize, at: Arriving) -> bool
 }
 
 // No image takes more bytes than there is room for.
+#[tactic(auto, using(crate::proofs::Seats::in_room, crate::proofs::Seats::not_refused))]
 fn is_within(lent: Lent, used: usize) -> bool
     ensures { let l = lent.entry in result ≡ leb used (image_room l.profile.now l.presence.now) }
 {
@@ -100,6 +101,7 @@ impl<'a> Seat<'a> {
     }
 
     // What the bytes that are held say of it.
+    #[tactic(auto, using(crate::proofs::Seats::held_sized, crate::proofs::Seats::held_turn_is))]
     fn held_turn(self) -> Turn
         requires { self.lent.head.nulls ≤ self.at.held }
         ensures { let s = self.entry in let l = s.lent in let held = take s.at.held s.carry.now in

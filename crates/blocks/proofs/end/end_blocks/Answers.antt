@@ -1,6 +1,6 @@
 -- `blocks::end::end_blocks` meets its contract. Assumes nothing.
 use mathlib.Core.Path.{sym}
-use Rattle.blocks.proofs.Fitting.{carry_tested, fit_numbered, ended_open}
+use Rattle.blocks.proofs.Fitting.{carry_tested, ended_open}
 use Rattle.blocks.proofs.end.end_blocks.Goals as goal
 
 pub invariant_of-lent : goal.invariant_of-lent
@@ -8,12 +8,6 @@ invariant_of-lent c =
     let a = c.args in
     let t = carry_tested a.profile.now a.presence.now a.carry.now (sym c.in_ok-head.ensures) in
     record { valid = t.valid; bits = t.presence; columns = t.count; nulls = t.bits }
-
-pub invariant_of-end_open : goal.invariant_of-end_open
-invariant_of-end_open c =
-    let a = c.args in
-    let n = fit_numbered a.profile.now a.presence.now a.carry.now _ _ a.at c.is_fit.ensures c.if-not-is_fit.false in
-    record { among = n.among; fits = n.fits }
 
 pub returns-in-Open : goal.returns-in-Open
 returns-in-Open c =
