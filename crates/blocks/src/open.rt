@@ -48,6 +48,7 @@ pub(crate) fn give_open(lent: Lent, carry: &mut [u8], call: Call) -> Result<Bloc
     give_value(carry, call, nulls, found, kind)
 }
 
+#[tactic(auto, using(crate::proofs::Values::wait_answer, crate::proofs::Values::long_answers, crate::proofs::Values::whole_answers), unfolding(crate::specs::Gives::commit))]
 fn give_value(
     carry: &mut [u8],
     call: Call,
@@ -88,6 +89,7 @@ fn give_value(
 }
 
 // A temporal may be refused, so it is judged before its bytes are stored. They are all in the head.
+#[tactic(auto, using(crate::proofs::Values::timed_got, crate::proofs::Values::timed_not), unfolding(crate::specs::Gives::commit))]
 fn give_timed(
     carry: &mut [u8],
     call: Call,
@@ -113,6 +115,7 @@ fn give_timed(
 }
 
 // No other value is refused, so it is stored, and then read where it stands.
+#[tactic(auto, using(crate::proofs::Values::stored_got, crate::proofs::Values::stored_not), unfolding(crate::specs::Gives::commit))]
 fn give_stored(
     carry: &mut [u8],
     call: Call,

@@ -1,15 +1,13 @@
 -- `blocks::open::give_value` meets its contract. Assumes nothing.
-use Prim.Native.Nat.{ℕ, ◌+◌}
+use Prim.Native.Nat.{ℕ}
 use mathlib.Core.Path.{◌≡◌, sym, subst, ◌∙◌}
 use mathlib.Core.List.{List}
 use native.Mathlib.Omega.{arith}
-use lib.ListN.{length}
 use Rattle.value.specs.declared.shape.Shape.{Shape}
 use Rattle.value.specs.Shapes.{fault}
 use Rattle.value.specs.Inner.Shapes.{Sized}
 use Rattle.value.proofs.Tables.{sized}
-use Rattle.blocks.specs.States.{more, long}
-use Rattle.blocks.proofs.Values.{open_answer, long_answer, prefix_few, wait_fits, wait_answer, long_fits, long_answers, whole_fits}
+use Rattle.blocks.proofs.Values.{prefix_few, wait_fits, long_fits, whole_fits}
 use Rattle.blocks.proofs.Values.{whole_answers, no_fault}
 use Rattle.blocks.proofs.open.give_value.Goals as goal
 
@@ -49,29 +47,6 @@ give_stored-requires c =
     let a = c.args in
     let w = whole_fits a.carry.now a.call.block.now c.requires c.head-head.ensures c.shape_of-shape.ensures c.turn_of.ensures c.in-Whole.is in
     (w, subst (λ (s : Shape). (b : List ℕ) → fault s b ≡ 0) c.shape_of-shape.ensures (no_fault _ c.in_default.not-Timed))
-
-pub returns-in-Wait : goal.returns-in-Wait
-returns-in-Wait c =
-    let a = c.args in
-    let n = a.call.at.held + length a.call.block.now in
-    let e = wait_answer a.carry.now a.call.block.now c.requires c.head-head.ensures c.shape_of-shape.ensures c.turn_of.ensures c.in-Wait.is in
-    let p = open_answer a.call.at a.carry.now a.call.block.now _ n more a.found n e c.standing.ensures (c.take_to.ensures.value, c.take_to.ensures.carry_after) in
-    record { value = p.0; carry_after = p.1 }
-
-pub returns-in-Long : goal.returns-in-Long
-returns-in-Long c =
-    let a = c.args in
-    let n = a.nulls + c.prefix_of.result in
-    let e = long_answers a.carry.now a.call.block.now c.requires c.head-head.ensures c.shape_of-shape.ensures c.turn_of.ensures c.in-Long.is in
-    let p = long_answer a.call.at a.carry.now a.call.block.now _ n (long a.found c.in-Long.n) a.found n c.in-Long.n
-    (e ∙ rw c.prefix_of.ensures) c.longing.ensures (c.take_to-in-Long.ensures.value, c.take_to-in-Long.ensures.carry_after) in
-    record { value = p.0; carry_after = p.1 }
-
-pub returns-in-Timed : goal.returns-in-Timed
-returns-in-Timed c =
-    let a = c.args in
-    rw (whole_answers a.carry.now a.call.block.now c.requires c.head-head.ensures c.shape_of-shape.ensures c.turn_of.ensures c.in-Whole.is)
-    (record { value = c.give_timed.ensures.value; carry_after = c.give_timed.ensures.carry_after })
 
 pub returns-in_default : goal.returns-in_default
 returns-in_default c =
