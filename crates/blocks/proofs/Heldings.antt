@@ -18,7 +18,7 @@ use Rattle.value.specs.Shapes.{need, prefix}
 use Rattle.record.specs.Records.{count_of}
 use Rattle.image.specs.Present.{count_bits, first_from, shape_at, present_from}
 use Rattle.image.specs.Split.{Slot, slots, slots_at}
-use Rattle.image.proofs.PresenceLaws.Firsts.{first_is, first_stop, slot_at, slots_end, slots_first, count_set, count_not}
+use Rattle.image.proofs.PresenceLaws.Firsts.{first_is, first_stop, slot_at, slots_end, slots_first, count_set, count_not, count_at_most}
 use Rattle.blocks.specs.declared.state.Phase.TheVariants.{Open}
 use Rattle.blocks.specs.declared.state.Arriving.{Arriving}
 use Rattle.blocks.specs.Turns.{TurnSaid, wait, long, whole, too_long, turn_of}
@@ -216,3 +216,6 @@ module _ (p y : List ℕ) (column n j rank : ℕ) (d : DueAt p y column n j rank
   pub due_end : j ≡ n → n ≡ due_from (n - column) p y column
   unfolding due_from
   due_end h = let k : n - j ≡ 0 = omega arith in sym (d.rest ∙ rw k h)
+
+-- what a turn of the loop does
+pub ruleset due_rules = (due_absent, due_null, due_stop, due_end, count_at_most)

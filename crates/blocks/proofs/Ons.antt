@@ -450,9 +450,6 @@ module _ (K : Type 0) (r p : List ℕ) (column held used : ℕ) (carry block t :
         unfolding give_open give_over
         by_turn_lem v e k = rw (le-ltb (length y) nulls l, slots_are, n, e) k
 
-        x_more : (t : List ℕ) → drop nulls (take held carry ++ (block ++ t)) ≡ x ++ t
-        x_more t = ap (drop nulls) (sym (append_assoc (take held carry) block t)) ∙ drop-append-le nulls y t l
-
         -- the part of it that was held before
         abbrev old : List ℕ
         old = drop nulls (take held carry)

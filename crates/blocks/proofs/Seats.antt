@@ -11,6 +11,7 @@ use lib.Dec.{eqb}
 use Rattle.wire.specs.declared.refusal.Refusal.{Refusal}
 use Rattle.wire.specs.Outcome.{ok, refused}
 use Rattle.wire.specs.Bits.{bit_lsb0}
+use Rattle.wire.proofs.Rules.{tests}
 use Rattle.wire.proofs.Outcomes.{same_ok, ok_not_refused}
 use Rattle.value.specs.declared.shape.Shape.{Shape}
 use Rattle.value.specs.declared.shape.Shape.TheVariants.{NotTaken}
@@ -164,3 +165,8 @@ module _ (s : Seat) where
         let q = ne_eqb (length (drop nb y)) (prefix its_shape)
         (λ (i : length (drop nb y) ≡ prefix its_shape). h (sym rest_length ∙ i ∙ sym prefix_is)) in
         (rw q at (long_by at.left)) ∙ rw (le-leb nb at.held l)
+
+-- what the two phases find
+pub ruleset open_rules = (tests, open_held, other_turn)
+
+pub ruleset long_rules = (tests, long_low, long_other, long_held, other_long)

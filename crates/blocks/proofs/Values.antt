@@ -35,7 +35,7 @@ use Rattle.blocks.specs.declared.state.Arriving.{Arriving}
 use Rattle.blocks.specs.States.{opened, longed, Arrived, value, long, BlockGiven}
 use Rattle.blocks.specs.Turns.{TurnSaid, wait, long as long₁, whole, turn_of}
 use Rattle.blocks.specs.Gives.{Handed, commit, used_to, waiting, by_turn}
-use Rattle.blocks.specs.Inner.Hands.{Heads, turn_by, value_over, took_by, standing, longing, Holds, Wholes}
+use Rattle.blocks.specs.Inner.Hands.{Heads, turn_by, value_over, took_by, standing, Holds, Wholes}
 use Rattle.blocks.proofs.Carries.{carried, carried_length, carried_before}
 use Rattle.blocks.proofs.Turned.{not_long, prefix_most, read_whole, turn_wait, turn_long, turn_whole}
 use Rattle.blocks.proofs.Hands.{heads_take, turn_head}
@@ -43,9 +43,6 @@ use Rattle.blocks.proofs.Hands.{heads_take, turn_head}
 -- ---- answers that take bytes up to `upto`
 abbrev pub Answers : Outcome Handed → List ℕ → Outcome BlockGiven → List ℕ → Type 0
 Answers o carry g c = (g ≡ answer_of o) × (c ≡ left_of o carry)
-
-pub took_same : {g : BlockGiven} (at next : Arriving) (a : Arrived) {n k : ℕ} → g ≡ took_by at n a next → n ≡ k → g ≡ took_by at k a next
-took_same at next a e f = e ∙ ap (λ (n : ℕ). took_by at n a next) f
 
 module _ (at : Arriving) (carry block : List ℕ) (o : Outcome Handed) (upto : ℕ) where
   pub open_answer : (a : Arrived) (j h : ℕ) {g : BlockGiven} {c : List ℕ} {next : Arriving}
@@ -55,18 +52,6 @@ module _ (at : Arriving) (carry block : List ℕ) (o : Outcome Handed) (upto : �
   unfolding commit
   open_answer a j h {g} {c} {next} e f w =
       rw e (ap ok (w.0 ∙ ap (took_by at (upto - at.held) a) f), w.1)
-
-  pub long_answer : (a : Arrived) (j h left : ℕ) {g : BlockGiven} {c : List ℕ} {next : Arriving}
-      → o ≡ ok (commit at carry block upto a (longed j h left (used_to at upto))) → next ≡ longing j h left
-      → (g ≡ took_by at (upto - at.held) a next) × (c ≡ stored (take (upto - at.held) block) carry at.held)
-      → Answers o carry (ok g) c
-  unfolding commit
-  long_answer a j h left {g} {c} {next} e f w =
-      rw e (ap ok (w.0 ∙ ap (took_by at (upto - at.held) a) f), w.1)
-
-pub no_answer : {o : Outcome Handed} {carry c : List ℕ} {g : Outcome BlockGiven} {w : Refusal} → o ≡ refused w → g ≡ refused w → c ≡ carry
-    → Answers o carry g c
-no_answer {o} {carry} {c} {g} e f k = rw e (f, k)
 
 -- ---- a value that is whole
 -- no value but a temporal is refused
@@ -159,15 +144,6 @@ module _ (sh : Shape) (carry block : List ℕ) (nb : ℕ) (at : Arriving) (j n :
 
     pub stored_not : {v : Refusal} → read_value sh j c nb ≡ refused v → ⊥
     stored_not e = ok_not_refused (sym read_is ∙ e)
-
-    pub stored_returns : {v : Value} {m t : ℕ} {c' : List ℕ} {g : BlockGiven} {next : Arriving} → c' ≡ c → read_value sh j c' nb ≡ ok (v, m)
-        → t ≡ nb + n - at.held → next ≡ standing (j + 1) nb → g ≡ took_by at t (value j v) next → Answers after_it carry (ok g) c'
-    stored_returns {v} {m} {t} {c'} {g} {next} e r k f h =
-        let r' : read_value sh j c nb ≡ ok (v, m) = ap (λ (s : List ℕ). read_value sh j s nb) (sym e) ∙ r in
-        open_answer at carry block after_it (nb + n) (value j v) (j + 1) nb (stored_got r') f (took_same at next (value j v) h k, e)
-
-    pub stored_refuses : {v : Refusal} {c' : List ℕ} → c' ≡ c → read_value sh j c' nb ≡ refused v → ⊥
-    stored_refuses e r = stored_not (ap (λ (s : List ℕ). read_value sh j s nb) (sym e) ∙ r)
 
   -- a temporal, read from the first bytes
   module _ (k : Storage) (s : sh ≡ Timed k) (head : List ℕ) (h : Heads y nb head 8) where
@@ -316,3 +292,6 @@ module _ {kind : Column} (carry block : List ℕ) {head : List ℕ} {nb : ℕ} {
     pub whole_answers : t ≡ whole n → value_over nb sh j at carry block ≡ by_turn nb sh j rest at carry block (whole n)
     unfolding value_over
     whole_answers e = rw (turn_is ∙ e)
+
+-- what the three turns answer
+pub ruleset turn_answers = (wait_answer, long_answers, whole_answers)

@@ -71,9 +71,6 @@ wanted = record { pieces = datum 0 (int (negsuc 1)) ∷ datum 1 (bytes (0x61 ∷
 abbrev in_blocks : List ℕ → List (List ℕ) → Stream
 in_blocks carry bs = run 40 profile (7 ∷ []) 3 1 begun carry [] bs
 
-abbrev in_state : Arriving → List ℕ → List (List ℕ) → Stream
-in_state st carry bs = run 40 profile (7 ∷ []) 3 1 st carry [] bs
-
 abbrev ones : List ℕ → List (List ℕ)
 ones s = map (λ b. b ∷ []) s
 

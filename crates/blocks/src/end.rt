@@ -13,7 +13,7 @@ use wire::refusal::{IMAGE_SHORT, UNFIT_STATE};
 
 impl Seat<'_> {
     // The first present column from the state's on that is not NULL, or how many columns there are.
-    #[tactic(auto, using(crate::proofs::Heldings::due_absent, crate::proofs::Heldings::due_null, crate::proofs::Heldings::due_stop, crate::proofs::Heldings::due_end, image::proofs::PresenceLaws::Firsts::count_at_most))]
+    #[tactic(auto, using(crate::proofs::Heldings::due_rules))]
     fn first_due(self) -> usize
         ensures { let s = self.entry in
             result ≡ due_from (s.lent.head.columns - s.at.column) s.lent.presence.now (take s.at.held s.carry.now) s.at.column }

@@ -50,7 +50,7 @@ fn is_within(lent: Lent, used: usize) -> bool
 }
 
 impl<'a> Seat<'a> {
-    #[tactic(auto, using(wire::proofs::Rules::tests, crate::proofs::Seats::open_held, crate::proofs::Seats::other_turn), unfolding(crate::specs::Fits::fits_in))]
+    #[tactic(auto, using(crate::proofs::Seats::open_rules), unfolding(crate::specs::Fits::fits_in))]
     fn fits_open(self) -> bool
         ensures { let s = self.entry in result ≡ fits_in Open s.lent.profile.now s.lent.presence.now s.lent.head.nulls s.at s.carry.now }
     {
@@ -66,7 +66,7 @@ impl<'a> Seat<'a> {
         at.held == nulls || matches!(self.held_turn(), Turn::Wait)
     }
 
-    #[tactic(auto, using(wire::proofs::Rules::tests, crate::proofs::Seats::long_low, crate::proofs::Seats::long_other, crate::proofs::Seats::long_held, crate::proofs::Seats::other_long), unfolding(crate::specs::Fits::fits_in))]
+    #[tactic(auto, using(crate::proofs::Seats::long_rules), unfolding(crate::specs::Fits::fits_in))]
     fn fits_long(self) -> bool
         ensures { let s = self.entry in result ≡ fits_in Long s.lent.profile.now s.lent.presence.now s.lent.head.nulls s.at s.carry.now }
     {

@@ -48,7 +48,7 @@ pub(crate) fn give_open(lent: Lent, carry: &mut [u8], call: Call) -> Result<Bloc
     give_value(carry, call, nulls, found, kind)
 }
 
-#[tactic(auto, using(crate::proofs::Values::wait_answer, crate::proofs::Values::long_answers, crate::proofs::Values::whole_answers), unfolding(crate::specs::Gives::commit))]
+#[tactic(auto, using(crate::proofs::Values::turn_answers), unfolding(crate::specs::Gives::commit))]
 fn give_value(
     carry: &mut [u8],
     call: Call,
