@@ -5,7 +5,7 @@ ghost use Rattle.rows_event.specs.Events.{form_of};
 use wire::Refusal;
 use wire::refusal::OTHER_EVENT;
 
-// Write, update and delete, in the first edition and in the second.
+// Write, update and delete, in the first edition and in the second. Codes stay numbers: C hands them over, and each says a form at once.
 const WRITE_ROWS_V1: u64 = 23;
 
 const UPDATE_ROWS_V1: u64 = 24;

@@ -16,6 +16,7 @@ pub(crate) const TIMEF_INT_OFS: u64 = 1 << 23;
 
 pub(crate) const DATETIMEF_INT_OFS: u64 = 1 << 39;
 
+// A sign beside what it is the sign of: the definitions `signed_time` and `signed_datetime` are of this.
 #[derive(Clone, Copy)]
 pub(crate) struct SignedTime {
     pub(crate) negative: bool,

@@ -1,4 +1,5 @@
-// A stored temporal read: its bytes first, then its ranges.
+// A stored temporal read: its bytes first, then its ranges. The bytes, where it stands and what a refusal tells stay three parameters, as
+// the public readers take them.
 ghost use Rattle.std.specs.Prelude.{◌≡◌, ◌+◌, ◌≤◌, ◌<◌, ◌^◌, cond, length, take, drop, leb};
 ghost use Rattle.wire.specs.Outcome.{ok, refuse};
 ghost use Rattle.temporal.specs.Storage.{whole_bytes, fraction_size, temporal_of, fault_of};
