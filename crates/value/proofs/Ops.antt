@@ -2,7 +2,7 @@
 use Prim.Native.Nat.{ℕ, ◌+◌, ◌-◌, ◌*◌, ◌≤◌, ◌<◌}
 use mathlib.Core.Bool.{Bool, true, false, cond, ◌&&◌, ◌||◌, true≢false}
 use mathlib.Core.Path.{◌≡◌, refl, sym, ap, ◌∙◌}
-use borrow.Author.Tests.{ltb-true, ltb-false, le-leb, lt-ltb, le-ltb}
+use borrow.Author.Tests.{ltb-true, ltb-false, le-leb}
 use native.Mathlib.Omega.{arith}
 use lib.Dec.{T, leb, ltb, eqb, leb→le, eqb→eq}
 use Rattle.temporal.specs.declared.storage.Storage.{Storage}
@@ -22,117 +22,36 @@ use Rattle.value.specs.Columns.{shape_in, shape_of, is_taken, leftover_bytes, de
 use Rattle.value.specs.Inner.Shapes.{Sized}
 use Rattle.value.specs.Ops.{shape_for, within, storage_op, op_of, StorageOpped, Opped}
 use Rattle.wire.proofs.Each.{left, right}
-use Rattle.value.proofs.Tables.{sized}
+use Rattle.wire.proofs.Rules.{tests}
+use Rattle.value.proofs.Tables.{pick, sized}
 
 at_unsigned : (op : ℕ) → 1 ≤ op → op < 10 → shape_for op ≡ Unsigned (op - 1)
 unfolding shape_for
-at_unsigned op h l = rw (le-ltb op 1 (omega arith), lt-ltb op 10 l)
+at_unsigned op h l = search tests
 
 at_signed : (op : ℕ) → 10 ≤ op → op < 18 → shape_for op ≡ Signed (op - 9)
 unfolding shape_for
-at_signed op h l = rw (le-ltb op 1 (omega arith), le-ltb op 10 (omega arith), lt-ltb op 18 l)
+at_signed op h l = search tests
 
 pub at_timestamp : (op : ℕ) → 25 ≤ op → op < 32 → shape_for op ≡ Timed (StoredTimestamp2 (op - 25))
 unfolding shape_for
-at_timestamp op h l = rw (
-  le-ltb op 1 (omega arith),
-  le-ltb op 10 (omega arith),
-  le-ltb op 18 (omega arith),
-  le-ltb op 19
-      (omega arith),
-  le-ltb op 20 (omega arith),
-  le-ltb op 21 (omega arith),
-  le-ltb op 22 (omega arith),
-  le-ltb op 23
-      (omega arith),
-  le-ltb op 24 (omega arith),
-  le-ltb op 25 (omega arith),
-  lt-ltb op 32 l,
-)
+at_timestamp op h l = search tests
 
 pub at_datetime : (op : ℕ) → 32 ≤ op → op < 39 → shape_for op ≡ Timed (StoredDatetime2 (op - 32))
 unfolding shape_for
-at_datetime op h l = rw (
-  le-ltb op 1 (omega arith),
-  le-ltb op 10 (omega arith),
-  le-ltb op 18 (omega arith),
-  le-ltb op 19
-      (omega arith),
-  le-ltb op 20 (omega arith),
-  le-ltb op 21 (omega arith),
-  le-ltb op 22 (omega arith),
-  le-ltb op 23
-      (omega arith),
-  le-ltb op 24 (omega arith),
-  le-ltb op 25 (omega arith),
-  le-ltb op 32 (omega arith),
-  lt-ltb op 39 l,
-)
+at_datetime op h l = search tests
 
 pub at_time : (op : ℕ) → 39 ≤ op → op < 46 → shape_for op ≡ Timed (StoredTime2 (op - 39))
 unfolding shape_for
-at_time op h l = rw (
-  le-ltb op 1 (omega arith),
-  le-ltb op 10 (omega arith),
-  le-ltb op 18 (omega arith),
-  le-ltb op 19
-      (omega arith),
-  le-ltb op 20 (omega arith),
-  le-ltb op 21 (omega arith),
-  le-ltb op 22 (omega arith),
-  le-ltb op 23
-      (omega arith),
-  le-ltb op 24 (omega arith),
-  le-ltb op 25 (omega arith),
-  le-ltb op 32 (omega arith),
-  le-ltb op 39
-      (omega arith),
-  lt-ltb op 46 l,
-)
+at_time op h l = search tests
 
 at_counted : (op : ℕ) → 46 ≤ op → op < 51 → shape_for op ≡ Counted (op - 46)
 unfolding shape_for
-at_counted op h l = rw (
-  le-ltb op 1 (omega arith),
-  le-ltb op 10 (omega arith),
-  le-ltb op 18 (omega arith),
-  le-ltb op 19
-      (omega arith),
-  le-ltb op 20 (omega arith),
-  le-ltb op 21 (omega arith),
-  le-ltb op 22 (omega arith),
-  le-ltb op 23
-      (omega arith),
-  le-ltb op 24 (omega arith),
-  le-ltb op 25 (omega arith),
-  le-ltb op 32 (omega arith),
-  le-ltb op 39
-      (omega arith),
-  le-ltb op 46 (omega arith),
-  lt-ltb op 51 l,
-)
+at_counted op h l = search tests
 
 at_fixed : (op : ℕ) → 51 ≤ op → shape_for op ≡ Fixed (op - 51)
 unfolding shape_for
-at_fixed op h = rw (
-  le-ltb op 1 (omega arith),
-  le-ltb op 10 (omega arith),
-  le-ltb op 18 (omega arith),
-  le-ltb op 19
-      (omega arith),
-  le-ltb op 20 (omega arith),
-  le-ltb op 21 (omega arith),
-  le-ltb op 22 (omega arith),
-  le-ltb op 23
-      (omega arith),
-  le-ltb op 24 (omega arith),
-  le-ltb op 25 (omega arith),
-  le-ltb op 32 (omega arith),
-  le-ltb op 39
-      (omega arith),
-  le-ltb op 46 (omega arith),
-  le-ltb op 51 (omega arith),
-)
+at_fixed op h = search tests
 
 -- ---- there and back
 back : (mk : ℕ → Shape) (base most k : ℕ) → k ≤ most → ((op : ℕ) → base ≤ op → op ≤ base + most → shape_for op ≡ mk (op - base))
@@ -202,10 +121,6 @@ Told (Timed k) = StorageOpped k
 Told (Fixed n) = n ≤ 204
 Told (Counted k) = Unit {0}
 Told (NotTaken n) = Unit {0}
-
-pick : {A : Type 0} (P : A → Type 0) (b : Bool) {x y : A} → (T b → P x) → P y → P (cond b x y)
-pick P true p q = p tt
-pick P false p q = q
 
 decimal_most : (m0 m1 : ℕ) → m0 ≤ 65 → m1 ≤ 30 → decimal_bytes m0 m1 ≤ 204
 unfolding decimal_bytes leftover_bytes

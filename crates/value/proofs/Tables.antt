@@ -57,7 +57,7 @@ set_few m1 t =
     (λ h. absurd (rw (lt-leb m1 4 (omega arith), ne_eqb m1 8 (λ e. omega arith)) at t))
 
 -- ---- what holds of both sides of a test holds of what it picks
-pick : {A : Type 0} (P : A → Type 0) (b : Bool) {x y : A} → (T b → P x) → P y → P (cond b x y)
+pub pick : {A : Type 0} (P : A → Type 0) (b : Bool) {x y : A} → (T b → P x) → P y → P (cond b x y)
 pick P true p q = p tt
 pick P false p q = q
 

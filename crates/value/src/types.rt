@@ -116,34 +116,32 @@ pub fn family_of(kind: u8) -> Family
     match kind {
         MYSQL_TYPE_TINY => Family::Integer { width: 1 },
         MYSQL_TYPE_SHORT => Family::Integer { width: 2 },
+        MYSQL_TYPE_INT24 => Family::Integer { width: 3 },
         MYSQL_TYPE_LONG => Family::Integer { width: 4 },
+        MYSQL_TYPE_LONGLONG => Family::Integer { width: 8 },
         MYSQL_TYPE_FLOAT => Family::Float,
         MYSQL_TYPE_DOUBLE => Family::Double,
+        MYSQL_TYPE_YEAR => Family::Year,
         MYSQL_TYPE_TIMESTAMP => Family::Timestamp,
-        MYSQL_TYPE_LONGLONG => Family::Integer { width: 8 },
-        MYSQL_TYPE_INT24 => Family::Integer { width: 3 },
-        MYSQL_TYPE_DATE => Family::Date,
+        MYSQL_TYPE_DATE | MYSQL_TYPE_NEWDATE => Family::Date,
         MYSQL_TYPE_TIME => Family::Time,
         MYSQL_TYPE_DATETIME => Family::Datetime,
-        MYSQL_TYPE_YEAR => Family::Year,
-        MYSQL_TYPE_NEWDATE => Family::Date,
-        MYSQL_TYPE_VARCHAR => Family::Varchar,
-        MYSQL_TYPE_BIT => Family::Bit,
         MYSQL_TYPE_TIMESTAMP2 => Family::Timestamp2,
         MYSQL_TYPE_DATETIME2 => Family::Datetime2,
         MYSQL_TYPE_TIME2 => Family::Time2,
-        MYSQL_TYPE_VECTOR => Family::Blob,
+        MYSQL_TYPE_VARCHAR | MYSQL_TYPE_VAR_STRING => Family::Varchar,
+        MYSQL_TYPE_STRING => Family::Char,
+        MYSQL_TYPE_VECTOR
+        | MYSQL_TYPE_TINY_BLOB
+        | MYSQL_TYPE_MEDIUM_BLOB
+        | MYSQL_TYPE_LONG_BLOB
+        | MYSQL_TYPE_BLOB
+        | MYSQL_TYPE_GEOMETRY => Family::Blob,
         MYSQL_TYPE_JSON => Family::Json,
+        MYSQL_TYPE_BIT => Family::Bit,
         MYSQL_TYPE_NEWDECIMAL => Family::Decimal,
         MYSQL_TYPE_ENUM => Family::Enum,
         MYSQL_TYPE_SET => Family::Set,
-        MYSQL_TYPE_TINY_BLOB => Family::Blob,
-        MYSQL_TYPE_MEDIUM_BLOB => Family::Blob,
-        MYSQL_TYPE_LONG_BLOB => Family::Blob,
-        MYSQL_TYPE_BLOB => Family::Blob,
-        MYSQL_TYPE_VAR_STRING => Family::Varchar,
-        MYSQL_TYPE_STRING => Family::Char,
-        MYSQL_TYPE_GEOMETRY => Family::Blob,
         _ => Family::Unknown,
     }
 }
