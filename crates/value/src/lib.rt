@@ -72,7 +72,7 @@ pub fn most_size(column: Column) -> u64
     layout_of(column).most()
 }
 
-// ---- a lone value: at the start of what is lent, and every place is 0
+// ---- a lone value: at the start of what is lent, and every place is 0. The names are those that callers know.
 
 pub fn read_lone(column: Column, s: &[u8]) -> Result<(Value, usize), Refusal>
     ensures { result ≡ read_value (shape_of column) 0 s.now 0 }

@@ -42,7 +42,8 @@ fn behind(s: &[u8], at: usize, n: usize, place: usize) -> Result<usize, Refusal>
     Ok(at + n)
 }
 
-// ---- the readers of one shape each, which differ in what they make of the bytes; those of a plan's ops are called with constant widths
+// ---- the readers of one shape each, which differ in what they make of the bytes; those of a plan's ops are called with constant widths.
+// s, at and place stay three parameters, as in every public reader: a struct of them would be made at each call, and say no more.
 
 pub(crate) fn read_unsigned(
     k: usize,
