@@ -120,11 +120,11 @@ pub(crate) fn charset_if(
     requires { Stands event.now class rank.0 cursor }
     ensures { CharsetTurnedIf member event.now class rank result }
 {
-    if member {
-        return next_charset(event, class, cursor, rank);
+    if !member {
+        return CharsetTurn {
+            charset: 0,
+            next: cursor,
+        };
     }
-    CharsetTurn {
-        charset: 0,
-        next: cursor,
-    }
+    next_charset(event, class, cursor, rank)
 }

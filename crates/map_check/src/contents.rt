@@ -22,15 +22,14 @@ pub(crate) enum Meaning {
     Dimension,
 }
 
+#[tactic(auto, using(wire::proofs::Rules::tests), unfolding(crate::specs::Contents::is_charset))]
 fn is_charset(v: u64) -> bool
     ensures { result ≡ is_charset v }
 {
-    if v < 1 {
-        return false;
-    }
-    v <= 65535
+    matches!(v, 1..=65535)
 }
 
+#[tactic(auto, unfolding(crate::specs::Contents::integer_holds))]
 fn integer_holds(meaning: Meaning, v: u64) -> bool
     ensures { result ≡ integer_holds meaning v }
 {
@@ -124,6 +123,7 @@ fn default_holds(value: &[u8], size: Rank) -> bool
 }
 
 // Whether the value of a field of the type `kind` is as it must be in a map with so many columns, and so many of each class.
+#[tactic(auto, using(wire::proofs::Rules::tests), unfolding(crate::specs::Contents::contents_full))]
 pub(crate) fn contents_full(sizes: Ranks, columns: TablePlace, kind: u8, value: &[u8]) -> bool
     ensures { result ≡ contents_full sizes columns.0 kind value.now }
 {

@@ -7,14 +7,14 @@ ghost use Rattle.value.specs.Classes.{is_character};
 ghost use Rattle.record.specs.Records.{most_columns, entry_at, entries_bytes, record_bytes};
 ghost use Rattle.map_check.specs.Inner.Columns.{declare_all};
 ghost use Rattle.map_check.specs.Ranks.{table_place, no_ranks};
-ghost use Rattle.map_check.specs.Profile.{one_if, is_sign_known, is_unsigned, is_visible, flags_of, entry_with, entries_from};
+ghost use Rattle.map_check.specs.Profile.{is_sign_known, is_unsigned, is_visible, flags_of, entry_with, entries_from};
 ghost use Rattle.map_check.specs.Inner.Making.{ClassHolds, Writable, Ready, Begins, Came};
 
 use crate::charset::{CharsetCursor, charset_if, first_charset};
 use crate::declare::{Declared, declare};
 use crate::facts::Facts;
 use crate::found::value_in;
-use crate::rank::{Rank, Ranks, TablePlace, no_ranks, ranks_after};
+use crate::rank::{Rank, Ranks, TablePlace, ranks_after};
 use record::Entry;
 use value::Dialect;
 use wire::Refusal;
@@ -66,24 +66,15 @@ fn is_visible(event: &[u8], facts: Facts, column: TablePlace) -> bool
     facts.visibility.is_none() || table_map::flag(value_in(event, facts.visibility), column.0)
 }
 
-// A flag as a number.
-fn one_if(t: bool) -> u8
-    ensures { (result ≡ one_if t) × (result ≤ 1) }
-{
-    if t {
-        return 1;
-    }
-    0
-}
-
+#[tactic(auto, unfolding(crate::specs::Profile::flags_of))]
 fn flags_of(event: &[u8], facts: Facts, column: Declared, place: TablePlace, ranks: Ranks) -> u8
     ensures { result ≡ flags_of event.now facts column place ranks }
 {
     let rank = ranks.sign;
-    let unsigned = one_if(is_unsigned(event, facts, column, rank));
-    let nullable = one_if(is_nullable(event, facts, place));
-    let known = one_if(is_sign_known(facts, column));
-    let visible = one_if(is_visible(event, facts, place));
+    let unsigned = u8::from(is_unsigned(event, facts, column, rank));
+    let nullable = u8::from(is_nullable(event, facts, place));
+    let known = u8::from(is_sign_known(facts, column));
+    let visible = u8::from(is_visible(event, facts, place));
     unsigned + 2 * nullable + 4 * known + 8 * visible
 }
 
@@ -112,10 +103,7 @@ fn entry_with(
 fn pick_charset(real: u8, character: u16, choice: u16) -> u16
     ensures { result ≡ cond (is_character real) character choice }
 {
-    if value::is_character(real) {
-        return character;
-    }
-    choice
+    if value::is_character(real) { character } else { choice }
 }
 
 // Where the making stands before the first column.
@@ -126,7 +114,7 @@ fn first_progress(event: &[u8], facts: Facts) -> Progress
     Progress {
         place: TablePlace(0),
         metadata: 0,
-        ranks: no_ranks(),
+        ranks: Ranks::default(),
         characters: first_charset(event, facts.characters),
         choices: first_charset(event, facts.choices),
     }
@@ -148,7 +136,7 @@ fn next_entry(
     let ranks = progress.ranks;
     let at = place.0;
     let kind = types[at];
-    let column = declare(kind, metadata, progress.metadata);
+    let column = declare(kind, &metadata[progress.metadata.min(metadata.len())..]);
     let real = column.real;
     let counted = value::has_charset(dialect, real);
     let characters = facts.characters;

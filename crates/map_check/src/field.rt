@@ -16,6 +16,7 @@ use wire::refusal::BAD_FIELD;
 use wire::{Part, Refusal, refuse};
 
 // The type that may not stand beside one; there is no type 0.
+#[tactic(auto, using(wire::proofs::Rules::tests), unfolding(crate::specs::Fields::rival_of))]
 fn rival_of(kind: u8) -> u8
     ensures { result ≡ rival_of kind }
 {
@@ -31,6 +32,7 @@ fn rival_of(kind: u8) -> u8
 }
 
 // Whether a field may stand, given whether its type and its rival stood before it.
+#[tactic(auto, unfolding(crate::specs::Fields::stands_given))]
 fn stands_given(
     event: &[u8],
     sizes: Ranks,
@@ -42,13 +44,7 @@ fn stands_given(
 ) -> bool
     ensures { result ≡ stands_given sizes columns.0 event.now twice rivalled (kind, value) }
 {
-    if twice {
-        return false;
-    }
-    if rivalled {
-        return false;
-    }
-    contents_full(sizes, columns, kind, wire::part_of(event, value))
+    !twice && !rivalled && contents_full(sizes, columns, kind, wire::part_of(event, value))
 }
 
 // What the check goes on with, of the fields that stood: each is looked up by its type.

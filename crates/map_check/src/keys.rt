@@ -28,15 +28,13 @@ pub(crate) fn keys_below(value: &[u8], paired: bool, columns: TablePlace) -> boo
     let above = columns.0 as u64;
     let mut at: usize = 0;
     while at < value.len() {
-        match key_at(value, paired, at) {
-            Ok((key, next)) => {
-                if above <= key {
-                    return false;
-                }
-                at = next;
-            }
-            Err(_) => return false,
+        let Ok((key, next)) = key_at(value, paired, at) else {
+            return false;
+        };
+        if above <= key {
+            return false;
         }
+        at = next;
     }
     true
 }

@@ -11,6 +11,7 @@ use wire::refusal::NO_COLUMN;
 use wire::{Part, Refusal, part_of, refuse};
 
 // Where a column's name stands: in the map's names if there are any, else in the operator's list.
+#[tactic(auto, unfolding(crate::specs::Names::column_name))]
 pub fn column_name<'a>(
     names: &'a [u8],
     operator: &'a [u8],
@@ -58,6 +59,7 @@ fn find_names(event: &[u8], fields: Fields) -> Result<Option<Part>, Refusal>
 }
 
 // The list that is looked at.
+#[tactic(auto, using(wire::proofs::Rules::tests), unfolding(crate::specs::Names::list_of))]
 fn list_of<'a>(names: &'a [u8], operator: &'a [u8]) -> &'a [u8]
     ensures { result.now ≡ list_of names.now operator.now }
 {

@@ -1,7 +1,7 @@
 // Two ways of numbering columns: by their place in the table, and by their rank among the columns of a class.
 ghost use Rattle.std.specs.Prelude.{◌≡◌, ◌≤◌};
 ghost use Rattle.record.specs.Records.{most_columns};
-ghost use Rattle.map_check.specs.Ranks.{rank_after, no_ranks, ranks_after};
+ghost use Rattle.map_check.specs.Ranks.{rank_after, ranks_after};
 ghost use Rattle.map_check.specs.Inner.Ranks.{AtMost};
 
 use crate::declare::Declared;
@@ -9,15 +9,15 @@ use value::Dialect;
 use value::types::{MYSQL_TYPE_ENUM, MYSQL_TYPE_GEOMETRY, MYSQL_TYPE_SET, MYSQL_TYPE_VECTOR};
 
 // A column's place in the table, from 0 on.
-#[derive(Clone, Copy)]
+#[derive(Clone, Copy, Debug, PartialEq, Eq)]
 pub struct TablePlace(pub usize);
 
 // A column's rank in a class, from 0 on.
-#[derive(Clone, Copy)]
+#[derive(Clone, Copy, Debug, Default, PartialEq, Eq)]
 pub struct Rank(pub usize);
 
 // The next rank of every class: after all columns, how many columns each has.
-#[derive(Clone, Copy)]
+#[derive(Clone, Copy, Debug, Default, PartialEq, Eq)]
 pub struct Ranks {
     // columns with a signedness bit
     pub sign: Rank,
@@ -31,32 +31,16 @@ pub struct Ranks {
     pub vector: Rank,
 }
 
-pub(crate) fn no_ranks() -> Ranks
-    ensures { result ≡ no_ranks }
-{
-    Ranks {
-        sign: Rank(0),
-        character: Rank(0),
-        choice: Rank(0),
-        set: Rank(0),
-        enumeration: Rank(0),
-        geometry: Rank(0),
-        vector: Rank(0),
-    }
-}
-
 // The next rank of a class after a column, which may be of the class.
 fn rank_after(before: Rank, member: bool) -> Rank
     requires { before.0 ≤ most_columns }
     ensures { result ≡ rank_after before member }
 {
-    if member {
-        return Rank(before.0 + 1);
-    }
-    before
+    Rank(before.0 + usize::from(member))
 }
 
 // The next rank of every class, after a column. Signedness goes by the type byte, every other class by the real type.
+#[tactic(auto, unfolding(crate::specs::Ranks::ranks_after))]
 pub(crate) fn ranks_after(dialect: Dialect, ranks: Ranks, column: Declared) -> Ranks
     requires { AtMost most_columns ranks }
     ensures { result ≡ ranks_after dialect ranks column }

@@ -1,12 +1,15 @@
 -- `map_check::entries::first_progress` meets its contract. Assumes nothing.
-use mathlib.Core.Path.{refl}
+use Rattle.std.proofs.Common.{rules}
+use mathlib.Core.Path.{◌≡◌, refl}
+use Rattle.map_check.specs.Ranks.{no_ranks}
 use native.Mathlib.Omega.{arith}
 use Rattle.map_check.proofs.ColumnLaws.Counts.{at_most_none}
 use Rattle.map_check.proofs.entries.first_progress.Goals as goal
 
 pub returns : goal.returns
 returns c =
-    rw c.no_ranks.ensures
+    let e : c.default.result ≡ no_ranks = search rules in
+    rw e
     (record {
       place =
           refl;

@@ -3,6 +3,7 @@ use mathlib.Core.Path.{refl, ◌∙◌}
 use native.Mathlib.Omega.{arith}
 use lib.ListN.{get_or}
 use Rattle.value.specs.Types.{family_of}
+use Rattle.map_check.proofs.ColumnLaws.Declares.{cut_capped}
 use Rattle.map_check.proofs.ColumnLaws.Counts.{at_most_wider}
 use Rattle.map_check.proofs.EntryLaws.Making.{few_metadata, came}
 use Rattle.map_check.proofs.entries.next_entry.Goals as goal
@@ -46,7 +47,7 @@ returns c =
     c.requires.0
     c.requires.2
     (record {
-      column = c.declare-column.ensures;
+      column = c.declare-column.ensures ∙ rw (cut_capped c.args.progress.metadata c.min.result c.args.metadata.now c.min.ensures);
       character =
           rw (← c.has_charset-counted.ensures)
           c.charset_if-character.ensures;

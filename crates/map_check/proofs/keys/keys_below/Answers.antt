@@ -43,10 +43,10 @@ loop-at-preserved c =
       ),
     )
 
-pub returns-in-Err : goal.returns-in-Err
-returns-in-Err c =
+pub returns-in_default : goal.returns-in_default
+returns-in_default c =
     let a = c.args in
-    let r = sym c.in-Err.ensures in
+    let r = sym c.in_default.ensures in
     let e = refusal_stepped (key_item a.paired) _ _ _ c.loop-at-test.true r in
     sym (list_broken (key_item a.paired) _ (key_moves a.paired) _ _ _ e) ∙ c.loop-at.invariant.1
 
