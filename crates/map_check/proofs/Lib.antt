@@ -1,5 +1,6 @@
 -- The laws of the crate, after the modules of src: `ColumnLaws`, `ContentsLaws`, `FieldLaws`, `KeyLaws`, `EntryLaws`, `NameLaws` and
--- `MapLaws`.
+-- `MapLaws`. `Handed`: what `?` hands on.
+mod Handed
 pub mod ColumnLaws
 pub mod ContentsLaws
 pub mod FieldLaws

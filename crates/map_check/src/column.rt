@@ -18,10 +18,7 @@ fn is_real(kind: u8, real: u8) -> bool
     ensures { result ≡ is_real kind real }
 {
     kind != MYSQL_TYPE_STRING
-        || matches!(
-            real,
-            MYSQL_TYPE_ENUM | MYSQL_TYPE_SET | MYSQL_TYPE_STRING
-        )
+        || matches!(real, MYSQL_TYPE_ENUM | MYSQL_TYPE_SET | MYSQL_TYPE_STRING)
 }
 
 #[tactic(auto, unfolding(crate::specs::Columns::is_accepted))]

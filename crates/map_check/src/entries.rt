@@ -16,9 +16,20 @@ use crate::facts::Facts;
 use crate::found::value_in;
 use crate::rank::{Rank, Ranks, TablePlace, ranks_after};
 use record::Entry;
-use value::Dialect;
-use wire::Refusal;
+use table_map::flag;
+use value::{Dialect, has_charset, is_character, is_enum_or_set, is_numeric, metadata_bytes};
 use wire::refusal::NO_ROOM;
+use wire::{Refusal, bit_lsb0, part_of, refuse};
+
+// A map that passed: its event, the types and the metadata of its columns there, and what was kept of its fields.
+#[derive(Clone, Copy)]
+pub(crate) struct Passed<'a> {
+    pub dialect: Dialect,
+    pub event: &'a [u8],
+    pub types: &'a [u8],
+    pub metadata: &'a [u8],
+    pub facts: Facts,
+}
 
 // Where the making of a record stands between two columns.
 #[derive(Clone, Copy)]
@@ -39,62 +50,154 @@ pub(crate) struct EntryTurn {
     pub next: Progress,
 }
 
-// Signedness is told of document 01's numeric columns alone, though a dialect may count a bit for others.
-fn is_sign_known(facts: Facts, column: Declared) -> bool
-    ensures { result ≡ is_sign_known facts column }
-{
-    value::is_numeric(column.kind) && facts.signs.is_some()
-}
+impl<'a> Passed<'a> {
+    // Signedness is told of document 01's numeric columns alone, though a dialect may count a bit for others.
+    fn is_sign_known(&self, column: Declared) -> bool
+        ensures { result ≡ is_sign_known self.now.facts column }
+    {
+        is_numeric(column.kind) && self.facts.signs.is_some()
+    }
 
-// Signedness bits go by the rank among the columns that have one.
-fn is_unsigned(event: &[u8], facts: Facts, column: Declared, rank: Rank) -> bool
-    ensures { result ≡ is_unsigned event.now facts column rank }
-{
-    is_sign_known(facts, column) && table_map::flag(value_in(event, facts.signs), rank.0)
-}
+    // Signedness bits go by the rank among the columns that have one.
+    fn is_unsigned(&self, column: Declared, rank: Rank) -> bool
+        ensures { result ≡ is_unsigned self.now.event.now self.now.facts column rank }
+    {
+        self.is_sign_known(column) && flag(value_in(self.event, self.facts.signs), rank.0)
+    }
 
-// Nullable and visibility bits go by the place.
-fn is_nullable(event: &[u8], facts: Facts, column: TablePlace) -> bool
-    ensures { result ≡ bit_lsb0 (lent_part event.now facts.bits) column.0 }
-{
-    wire::bit_lsb0(wire::part_of(event, facts.bits), column.0)
-}
+    // Nullable and visibility bits go by the place.
+    fn is_nullable(&self, column: TablePlace) -> bool
+        ensures { result ≡ bit_lsb0 (lent_part self.now.event.now self.now.facts.bits) column.0 }
+    {
+        bit_lsb0(part_of(self.event, self.facts.bits), column.0)
+    }
 
-fn is_visible(event: &[u8], facts: Facts, column: TablePlace) -> bool
-    ensures { result ≡ is_visible event.now facts column }
-{
-    facts.visibility.is_none() || table_map::flag(value_in(event, facts.visibility), column.0)
-}
+    fn is_visible(&self, column: TablePlace) -> bool
+        ensures { result ≡ is_visible self.now.event.now self.now.facts column }
+    {
+        let visibility = self.facts.visibility;
+        visibility.is_none() || flag(value_in(self.event, visibility), column.0)
+    }
 
-#[tactic(auto, unfolding(crate::specs::Profile::flags_of))]
-fn flags_of(event: &[u8], facts: Facts, column: Declared, place: TablePlace, ranks: Ranks) -> u8
-    ensures { result ≡ flags_of event.now facts column place ranks }
-{
-    let rank = ranks.sign;
-    let unsigned = u8::from(is_unsigned(event, facts, column, rank));
-    let nullable = u8::from(is_nullable(event, facts, place));
-    let known = u8::from(is_sign_known(facts, column));
-    let visible = u8::from(is_visible(event, facts, place));
-    unsigned + 2 * nullable + 4 * known + 8 * visible
-}
+    #[tactic(auto, unfolding(crate::specs::Profile::flags_of))]
+    fn flags_of(&self, column: Declared, place: TablePlace, ranks: Ranks) -> u8
+        ensures { result ≡ flags_of self.now.event.now self.now.facts column place ranks }
+    {
+        let rank = ranks.sign;
+        let unsigned = u8::from(self.is_unsigned(column, rank));
+        let nullable = u8::from(self.is_nullable(place));
+        let known = u8::from(self.is_sign_known(column));
+        let visible = u8::from(self.is_visible(place));
+        unsigned + 2 * nullable + 4 * known + 8 * visible
+    }
 
-// The entry of a column, given its charset.
-fn entry_with(
-    event: &[u8],
-    facts: Facts,
-    column: Declared,
-    place: TablePlace,
-    ranks: Ranks,
-    charset: u16,
-) -> Entry
-    ensures { result ≡ entry_with event.now facts column place ranks charset }
-{
-    Entry {
-        real: column.real,
-        flags: flags_of(event, facts, column, place, ranks),
-        m0: column.m0,
-        m1: column.m1,
-        charset,
+    // The entry of a column, given its charset.
+    fn entry_with(&self, column: Declared, place: TablePlace, ranks: Ranks, charset: u16) -> Entry
+        ensures { result ≡ entry_with self.now.event.now self.now.facts column place ranks charset }
+    {
+        Entry {
+            real: column.real,
+            flags: self.flags_of(column, place, ranks),
+            m0: column.m0,
+            m1: column.m1,
+            charset,
+        }
+    }
+
+    // Where the making stands before the first column.
+    fn first_progress(&self) -> Progress
+        requires { ClassHolds self.now.event.now self.now.facts.characters × ClassHolds self.now.event.now self.now.facts.choices }
+        ensures { Begins self.now.event.now self.now.facts result }
+    {
+        Progress {
+            place: TablePlace(0),
+            metadata: 0,
+            ranks: Ranks::default(),
+            characters: first_charset(self.event, self.facts.characters),
+            choices: first_charset(self.event, self.facts.choices),
+        }
+    }
+
+    // The next column's entry, and where the making stands behind it.
+    fn next_entry(&self, progress: Progress) -> EntryTurn
+        requires { (progress.place.0 < length self.now.types.now) × (length self.now.types.now ≤ most_columns)
+            × Ready self.now.event.now self.now.facts progress }
+        ensures { Came self.now.dialect self.now.event.now self.now.facts self.now.types.now self.now.metadata.now progress result }
+    {
+        let Progress {
+            place,
+            metadata,
+            ranks,
+            characters,
+            choices,
+        } = progress;
+        let kind = self.types[place.0];
+        let rest = &self.metadata[metadata.min(self.metadata.len())..];
+        let column = declare(kind, rest);
+        let real = column.real;
+        let counted = has_charset(self.dialect, real);
+        let character = charset_if(
+            self.event,
+            counted,
+            self.facts.characters,
+            characters,
+            ranks.character,
+        );
+        let chosen = is_enum_or_set(real);
+        let choice = charset_if(
+            self.event,
+            chosen,
+            self.facts.choices,
+            choices,
+            ranks.choice,
+        );
+        let charset = pick_charset(real, character.charset, choice.charset);
+        EntryTurn {
+            entry: self.entry_with(column, place, ranks, charset),
+            next: Progress {
+                place: TablePlace(place.0 + 1),
+                metadata: metadata + metadata_bytes(kind),
+                ranks: ranks_after(self.dialect, ranks, column),
+                characters: character.next,
+                choices: choice.next,
+            },
+        }
+    }
+
+    // Writes the entries of all columns, each at its place. There is room for all, so no write is refused.
+    fn write_entries(&self, buf: &mut [u8])
+        requires { Writable self.now.event.now self.now.types.now self.now.facts × (entry_at (length self.now.types.now) ≤ length buf.old) }
+        ensures { buf.new
+            ≡ stored (entries_bytes (entries_from self.now.dialect self.now.event.now self.now.facts
+            (declare_all self.now.types.now self.now.metadata.now) (table_place 0) no_ranks)) buf.old (entry_at 0) }
+    {
+        let mut progress = self.first_progress();
+        while progress.place.0 < self.types.len() {
+            let turn = self.next_entry(progress);
+            let at = record::entry_at(progress.place.0);
+            let _ = record::write_entry(turn.entry, buf, at);
+            progress = turn.next;
+        }
+    }
+
+    // Writes the record of the map: all of it, or nothing.
+    pub(crate) fn write_record(&self, buf: &mut [u8]) -> Result<usize, Refusal>
+        requires { Writable self.now.event.now self.now.types.now self.now.facts }
+        ensures result_value { result
+            ≡ answer_of (store (record_bytes (entries_from self.now.dialect self.now.event.now self.now.facts
+            (declare_all self.now.types.now self.now.metadata.now) (table_place 0) no_ranks)) buf.old 0) }
+        ensures buf_after { buf.new
+            ≡ left_of (store (record_bytes (entries_from self.now.dialect self.now.event.now self.now.facts
+            (declare_all self.now.types.now self.now.metadata.now) (table_place 0) no_ranks)) buf.old 0) buf.old }
+    {
+        let columns = self.types.len();
+        let size = record::entry_at(columns);
+        if buf.len() < size {
+            return Err(refuse(NO_ROOM, 0));
+        }
+        let _ = record::write_head(columns as u16, buf);
+        self.write_entries(buf);
+        Ok(size)
     }
 }
 
@@ -103,114 +206,9 @@ fn entry_with(
 fn pick_charset(real: u8, character: u16, choice: u16) -> u16
     ensures { result ≡ cond (is_character real) character choice }
 {
-    if value::is_character(real) { character } else { choice }
-}
-
-// Where the making stands before the first column.
-fn first_progress(event: &[u8], facts: Facts) -> Progress
-    requires { ClassHolds event.now facts.characters × ClassHolds event.now facts.choices }
-    ensures { Begins event.now facts result }
-{
-    Progress {
-        place: TablePlace(0),
-        metadata: 0,
-        ranks: Ranks::default(),
-        characters: first_charset(event, facts.characters),
-        choices: first_charset(event, facts.choices),
+    if is_character(real) {
+        character
+    } else {
+        choice
     }
-}
-
-// The next column's entry, and where the making stands behind it.
-fn next_entry(
-    dialect: Dialect,
-    event: &[u8],
-    types: &[u8],
-    metadata: &[u8],
-    facts: Facts,
-    progress: Progress,
-) -> EntryTurn
-    requires { (progress.place.0 < length types.now) × (length types.now ≤ most_columns) × Ready event.now facts progress }
-    ensures { Came dialect event.now facts types.now metadata.now progress result }
-{
-    let place = progress.place;
-    let ranks = progress.ranks;
-    let at = place.0;
-    let kind = types[at];
-    let column = declare(kind, &metadata[progress.metadata.min(metadata.len())..]);
-    let real = column.real;
-    let counted = value::has_charset(dialect, real);
-    let characters = facts.characters;
-    let character = charset_if(
-        event,
-        counted,
-        characters,
-        progress.characters,
-        ranks.character,
-    );
-    let chosen = value::is_enum_or_set(real);
-    let choices = facts.choices;
-    let choice = charset_if(event, chosen, choices, progress.choices, ranks.choice);
-    let charset = pick_charset(real, character.charset, choice.charset);
-    let entry = entry_with(event, facts, column, place, ranks, charset);
-    let characters = character.next;
-    let choices = choice.next;
-    let next = Progress {
-        place: TablePlace(at + 1),
-        metadata: progress.metadata + value::metadata_bytes(kind),
-        ranks: ranks_after(dialect, ranks, column),
-        characters,
-        choices,
-    };
-    EntryTurn { entry, next }
-}
-
-// Writes the entries of all columns, each at its place. There is room for all, so no write is refused.
-fn write_entries(
-    dialect: Dialect,
-    event: &[u8],
-    types: &[u8],
-    metadata: &[u8],
-    facts: Facts,
-    buf: &mut [u8],
-)
-    requires { Writable event.now types.now facts × (entry_at (length types.now) ≤ length buf.old) }
-    ensures { buf.new
-        ≡ stored (entries_bytes (entries_from dialect event.now facts (declare_all types.now metadata.now)
-        (table_place 0) no_ranks)) buf.old (entry_at 0) }
-{
-    let mut progress = first_progress(event, facts);
-    while progress.place.0 < types.len() {
-        let turn = next_entry(dialect, event, types, metadata, facts, progress);
-        let at = record::entry_at(progress.place.0);
-        let _ = record::write_entry(turn.entry, buf, at);
-        progress = turn.next;
-    }
-}
-
-// Writes the record of a map: all of it, or nothing.
-pub(crate) fn write_record(
-    dialect: Dialect,
-    event: &[u8],
-    types: &[u8],
-    metadata: &[u8],
-    facts: Facts,
-    buf: &mut [u8],
-) -> Result<usize, Refusal>
-    requires { Writable event.now types.now facts }
-    ensures result_value { result
-        ≡ answer_of (store (record_bytes
-        (entries_from dialect event.now facts (declare_all types.now metadata.now) (table_place 0)
-        no_ranks)) buf.old 0) }
-    ensures buf_after { buf.new
-        ≡ left_of (store (record_bytes
-        (entries_from dialect event.now facts (declare_all types.now metadata.now) (table_place 0)
-        no_ranks)) buf.old 0) buf.old }
-{
-    let size = record::entry_at(types.len());
-    if buf.len() < size {
-        return Err(wire::refuse(NO_ROOM, 0));
-    }
-    let _ = record::write_head(types.len() as u16, buf);
-    write_entries(dialect, event, types, metadata, facts, buf);
-    Ok(size)
 }

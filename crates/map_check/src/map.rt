@@ -4,7 +4,7 @@ ghost use Rattle.wire.specs.Stored.{answer_of, left_of};
 ghost use Rattle.map_check.specs.Check.{check_event, written, check};
 
 use crate::column::take_columns;
-use crate::entries::write_record;
+use crate::entries::Passed;
 use crate::field::keep_fields;
 use crate::keys::keys_checked;
 use record::MOST_COLUMNS;
@@ -28,7 +28,14 @@ fn check_event(dialect: Dialect, event: &[u8], e: Event, buf: &mut [u8]) -> Resu
     let fields = Fields::new(dialect, types, e.optional.start);
     let kept = keep_fields(event, fields, sizes, e.bits)?;
     keys_checked(event, kept.simple, kept.prefixed)?;
-    write_record(dialect, event, types, metadata, kept.facts, buf)
+    let passed = Passed {
+        dialect,
+        event,
+        types,
+        metadata,
+        facts: kept.facts,
+    };
+    passed.write_record(buf)
 }
 
 // Checks a map and writes its record at the buffer's start; the answer is the record's length. `event` is what follows the event's header

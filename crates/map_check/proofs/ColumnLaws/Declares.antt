@@ -4,11 +4,11 @@ use Prim.Native.Nat.{ℕ, suc, min, ◌+◌, ◌-◌, ◌≤◌, ◌<◌}
 use native.Mathlib.Decide.{dec_le}
 use mathlib.Core.Logic.{dite}
 use mathlib.Core.Path.{◌≡◌, refl, sym, ap, ◌∙◌}
-use mathlib.Core.Bool.{Bool, true, false, cond}
+use mathlib.Core.Bool.{true}
 use mathlib.Core.List.{List, [], ◌∷◌}
 use native.Mathlib.Omega.{arith}
-use borrow.Author.Tests.{lt-leb, leb-true, eq-eqb, ne_eqb}
-use lib.ListN.{length, get_or, take, drop, length-drop, drop_of_length-le, get_or-eq_default}
+use borrow.Author.Tests.{leb-true, ne_eqb}
+use lib.ListN.{length, get_or, take, drop, length-drop, drop_of_length-le}
 use lib.Seq.{drop-cons, take-length}
 use lib.Dec.{leb, eqb}
 use Rattle.wire.specs.Outcome.{Outcome, ok, refused, refuse, why, after}
@@ -17,7 +17,7 @@ use Rattle.value.specs.declared.classes.Dialect.{Dialect}
 use Rattle.value.specs.Types.{family_of, is_known}
 use Rattle.map_check.specs.declared.declare.Declared.{Declared}
 use Rattle.map_check.specs.declared.rank.Ranks.{Ranks}
-use Rattle.map_check.specs.Columns.{meta_bytes, meta_byte, declared, is_accepted, take_column, take_columns}
+use Rattle.map_check.specs.Columns.{meta_bytes, declared, is_accepted, take_column, take_columns}
 use Rattle.map_check.specs.Inner.Columns.{declare_all}
 use Rattle.map_check.specs.Ranks.{ranks_after, ranks_from}
 use Rattle.map_check.specs.Contents.{every}

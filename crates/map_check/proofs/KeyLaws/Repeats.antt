@@ -10,7 +10,7 @@ use lib.ListN.{length}
 use lib.Dec.{eqb}
 use Rattle.wire.specs.declared.refusal.Refusal.{Refusal}
 use Rattle.wire.specs.Outcome.{ok, refused, refuse}
-use Rattle.wire.proofs.Outcomes.{after_is_ok, ok_not_refused, same_ok}
+use Rattle.wire.proofs.Outcomes.{after_is_ok, same_ok}
 use Rattle.table_map.specs.Lists.{Rule}
 use Rattle.table_map.proofs.Items.{Moves}
 use Rattle.map_check.specs.Contents.{key_item}

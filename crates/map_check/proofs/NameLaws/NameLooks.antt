@@ -1,7 +1,5 @@
 -- The names of columns: a turn of the loop over the list that is looked at, and of the loop over a map's fields that looks for its names.
 -- Assumes nothing.
-use Rattle.std.specs.Result.{IsErrAnd}
-use Rattle.std.proofs.lemmas.Result.{err_from_is_err_and}
 use Rattle.std.specs.Prelude.{None, Option, Some}
 use Prim.Native.Nat.{ℕ, zero, suc, ◌-◌, ◌≤◌, ◌<◌}
 use mathlib.Core.Path.{◌≡◌, refl, ap, ◌∙◌}
@@ -29,10 +27,6 @@ use Rattle.map_check.specs.Fields.{first_of, fields_at, walk_fields}
 use Rattle.map_check.specs.Names.{list_of, string_at, column_name, or_ended, names_in, names_field}
 use Rattle.map_check.specs.Passes.{Between, none as no_item, more as one_item, ItemsAre}
 use Rattle.map_check.proofs.ContentsLaws.Tallies.{item_stepped, refusal_stepped}
-
--- what `?` hands on
-pub handed_on : {A : Type 0} {r : Outcome A} {w : Refusal} → IsErrAnd r (λ v. v ≡ w) → r ≡ refused w
-handed_on {A} {r} {w} h = let p = err_from_is_err_and r h in rw (p.1, p.2)
 
 -- ---- a string, `left` strings before the one asked
 pub looks_found : (left asked : ℕ) (s : List ℕ) (at : ℕ) (p : Part) (next : ℕ) → left ≡ 0 → step string_item s at ≡ ok (item p next)

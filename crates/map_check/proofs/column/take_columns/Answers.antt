@@ -1,12 +1,11 @@
 -- `map_check::column::take_columns` meets its contract. The loop's invariant: what is to come from this column on, by the ranks reached, is
 -- what was to come from the first. Assumes nothing.
-use mathlib.Core.Path.{◌≡◌, sym, ap, ◌∙◌, refl}
-use mathlib.Core.List.{[]}
+use mathlib.Core.Path.{◌≡◌, sym, ◌∙◌, refl}
 use native.Mathlib.Omega.{arith}
 use borrow.Author.Tests.{eqb-true, eqb-false}
 use lib.ListN.{length}
 use Rattle.std.proofs.lemmas.List.{nil_from_length}
-use Rattle.map_check.proofs.NameLaws.NameLooks.{handed_on}
+use Rattle.map_check.proofs.Handed.{handed_on}
 use Rattle.map_check.proofs.ColumnLaws.Counts.{at_most_after}
 use Rattle.map_check.proofs.ColumnLaws.Declares.{taken_is, cut_rest, column_turn, none_left, some_left}
 use Rattle.map_check.proofs.column.take_columns.Goals as goal
@@ -30,8 +29,8 @@ loop-j-preserved c =
     rw c.ranks_after-ranks.ensures (
       at_most_after a.dialect _ c.loop-j.invariant.0,
       rw (cut_rest c.metadata_bytes.result c.loop-j.rest.now, c.metadata_bytes.ensures)
-      (sym (column_turn a.dialect c.loop-j.ranks a.types.now c.loop-j.rest.now _ c.loop-j-test.true ∙ rw (sym c.in_ok-column.ensures) refl)
-      ∙ c.loop-j.invariant.1),
+          (sym (column_turn a.dialect c.loop-j.ranks a.types.now c.loop-j.rest.now _ c.loop-j-test.true ∙ rw (sym c.in_ok-column.ensures) refl)
+          ∙ c.loop-j.invariant.1),
     )
 
 pub returns-then-not-is_empty : goal.returns-then-not-is_empty

@@ -4,7 +4,7 @@ use mathlib.Core.Path.{sym, ap, ◌∙◌}
 use native.Mathlib.Omega.{arith}
 use Rattle.wire.specs.Outcome.{ok}
 use Rattle.map_check.specs.declared.facts.KeptFields.{KeptFields}
-use Rattle.map_check.proofs.NameLaws.NameLooks.{handed_on}
+use Rattle.map_check.proofs.Handed.{handed_on}
 use Rattle.map_check.proofs.FieldLaws.FieldTurns.{cursor_moves, kind_low, rival_low, noted_tells, kept_to_first}
 use Rattle.map_check.proofs.FieldLaws.FieldTurns.{kept_to_next, kept_to_refused, kept_to_end, kept_to_broken}
 use Rattle.map_check.proofs.field.keep_fields.Goals as goal

@@ -1,7 +1,7 @@
 -- `map_check::map::check` meets its contract. Assumes nothing.
 use mathlib.Core.Path.{refl, sym}
 use Rattle.map_check.specs.Check.{check_map, check}
-use Rattle.map_check.proofs.NameLaws.NameLooks.{handed_on}
+use Rattle.map_check.proofs.Handed.{handed_on}
 use Rattle.map_check.proofs.map.check.Goals as goal
 
 pub returns-in_err-e : goal.returns-in_err-e

@@ -1,7 +1,7 @@
 -- `map_check::map::check_event` meets its contract. Assumes nothing.
 use mathlib.Core.Path.{refl, sym}
 use Rattle.map_check.proofs.MapLaws.Links.{columned, fielded, too_many, columns_refuse, fields_refuse, keys_refuse, keys_pass, takes}
-use Rattle.map_check.proofs.NameLaws.NameLooks.{handed_on}
+use Rattle.map_check.proofs.Handed.{handed_on}
 use Rattle.map_check.proofs.map.check_event.Goals as goal
 
 pub returns-then-types-gt-MOST_COLUMNS : goal.returns-then-types-gt-MOST_COLUMNS

@@ -3,7 +3,7 @@
 use mathlib.Core.Path.{refl, sym, ◌∙◌}
 use native.Mathlib.Omega.{arith}
 use Rattle.map_check.proofs.FieldLaws.FieldTurns.{cursor_moves}
-use Rattle.map_check.proofs.NameLaws.NameLooks.{handed_on}
+use Rattle.map_check.proofs.Handed.{handed_on}
 use Rattle.map_check.proofs.NameLaws.NameLooks.{names_met, names_later, names_absent, names_refused}
 use Rattle.map_check.proofs.names.find_names.Goals as goal
 

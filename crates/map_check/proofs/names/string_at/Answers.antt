@@ -6,7 +6,7 @@ use native.Mathlib.Omega.{arith}
 use Rattle.table_map.specs.Lists.{string_item}
 use Rattle.table_map.proofs.Items.{string_moves}
 use Rattle.table_map.proofs.Walks.{item_moves}
-use Rattle.map_check.proofs.NameLaws.NameLooks.{handed_on}
+use Rattle.map_check.proofs.Handed.{handed_on}
 use Rattle.map_check.proofs.NameLaws.NameLooks.{looks_found, looks_on, looks_end, looks_broken}
 use Rattle.map_check.proofs.names.string_at.Goals as goal
 

@@ -1,11 +1,11 @@
--- `map_check::entries::write_entries` meets its contract. The loop's invariant: what is to be stored from here on is what was to be
+-- `map_check::entries::Passed::write_entries` meets its contract. The loop's invariant: what is to be stored from here on is what was to be
 -- stored from the start. Assumes nothing.
 use mathlib.Core.Path.{refl, ap, ◌∙◌}
 use native.Mathlib.Omega.{arith}
 use Rattle.record.proofs.Places.{place_few}
 use Rattle.map_check.specs.declared.rank.TablePlace.{TablePlace}
 use Rattle.map_check.proofs.EntryLaws.Making.{start_stored, turn_stored, all_stored}
-use Rattle.map_check.proofs.entries.write_entries.Goals as goal
+use Rattle.map_check.proofs.entries.Passed.write_entries.Goals as goal
 
 pub first_progress-progress-requires : goal.first_progress-progress-requires
 first_progress-progress-requires c = (c.requires.0.characters, c.requires.0.choices)
@@ -15,9 +15,9 @@ loop-progress-init c = (
   c.first_progress-progress.ensures.ready,
   omega (arith, ap (λ (p : TablePlace). p.0) c.first_progress-progress.ensures.place),
   refl,
-  start_stored c.args.dialect c.args.event.now
-      c.args.facts c.args.types.now
-      c.args.metadata.now c.first_progress-progress.result
+  start_stored c.args.self.now.dialect c.args.self.now.event.now
+      c.args.self.now.facts c.args.self.now.types.now
+      c.args.self.now.metadata.now c.first_progress-progress.result
       c.args.buf.now c.first_progress-progress.ensures,
 )
 
@@ -46,7 +46,7 @@ loop-progress-preserved c =
       c.requires.0.few,
     )) in
     let w =
-    turn_stored a.dialect a.event.now a.facts a.types.now a.metadata.now c.loop-progress.progress c.next_entry-turn.result c.loop-progress.buf _ _
+    turn_stored a.self.now.dialect a.self.now.event.now a.self.now.facts a.self.now.types.now a.self.now.metadata.now c.loop-progress.progress c.next_entry-turn.result c.loop-progress.buf _ _
     c.next_entry-turn.ensures c.loop-progress-test.true
     (omega (
       arith,
@@ -65,5 +65,5 @@ shape_of-buf c = c.loop-progress.invariant.2
 pub returns : goal.returns
 returns c =
     let a = c.args in
-    all_stored a.dialect a.event.now a.facts a.types.now a.metadata.now c.loop-progress.progress c.loop-progress.buf _ _ c.loop-progress-test.false
+    all_stored a.self.now.dialect a.self.now.event.now a.self.now.facts a.self.now.types.now a.self.now.metadata.now c.loop-progress.progress c.loop-progress.buf _ _ c.loop-progress-test.false
     c.loop-progress.invariant.3

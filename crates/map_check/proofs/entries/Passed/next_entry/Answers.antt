@@ -1,4 +1,4 @@
--- `map_check::entries::next_entry` meets its contract. Assumes nothing.
+-- `map_check::entries::Passed::next_entry` meets its contract. Assumes nothing.
 use mathlib.Core.Path.{refl, ◌∙◌}
 use native.Mathlib.Omega.{arith}
 use lib.ListN.{get_or}
@@ -6,25 +6,17 @@ use Rattle.value.specs.Types.{family_of}
 use Rattle.map_check.proofs.ColumnLaws.Declares.{cut_capped}
 use Rattle.map_check.proofs.ColumnLaws.Counts.{at_most_wider}
 use Rattle.map_check.proofs.EntryLaws.Making.{few_metadata, came}
-use Rattle.map_check.proofs.entries.next_entry.Goals as goal
+use Rattle.map_check.proofs.entries.Passed.next_entry.Goals as goal
 
-pub overflow_add-next : goal.overflow_add-next
-overflow_add-next c =
-    omega (
-      arith,
-      c.requires.0,
-      c.requires.1,
-    )
-
-pub overflow_add-next-2 : goal.overflow_add-next-2
-overflow_add-next-2 c =
+pub overflow_add-result-2 : goal.overflow_add-result-2
+overflow_add-result-2 c =
     omega (
       arith,
       c.requires.0,
       c.requires.1,
       c.requires.2.metadata,
       c.metadata_bytes.ensures,
-      few_metadata (family_of (get_or c.args.types.now c.args.progress.place.0 0)),
+      few_metadata (family_of (get_or c.args.self.now.types.now c.args.progress.place.0 0)),
     )
 
 pub ranks_after-requires : goal.ranks_after-requires
@@ -40,14 +32,14 @@ pub returns : goal.returns
 returns c =
     let a =
     c.args in
-    came a.dialect a.event.now a.facts a.types.now a.metadata.now a.progress
+    came a.self.now.dialect a.self.now.event.now a.self.now.facts a.self.now.types.now a.self.now.metadata.now a.progress
     c.declare-column.result
     c.charset_if-character.result
     c.charset_if-choice.result _
     c.requires.0
     c.requires.2
     (record {
-      column = c.declare-column.ensures ∙ rw (cut_capped c.args.progress.metadata c.min.result c.args.metadata.now c.min.ensures);
+      column = c.declare-column.ensures ∙ rw (cut_capped c.args.progress.metadata c.min.result c.args.self.now.metadata.now c.min.ensures);
       character =
           rw (← c.has_charset-counted.ensures)
           c.charset_if-character.ensures;
@@ -55,7 +47,7 @@ returns c =
           rw (← c.is_enum_or_set-chosen.ensures)
           c.charset_if-choice.ensures;
       entry =
-          c.entry_with-entry.ensures
+          c.entry_with.ensures
           ∙ rw c.pick_charset-charset.ensures;
       place = refl;
       metadata = rw c.metadata_bytes.ensures;

@@ -1,10 +1,10 @@
--- `map_check::entries::first_progress` meets its contract. Assumes nothing.
+-- `map_check::entries::Passed::first_progress` meets its contract. Assumes nothing.
 use Rattle.std.proofs.Common.{rules}
 use mathlib.Core.Path.{◌≡◌, refl}
 use Rattle.map_check.specs.Ranks.{no_ranks}
 use native.Mathlib.Omega.{arith}
 use Rattle.map_check.proofs.ColumnLaws.Counts.{at_most_none}
-use Rattle.map_check.proofs.entries.first_progress.Goals as goal
+use Rattle.map_check.proofs.entries.Passed.first_progress.Goals as goal
 
 pub returns : goal.returns
 returns c =
