@@ -9,7 +9,7 @@ use lib.ListN.{length}
 use lib.Dec.{leb, ltb, eqb}
 use Rattle.wire.specs.Outcome.{Outcome, ok, refused, refuse, after, why}
 use Rattle.wire.specs.Bits.{bytes_for}
-use Rattle.wire.specs.Stored.{answer_of}
+use Rattle.wire.specs.Stored.{answer_of, left_of}
 use Rattle.wire.proofs.Outcomes.{both_true, same_ok, after_is_ok, test_is_ok}
 use Rattle.record.specs.Records.{most_columns, count_of, record_valid, read_record}
 use Rattle.record.proofs.Valid.{valid_few, read_valid}
@@ -28,7 +28,6 @@ use Rattle.blocks.specs.Fits.{is_counted, is_fit}
 use Rattle.blocks.specs.Gives.{Handed, parted, give_long, give_in, given_fit, head_carry, give_block}
 use Rattle.blocks.specs.Ends.{end_in, ended_fit, end_blocks}
 use Rattle.blocks.specs.Inner.Hands.{Sits, end_open}
-use Rattle.blocks.proofs.Values.{Answers}
 use Rattle.blocks.proofs.Heldings.{end_open_is}
 
 -- the tests for 11, 12 and 20 were passed
@@ -81,6 +80,9 @@ module _ (r p carry : List ℕ) (n nb : ℕ) (at : Arriving) where
     held_fits len g h = omega (arith, (fit_numbered e f).fits)
 
 -- ---- the calls behind the tests
+abbrev pub Answers : Outcome Handed → List ℕ → Outcome BlockGiven → List ℕ → Type 0
+Answers o carry g c = (g ≡ answer_of o) × (c ≡ left_of o carry)
+
 abbrev parts : Arriving → ℕ → ℕ → List ℕ → Bool → Bool → Outcome Handed
 parts at nb n c x z =
     cond x (parted at c more 0 at)

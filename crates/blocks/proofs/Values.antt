@@ -12,7 +12,6 @@ use lib.Dec.{eqb}
 use Rattle.std.proofs.lemmas.List.{drop-take}
 use Rattle.wire.specs.declared.refusal.Refusal.{Refusal}
 use Rattle.wire.specs.Outcome.{Outcome, ok, refused, after, out_of}
-use Rattle.wire.specs.Stored.{stored, answer_of, left_of}
 use Rattle.wire.proofs.Outcomes.{ok_not_refused, same_ok, same_refused}
 use Rattle.wire.proofs.Stores.{stored_none}
 use Rattle.temporal.specs.declared.storage.Storage.{Storage}
@@ -24,7 +23,7 @@ use Rattle.value.specs.declared.shape.Shape.TheVariants.{NotTaken}
 use Rattle.value.specs.declared.column.Column.{Column}
 use Rattle.value.specs.declared.datum.Value.{Value}
 use Rattle.value.specs.Data.{Datum, temporal}
-use Rattle.value.specs.Columns.{shape_of}
+use Rattle.value.specs.Columns.{shape_of, is_taken}
 use Rattle.value.specs.Shapes.{need, decode, fault, prefix}
 use Rattle.value.specs.Reading.{judged, read_datum, read_value, placed}
 use Rattle.value.proofs.Facts.{need_take}
@@ -32,26 +31,13 @@ use Rattle.value.proofs.Laws.{reads}
 use Rattle.value.proofs.Tables.{sized}
 use Rattle.value.proofs.Appends.{prefix_within, need_more}
 use Rattle.blocks.specs.declared.state.Arriving.{Arriving}
-use Rattle.blocks.specs.States.{opened, longed, Arrived, value, long, BlockGiven}
+use Rattle.blocks.specs.States.{opened, longed, value, long}
 use Rattle.blocks.specs.Turns.{TurnSaid, wait, long as long₁, whole, turn_of}
 use Rattle.blocks.specs.Gives.{Handed, commit, used_to, waiting, by_turn}
-use Rattle.blocks.specs.Inner.Hands.{Heads, turn_by, value_over, took_by, standing, Holds, Wholes}
+use Rattle.blocks.specs.Inner.Hands.{Heads, turn_by, value_over, Holds, Wholes}
 use Rattle.blocks.proofs.Carries.{carried, carried_length, carried_before}
 use Rattle.blocks.proofs.Turned.{not_long, prefix_most, read_whole, turn_wait, turn_long, turn_whole}
 use Rattle.blocks.proofs.Hands.{heads_take, turn_head}
-
--- ---- answers that take bytes up to `upto`
-abbrev pub Answers : Outcome Handed → List ℕ → Outcome BlockGiven → List ℕ → Type 0
-Answers o carry g c = (g ≡ answer_of o) × (c ≡ left_of o carry)
-
-module _ (at : Arriving) (carry block : List ℕ) (o : Outcome Handed) (upto : ℕ) where
-  pub open_answer : (a : Arrived) (j h : ℕ) {g : BlockGiven} {c : List ℕ} {next : Arriving}
-      → o ≡ ok (commit at carry block upto a (opened j h (used_to at upto))) → next ≡ standing j h
-      → (g ≡ took_by at (upto - at.held) a next) × (c ≡ stored (take (upto - at.held) block) carry at.held)
-      → Answers o carry (ok g) c
-  unfolding commit
-  open_answer a j h {g} {c} {next} e f w =
-      rw e (ap ok (w.0 ∙ ap (took_by at (upto - at.held) a) f), w.1)
 
 -- ---- a value that is whole
 -- no value but a temporal is refused
@@ -67,7 +53,8 @@ no_fault (Fixed n) h b = refl
 no_fault (Counted k) h b = refl
 no_fault (NotTaken n) h b = refl
 
-module _ (sh : Shape) (carry block : List ℕ) (nb : ℕ) (at : Arriving) (j n : ℕ) (w : Wholes sh carry block nb at j n) where
+module _ (sh : Shape) (carry block : List ℕ) (nb : ℕ) (at : Arriving) (j n : ℕ) (w : Wholes sh carry block nb at n)
+    (u : is_taken sh ≡ true) where
   abbrev y : List ℕ
   y = take at.held carry ++ block
 
@@ -132,7 +119,7 @@ module _ (sh : Shape) (carry block : List ℕ) (nb : ℕ) (at : Arriving) (j n :
 
     read_is : read_value sh j c nb ≡ ok (placed (nb + n) (decode sh (take n x)), nb + n)
     unfolding read_value
-    read_is = rw (reads sh j (drop nb c) n w.taken c_need c_there (z (take n (drop nb c))), bytes_are)
+    read_is = rw (reads sh j (drop nb c) n u c_need c_there (z (take n (drop nb c))), bytes_are)
 
     pub stored_got : {v : Value} {m : ℕ} → read_value sh j c nb ≡ ok (v, m)
         → by_turn nb sh j x at carry block (whole n)
@@ -149,14 +136,14 @@ module _ (sh : Shape) (carry block : List ℕ) (nb : ℕ) (at : Arriving) (j n :
   module _ (k : Storage) (s : sh ≡ Timed k) (head : List ℕ) (h : Heads y nb head 8) where
     n_is : n ≡ temporal_size k
     unfolding need
-    n_is = sym w.size ∙ ap (λ (u : Shape). need u x) s
+    n_is = sym w.size ∙ ap (λ (z : Shape). need z x) s
 
     head_bytes : take n head ≡ take n x
     head_bytes = heads_take y nb head n h (omega (arith, n_is, size_most k)) (omega (arith, y_length, w.high))
 
     head_need : need sh head ≡ n
     unfolding need
-    head_need = ap (λ (u : Shape). need u head) s ∙ sym n_is
+    head_need = ap (λ (z : Shape). need z head) s ∙ sym n_is
 
     head_there : n ≤ length head
     head_there = omega (arith, n_is, size_most k, h.size)
@@ -164,7 +151,7 @@ module _ (sh : Shape) (carry block : List ℕ) (nb : ℕ) (at : Arriving) (j n :
     head_read : read_datum sh j head ≡ after {A = Datum} {B = Datum × ℕ} (judged sh j (take n x)) (λ d. ok (d, n))
     head_read =
         ap (read_datum sh j) (sym (append-nil head))
-        ∙ read_whole sh j head [] w.taken (omega (arith, head_need, head_there))
+        ∙ read_whole sh j head [] u (omega (arith, head_need, head_there))
         ∙ rw (head_need, head_bytes)
 
     -- a temporal does not name its place
@@ -172,7 +159,7 @@ module _ (sh : Shape) (carry block : List ℕ) (nb : ℕ) (at : Arriving) (j n :
         ≡ cond (eqb (temporal_fault k (take n x)) 0) (ok (temporal (temporal_decode k (take n x))))
         (refused (out_of j (temporal_fault k (take n x))))
     unfolding judged fault decode
-    judged_timed = ap (λ (u : Shape). judged u j (take n x)) s
+    judged_timed = ap (λ (z : Shape). judged z j (take n x)) s
 
     timed_read : read_value sh j head 0 ≡ after {A = Datum} {B = Value × ℕ} (judged sh j (take n x)) (λ d. ok (placed (0 + n) d, 0 + n))
     unfolding read_value
@@ -212,13 +199,13 @@ module _ (sh : Shape) (carry block : List ℕ) (nb : ℕ) (at : Arriving) (j n :
         go (ok d) f =
             let r : read_value sh j head 0 ≡ ok (placed (0 + n) d, 0 + n) = timed_read ∙ rw f in
             absurd (ok_not_refused (sym r ∙ e))
-        go (refused u) f =
-            let r : read_value sh j head 0 ≡ refused u = timed_read ∙ rw f in
+        go (refused v') f =
+            let r : read_value sh j head 0 ≡ refused v' = timed_read ∙ rw f in
             rw f (ap refused (same_refused (sym r ∙ e)))
 
 -- ---- a value that is not NULL: `t` is what the code found of its head
-module _ {kind : Column} (carry block : List ℕ) {head : List ℕ} {nb : ℕ} {at : Arriving} {j : ℕ}
-    (q : Holds (length carry) (length block) nb at j kind) (h : Heads (take at.held carry ++ block) nb head 8)
+module _ (kind : Column) (carry block : List ℕ) {head : List ℕ} {nb : ℕ} {at : Arriving}
+    (q : Holds (length carry) (length block) nb at) (h : Heads (take at.held carry ++ block) nb head 8)
     {shape : Shape} (is_shape : shape ≡ shape_of kind) {t : TurnSaid}
     (found : t ≡ turn_by (length carry - nb) (prefix shape) (at.held + length block - nb) (need shape head)) where
   abbrev sh : Shape
@@ -260,9 +247,9 @@ module _ {kind : Column} (carry block : List ℕ) {head : List ℕ} {nb : ℕ} {
       (λ k. omega (arith, prefix_most sh (sized kind), q.room)) in
       omega (arith, rest_length, q.room)
 
-  pub wait_answer : t ≡ wait → value_over nb sh j at carry block ≡ waiting at carry block j
+  pub wait_answer : (j : ℕ) → t ≡ wait → value_over nb sh j at carry block ≡ waiting at carry block j
   unfolding value_over by_turn
-  wait_answer e = rw (turn_is ∙ e)
+  wait_answer j e = rw (turn_is ∙ e)
 
   module _ {n : ℕ} where
     pub long_fits : t ≡ long₁ n → (nb + prefix shape ≤ length carry) × (nb + prefix shape ≤ at.held + length block)
@@ -270,12 +257,12 @@ module _ {kind : Column} (carry block : List ℕ) {head : List ℕ} {nb : ℕ} {
         let w = turn_long space sh rest n (turn_is ∙ e) in
         (omega (arith, prefix_few, q.room), omega (arith, prefix_is, w.0.there, rest_length, q.there))
 
-    pub long_answers : t ≡ long₁ n → value_over nb sh j at carry block
+    pub long_answers : (j : ℕ) → t ≡ long₁ n → value_over nb sh j at carry block
         ≡ ok (commit at carry block (nb + prefix shape) (long j n) (longed j (nb + prefix shape) n (used_to at (nb + prefix shape))))
     unfolding value_over by_turn
-    long_answers e = rw (turn_is ∙ e, prefix_is)
+    long_answers j e = rw (turn_is ∙ e, prefix_is)
 
-    pub whole_fits : t ≡ whole n → Wholes sh carry block nb at j n
+    pub whole_fits : t ≡ whole n → Wholes sh carry block nb at n
     whole_fits e =
         let w = turn_whole space sh rest n (turn_is ∙ e) in
         let m = not_long space sh rest w.0 (omega (arith, prefix_within sh rest, w.1)) in
@@ -284,14 +271,12 @@ module _ {kind : Column} (carry block : List ℕ) {head : List ℕ} {nb : ℕ} {
           there = q.there;
           upto = omega (arith, m, w.2, q.room);
           high = omega (arith, w.1, w.2, rest_length, q.there);
-          column = q.column;
-          taken = q.taken;
           size = w.2;
         }
 
-    pub whole_answers : t ≡ whole n → value_over nb sh j at carry block ≡ by_turn nb sh j rest at carry block (whole n)
+    pub whole_answers : (j : ℕ) → t ≡ whole n → value_over nb sh j at carry block ≡ by_turn nb sh j rest at carry block (whole n)
     unfolding value_over
-    whole_answers e = rw (turn_is ∙ e)
+    whole_answers j e = rw (turn_is ∙ e)
 
 -- what the three turns answer
 pub ruleset turn_answers = (wait_answer, long_answers, whole_answers)

@@ -5,7 +5,8 @@ ghost use Rattle.blocks.specs.Inner.Hands.{took_by};
 
 use crate::state::{Arrival, Arriving, BlockGiven};
 
-// Neither the bytes used nor those at hand can become too many to be counted.
+// Neither the bytes used nor those at hand can become too many to be counted. The carry goes beside it: in a struct that held it as `&mut`
+// each contract would have to say that it stays the same reference.
 #[derive(Clone, Copy)]
 pub(crate) struct Call<'a> {
     pub at: Arriving,

@@ -38,7 +38,7 @@ fn is_counted(lent: Lent, len: usize, at: Arriving) -> bool
         && is_within(lent, at.used)
 }
 
-// No image takes more bytes than there is room for.
+// No image takes more bytes than there is room for. `as`, since u64 has no From<usize>.
 #[tactic(auto, using(crate::proofs::Seats::in_room, crate::proofs::Seats::not_refused))]
 fn is_within(lent: Lent, used: usize) -> bool
     ensures { let l = lent.entry in result ≡ leb used (image_room l.profile.now l.presence.now) }
@@ -81,8 +81,8 @@ impl<'a> Seat<'a> {
         }
     }
 
-    // How the value in progress is stored: that of the state's column, if this is a present one and not NULL. Else no shape is taken, and
-    // nothing waits.
+    // How the value in progress is stored: that of the state's column, if this is a present one and not NULL. Else it is NotTaken and no
+    // None, since turn_of and prefix_of read that as it is: nothing waits.
     #[tactic(auto, using(wire::proofs::Rules::tests), unfolding(crate::specs::Inner::Hands::held_shape, image::specs::Present::shape_at))]
     fn held_shape(self) -> Shape
         ensures { let s = self.entry in let l = s.lent in

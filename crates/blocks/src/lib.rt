@@ -2,6 +2,7 @@
 #![tactic(auto)]
 
 mod call;
+mod due;
 mod end;
 mod fit;
 mod give;

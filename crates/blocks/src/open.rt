@@ -9,14 +9,16 @@ ghost use Rattle.blocks.specs.Gives.{by_turn, at_hand, give_open};
 ghost use Rattle.blocks.specs.Inner.Hands.{Heads, value_over, Sits, Holds, Wholes};
 
 use crate::call::Call;
+use crate::due::Due;
 use crate::hand::Hand;
 use crate::lent::Lent;
 use crate::state::{Arrival, Arriving, BlockGiven, longing, standing};
 use crate::turn::{Turn, prefix_of, turn_of};
 use image::Head;
-use value::{Column, Shape};
+use value::Shape;
 use wire::Refusal;
 
+#[tactic(auto, using(crate::proofs::Sitting::open_answers), unfolding(crate::specs::Gives::commit))]
 pub(crate) fn give_open(lent: Lent, carry: &mut [u8], call: Call) -> Result<BlockGiven, Refusal>
     requires { Sits (length carry.old) lent.head.columns lent.head.nulls call.at }
     ensures value { let l = lent.entry in let c = call.entry in
@@ -44,24 +46,29 @@ pub(crate) fn give_open(lent: Lent, carry: &mut [u8], call: Call) -> Result<Bloc
         let null = Arrival::Null { column: found };
         return Ok(call.take_to(carry, nulls, null, standing(found + 1, nulls)));
     }
-    let kind = record::column_of(record::entry_in(lent.profile, found));
-    give_value(carry, call, nulls, found, kind)
+    let due = Due {
+        call,
+        nulls,
+        column: found,
+        kind: record::column_of(record::entry_in(lent.profile, found)),
+    };
+    give_value(carry, due)
 }
 
 #[tactic(auto, using(crate::proofs::Values::turn_answers), unfolding(crate::specs::Gives::commit))]
-fn give_value(
-    carry: &mut [u8],
-    call: Call,
-    nulls: usize,
-    found: usize,
-    kind: Column,
-) -> Result<BlockGiven, Refusal>
-    requires { Holds (length carry.old) (length call.block.now) nulls call.at found kind }
-    ensures value { let c = call.entry in
-        result ≡ answer_of (value_over nulls (shape_of kind) found c.at carry.old c.block.now) }
-    ensures carry_after { let c = call.entry in
-        carry.new ≡ left_of (value_over nulls (shape_of kind) found c.at carry.old c.block.now) carry.old }
+fn give_value(carry: &mut [u8], due: Due) -> Result<BlockGiven, Refusal>
+    requires { Holds (length carry.old) (length due.call.block.now) due.nulls due.call.at }
+    ensures value { let d = due.entry in
+        result ≡ answer_of (value_over d.nulls (shape_of d.kind) d.column d.call.at carry.old d.call.block.now) }
+    ensures carry_after { let d = due.entry in
+        carry.new ≡ left_of (value_over d.nulls (shape_of d.kind) d.column d.call.at carry.old d.call.block.now) carry.old }
 {
+    let Due {
+        call,
+        nulls,
+        column,
+        kind,
+    } = due;
     let shape = value::shape_of(kind);
     let held = call.at.held;
     let len = held + call.block.len();
@@ -72,69 +79,49 @@ fn give_value(
     let head = hand.head(nulls);
     let room = carry.len() - nulls;
     match turn_of(shape, &head, len - nulls, room) {
-        Turn::Wait => Ok(call.take_to(carry, len, Arrival::More, standing(found, len))),
-        Turn::Long(n) => {
+        Turn::Wait => Ok(call.take_to(carry, len, Arrival::More, standing(column, len))),
+        Turn::Long(len) => {
             let upto = nulls + prefix_of(shape);
-            let long = Arrival::Long {
-                column: found,
-                len: n,
-            };
-            Ok(call.take_to(carry, upto, long, longing(found, upto, n)))
+            let long = Arrival::Long { column, len };
+            Ok(call.take_to(carry, upto, long, longing(column, upto, len)))
         }
         Turn::Whole(n) => match shape {
-            Shape::Timed(_) => give_timed(carry, call, nulls, found, kind, &head, n),
-            _ => give_stored(carry, call, nulls, found, kind, n),
+            Shape::Timed(_) => give_timed(carry, due, &head, n),
+            _ => give_stored(carry, due, n),
         },
     }
 }
 
 // A temporal may be refused, so it is judged before its bytes are stored. They are all in the head.
 #[tactic(auto, using(crate::proofs::Values::timed_got, crate::proofs::Values::timed_not), unfolding(crate::specs::Gives::commit))]
-fn give_timed(
-    carry: &mut [u8],
-    call: Call,
-    nulls: usize,
-    found: usize,
-    kind: Column,
-    head: &[u8],
-    n: usize,
-) -> Result<BlockGiven, Refusal>
-    requires { Wholes (shape_of kind) carry.old call.block.now nulls call.at found n
-        × ((k : Storage) × (shape_of kind ≡ Shape.Timed k)) × Heads (at_hand call.at carry.old call.block.now) nulls head.now 8 }
-    ensures value { let c = call.entry in let x = drop nulls (at_hand c.at carry.old c.block.now) in
-        result ≡ answer_of (by_turn nulls (shape_of kind) found x c.at carry.old c.block.now (whole n)) }
-    ensures carry_after { let c = call.entry in let x = drop nulls (at_hand c.at carry.old c.block.now) in
-        carry.new ≡ left_of (by_turn nulls (shape_of kind) found x c.at carry.old c.block.now (whole n)) carry.old }
+fn give_timed(carry: &mut [u8], due: Due, head: &[u8], n: usize) -> Result<BlockGiven, Refusal>
+    requires { Wholes (shape_of due.kind) carry.old due.call.block.now due.nulls due.call.at n
+        × ((k : Storage) × (shape_of due.kind ≡ Shape.Timed k))
+        × Heads (at_hand due.call.at carry.old due.call.block.now) due.nulls head.now 8 }
+    ensures value { let d = due.entry in let x = drop d.nulls (at_hand d.call.at carry.old d.call.block.now) in
+        result ≡ answer_of (by_turn d.nulls (shape_of d.kind) d.column x d.call.at carry.old d.call.block.now (whole n)) }
+    ensures carry_after { let d = due.entry in let x = drop d.nulls (at_hand d.call.at carry.old d.call.block.now) in
+        carry.new ≡ left_of (by_turn d.nulls (shape_of d.kind) d.column x d.call.at carry.old d.call.block.now (whole n)) carry.old }
 {
-    let (value, _) = value::read_value(kind, head, 0, found)?;
-    let arrival = Arrival::Value {
-        column: found,
-        value,
-    };
-    Ok(call.take_to(carry, nulls + n, arrival, standing(found + 1, nulls)))
+    let column = due.column;
+    let (value, _) = value::read_value(due.kind, head, 0, column)?;
+    let next = standing(column + 1, due.nulls);
+    Ok(due.call.take_to(carry, due.nulls + n, Arrival::Value { column, value }, next))
 }
 
 // No other value is refused, so it is stored, and then read where it stands.
 #[tactic(auto, using(crate::proofs::Values::stored_got, crate::proofs::Values::stored_not), unfolding(crate::specs::Gives::commit))]
-fn give_stored(
-    carry: &mut [u8],
-    call: Call,
-    nulls: usize,
-    found: usize,
-    kind: Column,
-    n: usize,
-) -> Result<BlockGiven, Refusal>
-    requires { Wholes (shape_of kind) carry.old call.block.now nulls call.at found n × ((b : List ℕ) → fault (shape_of kind) b ≡ 0) }
-    ensures value { let c = call.entry in let x = drop nulls (at_hand c.at carry.old c.block.now) in
-        result ≡ answer_of (by_turn nulls (shape_of kind) found x c.at carry.old c.block.now (whole n)) }
-    ensures carry_after { let c = call.entry in let x = drop nulls (at_hand c.at carry.old c.block.now) in
-        carry.new ≡ left_of (by_turn nulls (shape_of kind) found x c.at carry.old c.block.now (whole n)) carry.old }
+fn give_stored(carry: &mut [u8], due: Due, n: usize) -> Result<BlockGiven, Refusal>
+    requires { Wholes (shape_of due.kind) carry.old due.call.block.now due.nulls due.call.at n
+        × ((b : List ℕ) → fault (shape_of due.kind) b ≡ 0) }
+    ensures value { let d = due.entry in let x = drop d.nulls (at_hand d.call.at carry.old d.call.block.now) in
+        result ≡ answer_of (by_turn d.nulls (shape_of d.kind) d.column x d.call.at carry.old d.call.block.now (whole n)) }
+    ensures carry_after { let d = due.entry in let x = drop d.nulls (at_hand d.call.at carry.old d.call.block.now) in
+        carry.new ≡ left_of (by_turn d.nulls (shape_of d.kind) d.column x d.call.at carry.old d.call.block.now (whole n)) carry.old }
 {
-    let taken = call.commit(carry, nulls + n);
-    let (value, _) = value::read_value(kind, carry, nulls, found)?;
-    let arrival = Arrival::Value {
-        column: found,
-        value,
-    };
-    Ok(call.took(taken, arrival, standing(found + 1, nulls)))
+    let column = due.column;
+    let taken = due.call.commit(carry, due.nulls + n);
+    let (value, _) = value::read_value(due.kind, carry, due.nulls, column)?;
+    let next = standing(column + 1, due.nulls);
+    Ok(due.call.took(taken, Arrival::Value { column, value }, next))
 }

@@ -43,7 +43,8 @@ pub struct Given {
     pub next: Arriving,
 }
 
-// The same where nothing is refused: public, since the statements of crates above name it.
+// The same where nothing is refused: public, since the statements of crates above name it. Two structs, and no generic one: callers name
+// `Given`, and would have to write `Given<Result<Arrival, Refusal>>`.
 #[derive(Clone, Copy, Debug, PartialEq, Eq)]
 pub struct BlockGiven {
     pub arrival: Arrival,

@@ -42,6 +42,7 @@ pub(crate) fn need_of(shape: Shape, head: &[u8]) -> usize
     }
 }
 
+// At most four bytes tell a length, so `as` loses nothing; a TryFrom would need an answer for what cannot be.
 #[tactic(auto, using(crate::proofs::Hands::count_is))]
 fn counted_need(k: usize, head: &[u8]) -> usize
     requires { k ≤ 4 }

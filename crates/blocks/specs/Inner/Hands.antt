@@ -1,11 +1,9 @@
 -- What the functions over the bytes at hand answer, and what they count on. Assumes nothing.
-use Rattle.std.specs.Prelude.{ℕ, zero, suc, ◌+◌, ◌-◌, ◌≤◌, ◌<◌, ◌≡◌, true, cond, ◌&&◌, List, length, get_or, take, drop, leb, ltb, eqb}
+use Rattle.std.specs.Prelude.{ℕ, zero, suc, ◌+◌, ◌-◌, ◌≤◌, ◌<◌, ◌≡◌, cond, ◌&&◌, List, length, get_or, take, drop, leb, ltb, eqb}
 use Rattle.wire.specs.Bits.{bit_lsb0}
 use Rattle.wire.specs.Outcome.{Outcome, ok, refuse}
 use Rattle.value.specs.declared.shape.Shape.{Shape}
 use Rattle.value.specs.declared.shape.Shape.TheVariants.{NotTaken}
-use Rattle.value.specs.declared.column.Column.{Column}
-use Rattle.value.specs.Columns.{shape_of, is_taken}
 use Rattle.value.specs.Shapes.{need}
 use Rattle.image.specs.Present.{count_bits, shape_at}
 use Rattle.blocks.specs.declared.state.Phase.TheVariants.{Open, Long}
@@ -51,23 +49,19 @@ pub record Sits (carry columns nulls : ℕ) (at : Arriving) : Type 0 where
   pub among : at.column ≤ columns
   pub fits : at.held ≤ carry
 
--- and, the null bits being there, the column found is one that is not NULL
-pub record Holds (carry block nulls : ℕ) (at : Arriving) (found : ℕ) (kind : Column) : Type 0 where
+-- and, the null bits being there, a value is due
+pub record Holds (carry block nulls : ℕ) (at : Arriving) : Type 0 where
   pub room : nulls + 64 ≤ carry
   pub narrow : nulls < 65536
   pub there : nulls ≤ at.held + block
   pub fits : at.held ≤ carry
-  pub column : found < 65536
-  pub taken : is_taken (shape_of kind) ≡ true
 
 -- a value that is whole: its n bytes are at hand, and there is room for them
-pub record Wholes (sh : Shape) (carry block : List ℕ) (nulls : ℕ) (at : Arriving) (found n : ℕ) : Type 0 where
+pub record Wholes (sh : Shape) (carry block : List ℕ) (nulls : ℕ) (at : Arriving) (n : ℕ) : Type 0 where
   pub fits : at.held ≤ length carry
   pub there : nulls ≤ at.held + length block
   pub upto : nulls + n ≤ length carry
   pub high : nulls + n ≤ at.held + length block
-  pub column : found < 65536
-  pub taken : is_taken sh ≡ true
   pub size : need sh (drop nulls (at_hand at carry block)) ≡ n
 
 -- ---- fit states
