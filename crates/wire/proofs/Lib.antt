@@ -16,3 +16,4 @@ pub mod Forms
 pub mod Layouts
 pub mod Appends
 pub mod Moves
+pub mod Turns
