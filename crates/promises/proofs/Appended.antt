@@ -33,7 +33,8 @@ use Rattle.table_map.proofs.FieldMoves.{cut_moved, field_moved, value_same}
 use Rattle.record.specs.Entries.{flags_hold, charset_holds, entry_holds, entry_of}
 use Rattle.record.specs.Records.{entry_in, entries_hold, head_holds, record_valid, read_record}
 use Rattle.image.specs.Present.{count_bits, shape_at, present_from}
-use Rattle.image.specs.Split.{ColumnStepped, cursor, end as image_end, slots, slots_at, head_of, first_cursor, slots_left, step_over, step_from}
+use Rattle.image.specs.declared.step.Step.TheVariants.{End as image_end}
+use Rattle.image.specs.Split.{ColumnStepped, cursor, slots, slots_at, head_of, first_cursor, slots_left, step_over, step_from}
 use Rattle.image.specs.Walk.{read_slot, read_slots, walk_from, walk_image}
 use Rattle.image.specs.Grown.{Later, Grows, same, more}
 use Rattle.image.proofs.AppendLaws.GrownSteps.{step_more, step_filled}

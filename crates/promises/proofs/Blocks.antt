@@ -17,7 +17,9 @@ use Rattle.image.specs.Rows.{Says}
 use Rattle.image.proofs.CursorLaws.Heads.{Over, head_is}
 use Rattle.image.proofs.EndLaws.Images.{every_image, every_row}
 use Rattle.blocks.specs.declared.state.Arriving.{Arriving}
-use Rattle.blocks.specs.States.{begun, Arrived, more, long, part, BlockGiven}
+use Rattle.blocks.specs.declared.state.Arrival.TheVariants.{More as more, Long as long, Part as part}
+use Rattle.blocks.specs.declared.state.BlockGiven.{BlockGiven}
+use Rattle.blocks.specs.States.{begun, Arrived}
 use Rattle.blocks.specs.Gives.{head_carry, give_block, begin_blocks}
 use Rattle.blocks.specs.Ends.{end_blocks}
 use Rattle.blocks.specs.Streams.{Stream}

@@ -2,7 +2,7 @@
 -- caller, who sees a status, the numbers and the bytes lent. A call stands here by the answer that its contract hands to `status_of`,
 -- `numbers_left` and `bytes_left`, whatever it is lent. `abi` in proofs/Demand1/Abi.antt proves all of it. Assumes nothing.
 use Rattle.std.specs.Prelude.{ℕ, ◌+◌, ◌≤◌, ◌<◌, ◌≡◌, true, false, List, [], ◌∷◌, ◌++◌, length, get_or, take, drop}
-use Rattle.std.proofs.Math.Option.{none, some}
+use Rattle.std.specs.Prelude.{None as none, Some as some}
 use Rattle.wire.specs.declared.refusal.Refusal.{Refusal}
 use Rattle.wire.specs.Outcome.{Outcome, ok, refused, refuse}
 use Rattle.wire.specs.Number.{Bytes, is_among}
@@ -18,7 +18,8 @@ use Rattle.record.specs.Records.{count_of, entry_at}
 use Rattle.map_check.specs.Check.{check_map}
 use Rattle.map_check.specs.Names.{list_of, names_field}
 use Rattle.image.specs.declared.cursor.Cursor.{Cursor}
-use Rattle.image.specs.Split.{null, value, step_from}
+use Rattle.image.specs.declared.step.Step.TheVariants.{Null as null, Value as value}
+use Rattle.image.specs.Split.{step_from}
 use Rattle.blocks.specs.declared.state.Arriving.{Arriving}
 use Rattle.row_plan.specs.Plan.{row_cursor}
 use Rattle.row_plan.specs.Runs.{turned}

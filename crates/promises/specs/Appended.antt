@@ -18,7 +18,8 @@ use Rattle.table_map.specs.Fields.{cut_field, field_item, field_step}
 use Rattle.record.specs.Records.{count_of}
 use Rattle.image.specs.declared.cursor.Cursor.{Cursor}
 use Rattle.image.specs.Present.{count_bits}
-use Rattle.image.specs.Split.{ColumnStepped, cursor, end as image_end, step_from}
+use Rattle.image.specs.declared.step.Step.TheVariants.{End as image_end}
+use Rattle.image.specs.Split.{ColumnStepped, cursor, step_from}
 use Rattle.image.specs.Walk.{walk_image}
 use Rattle.image.specs.Grown.{Later, Filled, Grows}
 use Rattle.rows_event.specs.Events.{read_rows}

@@ -13,8 +13,9 @@ use Rattle.image.specs.Walk.{walk_image}
 use Rattle.image.specs.Rows.{Row, in_domains, row_bytes, answers_of, Marks, Says}
 use Rattle.blocks.specs.declared.state.Phase.TheVariants.{Closed}
 use Rattle.blocks.specs.declared.state.Arriving.{Arriving}
-use Rattle.blocks.specs.declared.state.Arrival.TheVariants.{End, Refused}
-use Rattle.blocks.specs.States.{begun, more, long, part, end, BlockGiven, shut_with, given_of, ended_of}
+use Rattle.blocks.specs.declared.state.Arrival.TheVariants.{More as more, Long as long, Part as part, End as end}
+use Rattle.blocks.specs.declared.state.BlockGiven.{BlockGiven}
+use Rattle.blocks.specs.States.{begun, shut_with, given_of, ended_of}
 use Rattle.blocks.specs.Fits.{is_fit}
 use Rattle.blocks.specs.Gives.{give_block, begin_blocks}
 use Rattle.blocks.specs.Ends.{end_blocks}
@@ -103,8 +104,8 @@ pub record Blocks : Type 0 where
       × (begin_blocks profile presence carry ≡ refuse 20 0)
   -- "21 for any call after the end call or a refusal": both hand back the closed state and take nothing, and with that state the next call
   -- is 21
-  pub refusal_closes : (w : Refusal) → given_of (refused w) ≡ shut_with (Refused w)
-  pub end_closes : (used : ℕ) → ended_of (ok used) ≡ shut_with (End used)
+  pub refusal_closes : (w : Refusal) → given_of (refused w) ≡ shut_with (refused w)
+  pub end_closes : (used : ℕ) → ended_of (ok used) ≡ shut_with (ok (end used))
   pub closed_refused : (profile presence : List ℕ) (st : Arriving) (carry block : List ℕ) → Under profile presence → 1024 ≤ length carry
       → st.phase ≡ Closed
       → (give_block profile presence st carry block ≡ refuse 21 0) × (end_blocks profile presence st carry ≡ refuse 21 0)

@@ -18,7 +18,7 @@ use Rattle.map_check.specs.Check.{check}
 use Rattle.image.specs.declared.cursor.Cursor.{Cursor}
 use Rattle.image.specs.Puts.{start_image, put_from}
 use Rattle.blocks.specs.declared.state.Arriving.{Arriving}
-use Rattle.blocks.specs.States.{BlockGiven}
+use Rattle.blocks.specs.declared.state.BlockGiven.{BlockGiven}
 use Rattle.blocks.specs.Gives.{give_block}
 use Rattle.row_plan.specs.declared.row.RowCursor.{RowCursor}
 use Rattle.row_plan.specs.Plan.{make_plan}

@@ -68,6 +68,7 @@ use Rattle.table_map.proofs.table_name.Statement.{statement as of_table_name}
 use Rattle.table_map.proofs.cut_field.Statement.{statement as of_cut_field}
 use Rattle.table_map.proofs.default_charset.Statement.{statement as of_default_charset}
 use Rattle.table_map.proofs.flag.Statement.{statement as of_flag}
+use Rattle.table_map.proofs.next_item.Statement.{statement as of_next_item}
 use Rattle.table_map.proofs.event_size.Statement.{statement as of_event_size}
 use Rattle.table_map.proofs.write_event.Statement.{statement as of_write_event}
 use Rattle.table_map.proofs.field.Fields.new.Statement.{statement as of_fields_new}
@@ -214,6 +215,7 @@ pub record Calls : Type 2 where
   pub pairs_next : Meets of_pairs_next
   pub strings_next : Meets of_strings_next
   pub groups_next : Meets of_groups_next
+  pub next_item : Meets of_next_item
   -- `record`: the record of a map
   pub column_of : Meets of_column_of
   pub entry_holds : Meets of_entry_holds

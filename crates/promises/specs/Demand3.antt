@@ -28,7 +28,8 @@ use Rattle.record.specs.Records.{count_of, record_valid}
 use Rattle.map_check.specs.Check.{check}
 use Rattle.image.specs.declared.cursor.Cursor.{Cursor}
 use Rattle.image.specs.Present.{shape_at, present}
-use Rattle.image.specs.Split.{value, step_from}
+use Rattle.image.specs.declared.step.Step.TheVariants.{Value as value}
+use Rattle.image.specs.Split.{step_from}
 use Rattle.image.specs.Walk.{RowWalked, row_onward, walk_from, walk_image}
 use Rattle.image.specs.Rows.{Row, in_domains, Says, WalkRefusal}
 use Rattle.image.specs.WriteRow.{LentValue, row_of, Fit, write_row, write_left, image_size, Wrote, Stopped}

@@ -1,7 +1,7 @@
 -- Demand 1, the other way: no line of the lists of `Refusals` is there for nothing, nor one that `Abi` adds. For each line there are bytes
 -- that give such a refusal, here the fewest or nearly so. It does not say that each place which a line allows is told for some bytes.
 -- `occurs` in proofs/Demand1/Occurs.antt computes all of it. Assumes nothing.
-use Rattle.std.specs.Prelude.{ℕ, zero, suc, ◌^◌, ◌≤◌, ◌≡◌, false, List, [], ◌∷◌, ◌++◌, map, pos, length, take, replicate}
+use Rattle.std.specs.Prelude.{ℕ, zero, suc, ◌^◌, ◌≤◌, ◌≡◌, false, List, [], ◌∷◌, ◌++◌, map, pos, length, take, replicate, None}
 use Rattle.wire.specs.Outcome.{Outcome, refuse, refused, out_of}
 use Rattle.wire.specs.Packed.{read_fixed, read_packed}
 use Rattle.wire.specs.Stored.{store, answer_of}
@@ -39,8 +39,6 @@ use Rattle.blocks.specs.Ends.{end_blocks}
 use Rattle.row_plan.specs.Plan.{row_cursor, make_plan, plan_step}
 use Rattle.row_plan.specs.Runs.{read_run}
 use Rattle.row_plan.specs.Puts.{item_cursor, plan_put}
-use Rattle.rows_event.specs.declared.parts.Extra.TheVariants.{Absent}
-use Rattle.rows_event.specs.declared.parts.Second.TheVariants.{Absent as Absent₁}
 use Rattle.rows_event.specs.declared.event.Rows.{Rows}
 use Rattle.rows_event.specs.declared.images.Images.{Images}
 use Rattle.rows_event.specs.Events.{read_rows}
@@ -111,7 +109,7 @@ planned op = op ∷ 7 ∷ 0 ∷ []
 
 -- a rows event whose presence bits are its first bytes, so many, and the cursor of an image
 abbrev pub rows_with : ℕ → Rows
-rows_with n = record { flags = 0; extra = Absent; before = part 0 n; after = Absent₁; images = n }
+rows_with n = record { flags = 0; extra = None; before = part 0 n; after = None; images = n }
 
 abbrev pub images_cursor : ℕ → Images
 images_cursor o = record { at = o; second = false }

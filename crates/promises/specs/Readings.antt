@@ -1,7 +1,7 @@
 -- The worked readings of document 01 that it marks P: one statement over one table, computed from the definitions. Behind it the same for
 -- rows events, request 1, and the other tables that hold the definitions against the paper's own numbers. `readings` in
 -- proofs/Readings.antt proves all of it. Assumes nothing.
-use Rattle.std.specs.Prelude.{ℕ, Bool, true, false, List, [], ◌∷◌, ◌++◌, ◌≡◌, pos, negsuc, length, replicate}
+use Rattle.std.specs.Prelude.{ℕ, Bool, true, false, List, [], ◌∷◌, ◌++◌, ◌≡◌, pos, negsuc, length, replicate, None, Some}
 use Rattle.wire.specs.Outcome.{Outcome, ok, refused, refuse, after, out_of}
 use Rattle.wire.specs.Bits.{bit_lsb0, bit_msb0}
 use Rattle.wire.specs.Packed.{read_packed, packed_bytes}
@@ -20,8 +20,6 @@ use Rattle.map_check.specs.Ranks.{table_place}
 use Rattle.map_check.specs.Check.{check_map}
 use Rattle.map_check.specs.Names.{column_name, name_in}
 use Rattle.image.specs.Walk.{walk_image}
-use Rattle.rows_event.specs.declared.parts.Extra.TheVariants.{Absent, Data}
-use Rattle.rows_event.specs.declared.parts.Second.TheVariants.{Absent as Absent₁, Bits}
 use Rattle.rows_event.specs.declared.event.Rows.{Rows}
 use Rattle.rows_event.specs.Events.{read_rows}
 use Rattle.rows_event.specs.Images.{set_of, Met, images_of}
@@ -147,7 +145,7 @@ rows_table =
       profile = worked;
       id = 42;
       body = 0x2a ∷ 0x00 ∷ 0x00 ∷ 0x00 ∷ 0x00 ∷ 0x00 ∷ 0x01 ∷ 0x00 ∷ 0x03 ∷ 0x07 ∷ worked_image;
-      parts = record { flags = 1; extra = Absent; before = part 9 1; after = Absent₁; images = 10 };
+      parts = record { flags = 1; extra = None; before = part 9 1; after = None; images = 10 };
       images = record { second = false; bytes = worked_image; answers = worked_answers } ∷ [];
     }
     -- the second: the same row, behind two bytes of extra data
@@ -156,7 +154,7 @@ rows_table =
       profile = worked;
       id = 42;
       body = 0x2a ∷ 0x00 ∷ 0x00 ∷ 0x00 ∷ 0x00 ∷ 0x00 ∷ 0x01 ∷ 0x00 ∷ 0x04 ∷ 0x00 ∷ 0xaa ∷ 0xbb ∷ 0x03 ∷ 0x07 ∷ worked_image;
-      parts = record { flags = 1; extra = Data (part 10 2); before = part 13 1; after = Absent₁; images = 14 };
+      parts = record { flags = 1; extra = Some (part 10 2); before = part 13 1; after = None; images = 14 };
       images = record { second = false; bytes = worked_image; answers = worked_answers } ∷ [];
     }
     -- an update of one TIME2(2) column, from 00:00:00 to -00:00:01.500000, behind extra data of no bytes
@@ -167,7 +165,7 @@ rows_table =
       body =
           0x2a ∷ 0x00 ∷ 0x00 ∷ 0x00 ∷ 0x00 ∷ 0x00 ∷ 0x01 ∷ 0x00 ∷ 0x02 ∷ 0x00 ∷ 0x01 ∷ 0x01 ∷ 0x01 ∷ 0x00 ∷ 0x80 ∷ 0x00 ∷ 0x00 ∷ 0x00
           ∷ 0x00 ∷ 0x7f ∷ 0xff ∷ 0xfe ∷ 0xce ∷ [];
-      parts = record { flags = 1; extra = Data (part 10 0); before = part 11 1; after = Bits (part 12 1); images = 13 };
+      parts = record { flags = 1; extra = Some (part 10 0); before = part 11 1; after = Some (part 12 1); images = 13 };
       images =
           record { second = false; bytes = 0x00 ∷ 0x80 ∷ 0x00 ∷ 0x00 ∷ 0x00 ∷ []; answers = time_answers false 0 0 }
           ∷ record { second = true; bytes = 0x00 ∷ 0x7f ∷ 0xff ∷ 0xfe ∷ 0xce ∷ []; answers = time_answers true 1 500000 }
@@ -218,7 +216,7 @@ rows_refusals =
 
 -- parts of an event with one set, which is at 9 and has no column, and what is behind it at 10
 abbrev pub no_columns : Rows
-no_columns = record { flags = 1; extra = Absent; before = part 9 1; after = Absent₁; images = 10 }
+no_columns = record { flags = 1; extra = None; before = part 9 1; after = None; images = 10 }
 
 -- ---- all tables
 pub record Readings : Type 0 where

@@ -4,7 +4,7 @@ use Prim.Native.Nat.{ℕ, suc, ◌+◌, ◌-◌, ◌/◌, ◌≤◌}
 use mathlib.Core.Path.{◌≡◌, refl, sym, ap, subst, ◌∙◌}
 use mathlib.Core.Bool.{Bool, true, false, true≢false, cond, ◌||◌}
 use mathlib.Core.List.{List, [], ◌∷◌}
-use mathlib.Core.Option.{none, some}
+use Rattle.std.specs.Prelude.{Some, None as none, Some as some}
 use native.Mathlib.Omega.{arith}
 use borrow.Author.Tests.{le-leb, lt-leb, leb-true}
 use lib.ListN.{length, get_or, take}
@@ -23,24 +23,27 @@ use Rattle.wire.specs.Parts.{part}
 use Rattle.table_map.specs.declared.field.Fields.{Fields}
 use Rattle.table_map.specs.Events.{read_event}
 use Rattle.table_map.specs.Fields.{field_step}
-use Rattle.table_map.specs.Lists.{Stepped, end as end₂, item, step, integer_item, pair_item, string_item, group_item}
+use Rattle.table_map.specs.Lists.{Stepped, end as end₂, step, integer_item, pair_item, string_item, group_item}
 use Rattle.record.specs.Records.{entry_at, read_record}
 use Rattle.map_check.specs.Ranks.{table_place}
 use Rattle.map_check.specs.Names.{column_name, names_field}
 use Rattle.map_check.specs.Check.{check}
 use Rattle.image.specs.declared.cursor.Cursor.{Cursor}
-use Rattle.image.specs.Split.{ColumnStepped, null, value, end, cursor, first_cursor, step_from}
+use Rattle.image.specs.declared.step.Step.TheVariants.{Null as null, Value as value, End as end}
+use Rattle.image.specs.Split.{ColumnStepped, cursor, first_cursor, step_from}
 use Rattle.image.specs.Puts.{start_image, put_from}
 use Rattle.image.specs.Room.{read_room}
 use Rattle.blocks.specs.declared.state.Arriving.{Arriving}
-use Rattle.blocks.specs.States.{Arrived, more, null as null₁, value as value₁, long, part as part₁, end as end₃, BlockGiven}
+use Rattle.blocks.specs.declared.state.Arrival.TheVariants.{More as more, Null as null₁, Value as value₁, Long as long, Part as part₁, End as end₃}
+use Rattle.blocks.specs.declared.state.BlockGiven.{BlockGiven}
+use Rattle.blocks.specs.States.{Arrived}
 use Rattle.blocks.specs.Gives.{give_block, begin_blocks}
 use Rattle.blocks.specs.Ends.{end_blocks}
 use Rattle.row_plan.specs.Plan.{row_cursor, make_plan}
 use Rattle.row_plan.specs.Runs.{read_run}
 use Rattle.row_plan.specs.Puts.{item_cursor, plan_put}
 use Rattle.rows_event.specs.Events.{read_rows}
-use Rattle.rows_event.specs.Images.{ImageStepped as Told₁, image_met, end as end₁, next_image}
+use Rattle.rows_event.specs.Images.{ImageStepped as Told₁, end as end₁, next_image}
 use Rattle.feed_abi.specs.Answers.{answer_number, answer_numbers, status_of, numbers_left, bytes_left}
 use Rattle.feed_abi.specs.Calls.{said, said_with, record_numbers, part_numbers, map_numbers, names_given, given_numbers, cursor_numbers}
 use Rattle.feed_abi.specs.Calls.{step_numbers, told_numbers, rows_numbers, image_numbers, dialect_of, second_asked, sets_asked, images_at, feed_map}
@@ -217,16 +220,16 @@ given_counts : (g : BlockGiven) → length (arrived_numbers g) ≡ 15
 given_counts g = block_counts g.next g.taken g.arrival
 
 image_counts : (t : Told₁) → length (image_numbers t) ≡ 6
-image_counts (image_met p second next) = refl
+image_counts (Some x) = refl
 image_counts end₁ = refl
 
 field_counts : (t : Stepped (ℕ × Part) Fields) → length (field_numbers t) ≡ 5
 field_counts end₂ = refl
-field_counts (item f next) = refl
+field_counts (Some x) = refl
 
 item_counts : (t : Stepped (ℕ × ℕ) ℕ) → length (item_numbers t) ≡ 4
 item_counts end₂ = refl
-item_counts (item x next) = refl
+item_counts (Some x) = refl
 
 told_alone : (k : ℕ) (out : List ℕ) (answer : Outcome (List ℕ)) → Counts k answer → Answered k out answer
     → Touched out 0 k (numbers_left k answer out)

@@ -20,10 +20,11 @@ use Rattle.image.proofs.CursorLaws.Heads.{head_tested}
 use Rattle.blocks.specs.declared.state.Phase.{Phase}
 use Rattle.blocks.specs.declared.state.Phase.TheVariants.{Open, Long, Closed}
 use Rattle.blocks.specs.declared.state.Arriving.{Arriving}
-use Rattle.blocks.specs.Turns.{TurnSaid, wait, long, whole, turn_of}
+use Rattle.blocks.specs.Turns.{TurnSaid, turn_of}
 use Rattle.blocks.specs.Fits.{is_long, fits_in, is_counted, is_fit}
 use Rattle.blocks.specs.Gives.{by_turn, give_over, at_hand, give_open, give_long, give_in, given_fit, head_carry, give_block, begin_blocks}
 use Rattle.blocks.specs.Ends.{end_over, end_in, ended_fit, end_blocks}
+use Rattle.blocks.proofs.Turned.{each_turn}
 use Rattle.promises.specs.Refusals.{Line, OneOf}
 use Rattle.promises.proofs.Demand1.Only.{Listed, done, stop, stop_part, chain, test, Tens}
 use Rattle.promises.proofs.Demand1.Rows.{head_read, EachSlot, Fine, slots_fine}
@@ -57,11 +58,10 @@ module _ {ls : List Line} (r : List ℕ) (ten : (j : ℕ) → j < count_of r →
   turn_listed : (nb : ℕ) (sh : Shape) (j : ℕ) (x : List ℕ) (st : Arriving) (carry block : List ℕ) (v : TurnSaid) → j < count_of r
       → Listed ls (by_turn nb sh j x st carry block v)
   unfolding by_turn judged
-  turn_listed nb sh j x st carry block wait h = done _
-  turn_listed nb sh j x st carry block (long n) h = done _
-  turn_listed nb sh j x st carry block (whole n) h =
+  turn_listed nb sh j x st carry block v h =
+      each_turn (λ v. Listed ls (by_turn nb sh j x st carry block v)) v (done _) (λ n. done _) (λ n.
       chain (judged sh j (take n x)) _
-      (test (eqb (fault sh (take n x)) 0) (λ u. done _) (λ u. stop_part (ten j h) u (fault_most sh (take n x)))) (λ d e. done _)
+      (test (eqb (fault sh (take n x)) 0) (λ u. done _) (λ u. stop_part (ten j h) u (fault_most sh (take n x)))) (λ d e. done _))
 
   over_listed : (room nb : ℕ) (is : List Slot) (x : List ℕ) (st : Arriving) (carry block : List ℕ) → EachSlot (Fine r) is
       → Listed ls (give_over room nb is x st carry block)

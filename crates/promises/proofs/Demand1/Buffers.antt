@@ -35,13 +35,16 @@ use Rattle.image.proofs.PutLaws.Fills.{fill_length}
 use Rattle.image.proofs.CursorLaws.Heads.{nulls_tested}
 use Rattle.image.proofs.PutLaws.Puts.{nulls_size}
 use Rattle.blocks.specs.declared.state.Arriving.{Arriving}
-use Rattle.blocks.specs.States.{Arrived, more, null as null₁, value as value₁, long, part as part₁, end as end₁, BlockGiven}
+use Rattle.blocks.specs.declared.state.Arrival.TheVariants.{More as more, Null as null₁, Value as value₁, Long as long, Part as part₁, End as end₁}
+use Rattle.blocks.specs.declared.state.BlockGiven.{BlockGiven}
+use Rattle.blocks.specs.States.{Arrived}
 use Rattle.blocks.specs.Gives.{give_block}
 use Rattle.blocks.proofs.Taken.{give_given, give_sized}
 use Rattle.row_plan.specs.declared.row.RowCursor.{RowCursor}
 use Rattle.row_plan.specs.declared.put.ItemCursor.{ItemCursor}
 use Rattle.row_plan.specs.Puts.{item_cursor, plan_put}
-use Rattle.row_plan.specs.Plan.{item_count, plan_slots, plan_of, make_plan, row_cursor, RowStepped, null, value, end, plan_step}
+use Rattle.image.specs.declared.step.Step.TheVariants.{Null as null, Value as value, End as end}
+use Rattle.row_plan.specs.Plan.{item_count, plan_slots, plan_of, make_plan, row_cursor, RowStepped, plan_step}
 use Rattle.row_plan.specs.Runs.{moved_by, value_numbers, turned, is_over, RowRan, ran, run_on, run_from, run_answer, read_run}
 use Rattle.row_plan.proofs.ReadLaws.{run_kept}
 use Rattle.feed_abi.specs.Calls.{said_with, record_numbers, cursor_numbers, dialect_of, feed_check, feed_start, feed_put}

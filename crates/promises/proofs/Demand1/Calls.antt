@@ -64,6 +64,7 @@ use Rattle.table_map.proofs.table_name.Met.{met as of_table_name}
 use Rattle.table_map.proofs.cut_field.Met.{met as of_cut_field}
 use Rattle.table_map.proofs.default_charset.Met.{met as of_default_charset}
 use Rattle.table_map.proofs.flag.Met.{met as of_flag}
+use Rattle.table_map.proofs.next_item.Met.{met as of_next_item}
 use Rattle.table_map.proofs.event_size.Met.{met as of_event_size}
 use Rattle.table_map.proofs.write_event.Met.{met as of_write_event}
 use Rattle.table_map.proofs.field.Fields.new.Met.{met as of_fields_new}
@@ -203,6 +204,7 @@ calls = record {
   pairs_next = λ M. of_pairs_next {M = M};
   strings_next = λ M. of_strings_next {M = M};
   groups_next = λ M. of_groups_next {M = M};
+  next_item = λ M. of_next_item {M = M};
   column_of = λ M. of_column_of {M = M};
   entry_holds = λ M. of_entry_holds {M = M};
   write_entry = λ M. of_write_entry {M = M};

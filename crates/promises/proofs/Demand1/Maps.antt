@@ -7,6 +7,7 @@ use native.Mathlib.Omega.{arith}
 use borrow.Author.Tests.{leb-true, leb-false, ltb-true, ltb-false, eqb-false}
 use lib.ListN.{length, drop}
 use lib.Dec.{leb, ltb, eqb}
+use Rattle.std.specs.Prelude.{Some}
 use Rattle.wire.specs.Number.{Bytes}
 use Rattle.wire.specs.Bits.{bytes_for}
 use Rattle.wire.specs.declared.refusal.Refusal.{Refusal}
@@ -25,7 +26,7 @@ use Rattle.table_map.specs.declared.field.Fields.{Fields}
 use Rattle.table_map.specs.Parts.{short_part, long_part}
 use Rattle.table_map.specs.Events.{id_bytes, read_names, read_columns, read_event}
 use Rattle.table_map.specs.Writes.{EventParts, is_event, event_bytes, write_event, event_size}
-use Rattle.table_map.specs.Lists.{Rule, Stepped, end, item, step, pair_item, string_item, strings, group_item}
+use Rattle.table_map.specs.Lists.{Rule, Stepped, end, step, pair_item, string_item, strings, group_item}
 use Rattle.table_map.specs.Fields.{is_field, contents_hold, cut_field, judge_field, field_item, field_step}
 use Rattle.table_map.specs.Layouts.{event_layout, pair_layout, strings_layout, group_layout}
 use Rattle.table_map.proofs.Chains.{each_within}
@@ -323,7 +324,7 @@ string_found {ls} s asked none one two = go asked 0 (omega arith) (λ q a. a)
         → ((p : Part) (q : ℕ) → long_part s o ≡ ok (p, q) → Listed ls (found p q))
         → (x : Outcome (Stepped Part ℕ)) → step string_item s o ≡ x → Listed ls (met_string found asked x)
     handed o h a found k (ok end) e = stop none
-    handed o h a found k (ok (item p q)) e = k p q (item_read string_item s o p q e).1
+    handed o h a found k (ok (Some x)) e = k x.0 x.1 (item_read string_item s o x.0 x.1 e).1
     handed o h a found k (refused w) e = hand (step string_item s o) w (stepped string_item s o (λ l. absurd (omega arith)) (seen o a)) e
 
     -- a string that starts among those from o on is one of all

@@ -20,7 +20,8 @@ use Rattle.image.specs.Rows.{is_null}
 use Rattle.image.specs.Puts.{slot_bytes, put_over}
 use Rattle.row_plan.specs.declared.row.RowCursor.{RowCursor}
 use Rattle.row_plan.specs.declared.put.ItemCursor.{ItemCursor}
-use Rattle.row_plan.specs.Plan.{plan_of, make_plan, item_count, item_at, items_from, plan_slots, RowStepped, null, value, end, plan_step}
+use Rattle.image.specs.declared.step.Step.TheVariants.{Null as null, Value as value, End as end}
+use Rattle.row_plan.specs.Plan.{plan_of, make_plan, item_count, item_at, items_from, plan_slots, RowStepped, plan_step}
 use Rattle.row_plan.specs.Runs.{value_numbers, turned, is_over, RowRan, ran, run_on, run_from, run_answer, read_run}
 use Rattle.row_plan.specs.Puts.{plan_put}
 use Rattle.row_plan.proofs.ReadLaws.{Kept, run_kept}

@@ -25,7 +25,8 @@ use Rattle.record.specs.Entries.{column_of}
 use Rattle.record.specs.Records.{count_of, entry_in, record_valid}
 use Rattle.image.specs.declared.cursor.Cursor.{Cursor}
 use Rattle.image.specs.Present.{Present, count_bits, shape_at, present_from, present}
-use Rattle.image.specs.Split.{cursor, Slot, slots_at, value, step_over, slots_left, step_from}
+use Rattle.image.specs.declared.step.Step.TheVariants.{Value as value}
+use Rattle.image.specs.Split.{cursor, Slot, slots_at, step_over, slots_left, step_from}
 use Rattle.image.specs.Rows.{Row, is_null, in_domains}
 use Rattle.image.specs.WriteRow.{LentValue}
 use Rattle.image.proofs.StepLaws.Steps.{left_stands}

@@ -7,6 +7,7 @@ use native.Mathlib.Omega.{arith}
 use borrow.Author.Tests.{eqb-true}
 use lib.ListN.{length, length-map, get_or}
 use lib.Dec.{eqb}
+use Rattle.std.specs.Prelude.{Some}
 use Rattle.wire.specs.Bits.{bytes_for}
 use Rattle.wire.specs.Number.{is_among}
 use Rattle.wire.specs.Outcome.{Outcome, ok, refused, after}
@@ -87,10 +88,10 @@ item_told_lem : {A : Type 0} (f : A → ℕ × ℕ) (o : Outcome (Stepped A ℕ)
     → said item_numbers (in_two f o) ≡ ok (1 ∷ a ∷ b ∷ next ∷ [])
     → (x : A) × (o ≡ ok (item x next)) × ((f x).0 ≡ a) × ((f x).1 ≡ b)
 item_told_lem f (ok end) a b next e = let z : ◌≡◌ {A = ℕ} 0 1 = ap (λ (l : List ℕ). get_or l 0 0) (same_ok e) in absurd (omega arith)
-item_told_lem f (ok (item x n)) a b next e =
+item_told_lem f (ok (Some x)) a b next e =
     let l = same_ok e in
-    let q : n ≡ next = ap (λ (l : List ℕ). get_or l 3 0) l in
-    (x, rw q, ap (λ (l : List ℕ). get_or l 1 0) l, ap (λ (l : List ℕ). get_or l 2 0) l)
+    let q : x.1 ≡ next = ap (λ (l : List ℕ). get_or l 3 0) l in
+    (x.0, ap (λ (m : ℕ). ok (item x.0 m)) q, ap (λ (l : List ℕ). get_or l 1 0) l, ap (λ (l : List ℕ). get_or l 2 0) l)
 item_told_lem f (refused r) a b next e = absurd (ok_not_refused (sym e))
 
 map_each : {A B : Type 0} (f : A → B) (P : B → Type 0) (l : List A) → Each (λ a. P (f a)) l → Each P (map f l)
@@ -177,11 +178,12 @@ field_from : (numeric columns : ℕ) (event : List ℕ) (o kind start len next :
 field_from numeric columns event o kind start len next (ok end) h e =
     let z : ◌≡◌ {A = ℕ} 0 1 = ap (λ (l : List ℕ). get_or l 0 0) (same_ok e) in
     absurd (omega arith)
-field_from numeric columns event o kind start len next (ok (item f n)) h e =
+field_from numeric columns event o kind start len next (ok (Some x)) h e =
     let l = same_ok e in
-    let q : n ≡ next = ap (λ (l : List ℕ). get_or l 4 0) l in
+    let f = x.0 in
+    let q : x.1 ≡ next = ap (λ (l : List ℕ). get_or l 4 0) l in
     let k : f.0 ≡ kind = ap (λ (l : List ℕ). get_or l 1 0) l in
-    let r = (item_read (field_item numeric columns) event o f n h).1 in (
+    let r = (item_read (field_item numeric columns) event o f x.1 h).1 in (
       f.1,
       r ∙ ap (λ (m : ℕ). ok (f, m)) q ∙ ap (λ (m : ℕ). ok ((m, f.1), next)) k,
       ap (λ (l : List ℕ). get_or l 2 0) l,
