@@ -8,7 +8,7 @@ use wire::Refusal;
 use wire::refusal::IMAGE_SHORT;
 
 // The end of the walk from the first cursor on, as steps would come to it: the bytes used, or why the walk stopped.
-#[tactic(auto, using(crate::proofs::EndLaws::Ends::walk_refused))]
+#[tactic(auto, using(crate::proofs::EndLaws::Ends::walk_refused, crate::proofs::EndLaws::Ends::walk_cut, crate::proofs::EndLaws::Ends::going_further))]
 pub fn walk_end(profile: &[u8], presence: &[u8], image: &[u8]) -> Result<usize, Refusal>
     ensures { result ≡ (walk_image profile.now presence.now image.now).how }
 {

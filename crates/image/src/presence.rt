@@ -3,7 +3,7 @@ ghost use Rattle.std.specs.Prelude.{◌≡◌, ◌-◌};
 ghost use Rattle.image.specs.Present.{count_bits, first_from};
 
 // How many of the first n bits are set. A sum by hand: `filter` and `count` take more than twice as long.
-#[tactic(auto, using(crate::proofs::PresenceLaws::Firsts::count_none, crate::proofs::PresenceLaws::Firsts::count_more, crate::proofs::PresenceLaws::Firsts::count_at_most))]
+#[tactic(auto, using(crate::proofs::PresenceLaws::Firsts::counting))]
 pub fn count_bits(s: &[u8], n: usize) -> usize
     ensures { result ≡ count_bits s.now n }
 {

@@ -28,7 +28,7 @@ fn read_head_nulls(profile: &[u8], presence: &[u8], nulls: &[u8]) -> Result<Head
 }
 
 // Stores the null bits at the buffer's start, with the spare bits of the last byte set. Like a step, it answers where the next value goes.
-#[tactic(auto, unfolding(crate::specs::Puts::start_image))]
+#[tactic(auto, using(crate::proofs::PutLaws::Puts::starting), unfolding(crate::specs::Puts::start_image))]
 pub fn start(
     profile: &[u8],
     presence: &[u8],
@@ -52,6 +52,7 @@ pub fn start(
 }
 
 // A byte whose lowest `used` bits are as they were, the others set.
+#[tactic(auto, using(wire::proofs::Digits::weight_is, crate::proofs::PutLaws::Fills::unit_is))]
 fn spare_set(used: usize, b: u8) -> u8
     requires { used < 8 }
     ensures { result ≡ spare_set used b }
@@ -61,6 +62,7 @@ fn spare_set(used: usize, b: u8) -> u8
 }
 
 // The n null bits and the spare bits behind them.
+#[tactic(auto, using(crate::proofs::PutLaws::Fills::put_whole, crate::proofs::PutLaws::Fills::put_spare))]
 fn put_nulls(nulls: &[u8], n: usize, buf: &mut [u8])
     requires { (length nulls.now ≡ bytes_for n) × (length nulls.now ≤ length buf.old) }
     ensures { buf.new ≡ stored (filled n nulls.now) buf.old 0 }
@@ -75,6 +77,7 @@ fn put_nulls(nulls: &[u8], n: usize, buf: &mut [u8])
 
 // A step on a record, presence bits and null bits that were tested: the next present column from the cursor on takes the value, whose bytes
 // are in lent.
+#[tactic(auto, using(crate::proofs::PutLaws::Puts::putting))]
 fn put_inner(
     profile: &[u8],
     presence: &[u8],
@@ -123,7 +126,7 @@ fn is_null(value: Value) -> bool
 
 impl Cursor {
     // Stores one value, or nothing for NULL, at this cursor, for the next present column from it on. A made-up cursor obeys the same rule.
-    #[tactic(auto, unfolding(crate::specs::Puts::put_from))]
+    #[tactic(auto, using(crate::proofs::PutLaws::Puts::put_anywhere), unfolding(crate::specs::Puts::put_from))]
     pub fn put(
         self,
         profile: &[u8],

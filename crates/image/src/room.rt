@@ -11,6 +11,7 @@ use crate::step::column_in;
 use wire::Refusal;
 
 // What a column adds: its largest value if it is present, else nothing.
+#[tactic(auto, using(crate::proofs::RoomLaws::Adds::shape_few), unfolding(crate::specs::Present::shape_at))]
 fn column_room(profile: &[u8], presence: &[u8], column: usize) -> u64
     ensures { (result ≡ cond (bit_lsb0 presence.now column) (most_of (shape_at profile.now column)) 0)
         × (result ≤ 4294967299) }

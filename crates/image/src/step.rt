@@ -45,6 +45,7 @@ pub(crate) fn column_in(profile: &[u8], column: usize) -> Column
 }
 
 // A step on a record and presence bits that were tested.
+#[tactic(auto, using(crate::proofs::StepLaws::Steps::stepping))]
 pub(crate) fn step_inner(
     profile: &[u8],
     presence: &[u8],
@@ -115,7 +116,7 @@ fn without_rank(step: Step<InnerCursor>) -> Step<Cursor>
 
 impl Cursor {
     // The next present column from this cursor on. A made-up cursor obeys the same rule.
-    #[tactic(auto, using(wire::proofs::Rules::tests), unfolding(crate::specs::Split::step_from, crate::specs::Split::slots_left))]
+    #[tactic(auto, using(wire::proofs::Rules::tests, crate::proofs::CursorLaws::Heads::placed, crate::proofs::StepLaws::Steps::step_goes), unfolding(crate::specs::Split::step_from, crate::specs::Split::slots_left))]
     pub fn step(
         self,
         profile: &[u8],

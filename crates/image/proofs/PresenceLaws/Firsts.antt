@@ -147,6 +147,9 @@ unfolding count_bits
 count_at_most s zero = omega arith
 count_at_most s (suc n) = omega (arith, count_at_most s n, weight_small (bit_lsb0 s n))
 
+-- what a count goes by
+pub ruleset counting = (count_none, count_more, count_at_most)
+
 -- ---- with their null bits
 abbrev pub slot_at : List ℕ → List ℕ → List ℕ → ℕ → Slot
 slot_at r p im f = record { present = present_at r f; null = bit_lsb0 im (count_bits p f) }

@@ -28,8 +28,9 @@ use Rattle.image.specs.Split.{cursor, slots_at}
 use Rattle.image.specs.Inner.Steps.{Placed, Puts}
 use Rattle.image.specs.Rows.{is_null}
 use Rattle.image.specs.Puts.{filled, head_nulls, start_image, slot_bytes, put_over, put_from}
-use Rattle.image.proofs.CursorLaws.Heads.{Tested, head_tested, nulls_tested}
-use Rattle.image.proofs.StepLaws.Steps.{slots_none, slots_some}
+use Rattle.image.proofs.CursorLaws.Heads.{Tested, head_tested, placed, nulls_tested}
+use Rattle.image.proofs.StepLaws.Steps.{column_below, slots_none, slots_some}
+use Rattle.image.proofs.PutLaws.Sorts.{null_anywhere}
 use Rattle.image.proofs.PutLaws.Fills.{fill_length}
 
 -- a call whose answer is told and whose buffer is as it was
@@ -73,7 +74,7 @@ module _ (r p nulls buf : List ℕ) {h : Head} (e : head_nulls r p nulls ≡ ok 
 
 -- ---- a step
 -- value and bit agree on NULL
-pub alike : (a b : Bool) → not (beq a b) ≡ false → a ≡ b
+alike : (a b : Bool) → not (beq a b) ≡ false → a ≡ b
 alike true true e = refl
 alike true false e = cc
 alike false true e = cc
@@ -102,20 +103,30 @@ module _
   unfolding put_over
   put_end u = rw (slots_none h e nulls u)
 
-  module _ (u : f ≡ n → ⊥) where
+  -- z being whether the value is NULL, and t the null bit
+  module _ (u : f ≡ n → ⊥) {z t : Bool} (i : z ≡ is_null (datum_of [] v)) (b : t ≡ bit_lsb0 nulls s.rank) where
+    null_is : {y : Bool} → z ≡ y → is_null (datum_of lent v) ≡ y
+    null_is k = null_anywhere lent [] v ∙ sym i ∙ k
+
+    bit_is : {y : Bool} → not (beq z t) ≡ false → z ≡ y → bit_lsb0 nulls s.rank ≡ y
+    bit_is e k = sym b ∙ sym (alike z t e) ∙ k
+
     -- NULL for a column whose bit says a value, or a value for one whose bit says NULL
-    pub put_unlike : (a b : Bool) → is_null (datum_of lent v) ≡ a → bit_lsb0 nulls s.rank ≡ b → not (beq a b) ≡ true → put ≡ refuse 13 f
+    unlike : (a c : Bool) → is_null (datum_of lent v) ≡ a → bit_lsb0 nulls s.rank ≡ c → not (beq a c) ≡ true → put ≡ refuse 13 f
     unfolding put_over slot_bytes
-    put_unlike true true i b d = cc
-    put_unlike true false i b d = rw (slots_some h e nulls u, i, b)
-    put_unlike false true i b d = rw (slots_some h e nulls u, i, b)
-    put_unlike false false i b d = cc
+    unlike true true i b d = cc
+    unlike true false i b d = rw (slots_some h e nulls u, i, b)
+    unlike false true i b d = rw (slots_some h e nulls u, i, b)
+    unlike false false i b d = cc
+
+    pub put_unlike : not (beq z t) ≡ true → put ≡ refuse 13 f
+    put_unlike d = unlike z t (null_is refl) (sym b) d
 
     -- a being what a writer of w answered, and x the buffer that it left
     put_wrote : (w : Outcome (ℕ × List ℕ)) → put ≡ behind (f + 1) w → (a : Outcome ℕ) (x : List ℕ) → a ≡ answer_of w → x ≡ left_of w buf
         → Puts buf put (after a (λ m. ok (cursor (f + 1) m))) x
     put_wrote w p a x q y = (
-      sym (ap answer_of p ∙ behind_answer (f + 1) w ∙ ap (λ (z : Outcome ℕ). after z (λ m. ok (cursor (f + 1) m))) (sym q)),
+      sym (ap answer_of p ∙ behind_answer (f + 1) w ∙ ap (λ (o : Outcome ℕ). after o (λ m. ok (cursor (f + 1) m))) (sym q)),
       y ∙ sym (ap (λ (o : Outcome (Cursor × List ℕ)). left_of o buf) p ∙ behind_left (f + 1) buf w),
     )
 
@@ -124,10 +135,10 @@ module _
     unfolding put_over slot_bytes
     null_goes i b = rw (slots_some h e nulls u, i, b)
 
-    pub put_null : is_null (datum_of lent v) ≡ true → bit_lsb0 nulls s.rank ≡ true
+    pub put_null : not (beq z t) ≡ false → z ≡ true
         → (a : Outcome ℕ) (x : List ℕ) → a ≡ answer_of (store [] buf s.cursor.offset) → x ≡ left_of (store [] buf s.cursor.offset) buf
         → Puts buf put (after a (λ m. ok (cursor (f + 1) m))) x
-    put_null i b = put_wrote _ (null_goes i b)
+    put_null d k = put_wrote _ (null_goes (null_is k) (bit_is d k))
 
     -- the value as the record's column stores it
     value_goes : is_null (datum_of lent v) ≡ false → bit_lsb0 nulls s.rank ≡ false → {k : Column} → k ≡ column_of (entry_in r f)
@@ -138,11 +149,11 @@ module _
         (sym (after_after (stored_bytes (shape_at r f) f lent v) (λ b. store b buf s.cursor.offset) (λ x. ok (cursor (f + 1) x.0, x.1)))
         ∙ ap (λ (c : Column). behind (f + 1) (after (stored_bytes (shape_of c) f lent v) (λ b. store b buf s.cursor.offset))) (sym g))
 
-    pub put_value : is_null (datum_of lent v) ≡ false → bit_lsb0 nulls s.rank ≡ false → {k : Column} → k ≡ column_of (entry_in r f)
+    pub put_value : not (beq z t) ≡ false → z ≡ false → {k : Column} → k ≡ column_of (entry_in r f)
         → (a : Outcome ℕ) (x : List ℕ) → a ≡ answer_of (write_value (shape_of k) f lent v buf s.cursor.offset)
         → x ≡ left_of (write_value (shape_of k) f lent v buf s.cursor.offset) buf
         → Puts buf put (after a (λ m. ok (cursor (f + 1) m))) x
-    put_value i b g = put_wrote _ (value_goes i b g)
+    put_value d k g = put_wrote _ (value_goes (null_is k) (bit_is d k) g)
 
 -- a step from a column above the record's
 pub put_above : (r p nulls : List ℕ) (c : Cursor) (lent : List ℕ) (v : Value) (buf : List ℕ) {h : Head} → head_nulls r p nulls ≡ ok h
@@ -157,3 +168,10 @@ pub put_goes : (r p nulls : List ℕ) (c : Cursor) (lent : List ℕ) (v : Value)
     → put_from r p nulls c lent v buf ≡ put_over (slots_at r p nulls c.column) c lent v buf
 unfolding put_from
 put_goes r p nulls c lent v buf {h} e l = rw (e, le-ltb h.columns c.column l)
+
+-- what the code goes by: for the start, for a step on what was tested, and for one from any cursor
+pub ruleset starting = (nulls_size, nulls_fit, start_done)
+
+pub ruleset putting = (column_below, put_end, put_unlike)
+
+pub ruleset put_anywhere = (placed, nulls_tested, put_above, put_goes)

@@ -82,6 +82,9 @@ module _ {r p : List ℕ} {n : ℕ} {s : InnerCursor} (h : Placed r p n s) {f : 
       unfolding step_over shape_at
       step_read a q = rw (slots_some im u, b) (ap then (ap (λ (c : Column). read_value (shape_of c) f im o) (sym g) ∙ sym q))
 
+-- what the code's own step goes by
+pub ruleset stepping = (column_below, rank_next, rank_small, step_end, step_null)
+
 -- ---- a cursor that passes the tests
 pub left_goes : (r p im : List ℕ) (c : Cursor) {h : Head} → head_of r p ≡ ok h → c.column ≤ h.columns → h.nulls ≤ length im
     → c.offset ≤ length im

@@ -3,27 +3,13 @@ use mathlib.Core.Path.{refl, sym, ap}
 use native.Mathlib.Omega.{arith}
 use Rattle.std.proofs.lemmas.Result.{err_from_is_err_and}
 use Rattle.wire.specs.Outcome.{ok}
-use Rattle.image.proofs.EndLaws.Ends.{walk_cut, going_first, going_further, going_end, going_refused}
+use Rattle.image.proofs.EndLaws.Ends.{going_first, going_further, going_end, going_refused}
 use Rattle.image.proofs.end.walk_end.Goals as goal
-
-pub returns-then-image-head : goal.returns-then-image-head
-returns-then-image-head c =
-    let e = sym c.in_ok-head.ensures in
-    rw c.refuse.ensures (sym (walk_cut _ _ _ e c.if-image-head.true))
 
 pub loop-next-init : goal.loop-next-init
 loop-next-init c =
     let e = sym c.in_ok-head.ensures in
     going_first _ _ _ e c.if-image-head.false
-
-pub step_inner-requires : goal.step_inner-requires
-step_inner-requires c = c.loop-next.invariant.placed
-
-pub loop-next-smaller-in-Null : goal.loop-next-smaller-in-Null
-loop-next-smaller-in-Null c =
-    let w = going_further _ _ _ (sym c.in_ok-head.ensures) c.if-image-head.false c.loop-next.invariant _ c.in_ok-next.ensures.result_value refl c.in-Null.is
-    c.in_ok-next.ensures.ranked in
-    omega (arith, w.0, w.1.placed.column)
 
 pub loop-next-preserved-in-Null : goal.loop-next-preserved-in-Null
 loop-next-preserved-in-Null c =
