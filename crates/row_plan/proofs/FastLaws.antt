@@ -9,10 +9,11 @@ use native.Mathlib.Nat.{zero-mul}
 use native.Mathlib.Omega.{arith}
 use borrow.Author.Tests.{le-leb, lt-leb, le-ltb, lt-ltb, eq-eqb, ne_eqb}
 use lib.Dec.{ltb}
-use lib.ListN.{length, take, drop}
-use Rattle.wire.specs.Number.{Bytes, le_value, be_value}
+use lib.ListN.{length, get_or, take, drop}
+use lib.Seq.{take-take, drop-cons}
+use Rattle.std.specs.Prelude.{Option}
+use Rattle.wire.specs.Number.{le_value, be_value}
 use Rattle.wire.specs.Outcome.{ok}
-use Rattle.wire.specs.Stored.{stored}
 use Rattle.temporal.specs.declared.storage.Storage.{Storage}
 use Rattle.temporal.specs.declared.storage.Storage.TheVariants.{Newdate, Timestamp2, Datetime2, Time2}
 use Rattle.temporal.specs.Fraction.{fraction_bytes, unit_of}
@@ -24,7 +25,6 @@ use Rattle.temporal.specs.Reading.{temporal_size, whole_in, units_in, temporal_f
 use Rattle.temporal.proofs.Ranges.{Clock, Day, clock_none, clock_of, day_none}
 use Rattle.temporal.proofs.Steps.{whole_big, whole_little, units_big, units_little}
 use Rattle.temporal.proofs.Units.{widths}
-use Rattle.value.specs.declared.shape.Shape.{Shape}
 use Rattle.value.specs.declared.shape.Shape.TheVariants.{Unsigned, Signed, YearByte, Timed}
 use Rattle.value.specs.declared.datum.Value.{Value}
 use Rattle.value.specs.declared.datum.Value.TheVariants.{Year}
@@ -35,47 +35,47 @@ use Rattle.value.specs.Shapes.{need, decode, fault}
 use Rattle.value.specs.Reading.{read_value, placed}
 use Rattle.value.proofs.Readers.{got, narrow}
 use Rattle.row_plan.specs.Runs.{value_numbers}
-use Rattle.row_plan.proofs.NumberLaws.{unsigned_got, signed_got, timed_told, one_listed}
+use Rattle.row_plan.proofs.NumberLaws.{unsigned_got, signed_got, timed_told}
 use Rattle.wire.specs.Signed.{signed_of, twos_of}
-use Rattle.row_plan.specs.Inner.Numbers.{numbered}
-use Rattle.row_plan.specs.Inner.Fast.{Took}
+use Rattle.row_plan.specs.Inner.Numbers.{numbered, one_of}
+use Rattle.row_plan.specs.Inner.Fast.{Reads, Took}
+use Rattle.wire.proofs.Inverse.{le_one}
 use Rattle.row_plan.proofs.EightLaws.{be_below, le_below, front, whole4, behind4, whole5, behind5, kept3}
 
--- ---- left, or taken
-pub took_none : (sh : Shape) (s : List ℕ) (at : ℕ) (d : List ℕ) (to : ℕ) → Took sh s at d d to 0
-took_none sh s at d to = record { few = omega arith; left = λ e. refl; taken = λ f. absurd (f refl) }
-
-took_some : (sh : Shape) (s : List ℕ) (at : ℕ) (d d' : List ℕ) (to n : ℕ) (ns : List ℕ) → 0 < n → n ≤ 8
-    → ((by p : ℕ) → numbered by (read_value sh p s at) ≡ ok (ns, at + n)) → d' ≡ stored ns d to → Took sh s at d d' to n
-took_some sh s at d d' to n ns z l r e = record {
-  few = l;
-  left = λ x. absurd (omega (arith, x));
-  taken = λ f. record { numbers = ns; read = r; put = e };
-}
-
--- by another name of its op
-pub at_op : {op o : ℕ} (s : List ℕ) (at : ℕ) (d d' : List ℕ) (to n : ℕ) → op ≡ o → Took (shape_for o) s at d d' to n
-    → Took (shape_for op) s at d d' to n
-at_op s at d d' to n e t = rw e t
+-- ---- by another name of its op
+pub at_op : {op o : ℕ} (eight slot exit : List ℕ) (n : Option ℕ) → op ≡ o → Took (shape_for o) eight slot exit n
+    → Took (shape_for op) eight slot exit n
+at_op eight slot exit n e t = rw e t
 
 -- ---- integers and years
-module _ (s : List ℕ) (at : ℕ) (d d' : List ℕ) (to : ℕ) where
-  pub took_unsigned : (k x : ℕ) → 0 < k → k ≤ 8 → at + 8 ≤ length s → x ≡ le_value (take k (drop at s)) → d' ≡ stored (one_listed 3 x) d to
-      → Took (Unsigned k) s at d d' to k
-  took_unsigned k x z l h e =
-      took_some (Unsigned k) s at d d' to k (one_listed 3 x) z l (λ by p. sym (unsigned_got k by p s at x (omega arith) z e))
+-- the first of the eight bytes are the first of those that stand there
+front_of : (k : ℕ) (s : List ℕ) (at : ℕ) {eight : List ℕ} → k ≤ 8 → eight ≡ take 8 (drop at s) → take k eight ≡ take k (drop at s)
+front_of k s at l e = rw e (take-take k 8 (drop at s) l)
 
-  pub took_signed : (k x : ℕ) → 0 < k → k ≤ 8 → at + 8 ≤ length s → x ≡ twos_of (2 ^ 64) (signed_of (256 ^ k) (le_value (take k (drop at s))))
-      → d' ≡ stored (one_listed 2 x) d to → Took (Signed k) s at d d' to k
-  took_signed k x z l h e =
-      took_some (Signed k) s at d d' to k (one_listed 2 x) z l (λ by p. sym (signed_got k by p s at x (omega arith) z e))
+module _ {eight exit : List ℕ} where
+  pub took_unsigned : (k x : ℕ) → k ≤ 8 → x ≡ le_value (take k eight) → exit ≡ one_of 3 x → Reads (Unsigned k) eight k exit
+  took_unsigned k x l e d = record {
+    few = l;
+    reads = λ s b at h q by p.
+        rw d (sym (unsigned_got k by p s at x (omega arith) (e ∙ ap le_value (front_of k s at l q))));
+  }
 
-  pub took_year : (x y : ℕ) → at + 8 ≤ length s → x ≡ le_value (take 1 (drop at s)) → y ≡ year_of x → d' ≡ stored (one_listed 7 y) d to
-      → Took YearByte s at d d' to 1
+  pub took_signed : (k x : ℕ) → k ≤ 8 → x ≡ twos_of (2 ^ 64) (signed_of (256 ^ k) (le_value (take k eight))) → exit ≡ one_of 2 x
+      → Reads (Signed k) eight k exit
+  took_signed k x l e d = record {
+    few = l;
+    reads = λ s b at h q by p.
+        rw d (sym (signed_got k by p s at x (omega arith) (e ∙ ap (λ (b : List ℕ). twos_of (2 ^ 64) (signed_of (256 ^ k) (le_value b))) (front_of k s at l q))));
+  }
+
+  pub took_year : (x y : ℕ) → x ≡ get_or eight 0 0 → y ≡ year_of x → exit ≡ one_of 7 y → Reads YearByte eight 1 exit
   unfolding is_taken need decode fault placed value_numbers
-  took_year x y h e ey =
-      took_some YearByte s at d d' to 1 (one_listed 7 y) (omega arith) (omega arith) (λ by p. sym (ap (numbered by)
-      (got YearByte p s at 1 (Year y) (at + 1) refl refl (omega arith) refl (ap Year (ey ∙ ap year_of e)) refl)))
+  took_year x y e ey d = record {
+    few = omega arith;
+    reads = λ s b at h q by p.
+        let f : x ≡ le_value (take 1 (drop at s)) = e ∙ ap (λ (l : List ℕ). get_or l 0 0) q ∙ rw (drop-cons s at 0 (omega arith)) refl ∙ sym (le_one s at (omega arith)) in
+        rw d (sym (ap (numbered by) (got YearByte p s at 1 (Year y) (at + 1) refl refl (omega arith) refl (ap Year (ey ∙ ap year_of f)) refl)));
+  }
 
 -- ---- temporals: whole part and fraction are at hand, and no part is out of range
 timed_got : (k : Storage) (p : ℕ) (s : List ℕ) (at a f : ℕ) → at + temporal_size k ≤ length s
@@ -189,79 +189,90 @@ signed_is w l a f q off lf eq eo =
     (λ g. let r = t.2 (omega arith) (omega arith) in
     rw (lt-leb (2 ^ 23) a (omega arith), ne_eqb f 0 (λ z. omega arith), lt-ltb q (2 ^ 47) r.0, r.1, r.2)))
 
-module _ (s : List ℕ) (b : Bytes s) (at : ℕ) (h : at + 8 ≤ length s) (d d' : List ℕ) (to : ℕ) where
-  pub took_date : (n : ℕ) → n ≡ le_value (take 3 (drop at s)) → n / 32 / 16 ≤ 9999 → n / 32 % 16 ≤ 12
-      → d' ≡ stored (8 ∷ (n / 32 / 16 ∷ (n / 32 % 16 ∷ (n % 32 ∷ (0 ∷ (0 ∷ (0 ∷ (0 ∷ [])))))))) d to → Took (Timed Newdate) s at d d' to 3
+module _ {eight exit : List ℕ} where
+  pub took_date : (n : ℕ) → n ≡ le_value (take 3 eight) → n / 32 / 16 ≤ 9999 → n / 32 % 16 ≤ 12
+      → exit ≡ 8 ∷ (n / 32 / 16 ∷ (n / 32 % 16 ∷ (n % 32 ∷ (0 ∷ (0 ∷ (0 ∷ (0 ∷ []))))))) → Reads (Timed Newdate) eight 3 exit
   unfolding value_numbers temporal_of fault_of date_of temporal_size whole_bytes fraction_size is_big
-  took_date n e y m =
-      let lt : n < 256 ^ 3 = rw e (le_below s b at 3 (omega arith)) in
-      let x = whole_little Newdate s at n 3 refl (omega arith) refl e lt in
-      let u = units_little Newdate (take (temporal_size Newdate) (drop at s)) refl in
-      let day : Day (n / 32 / 16) (n / 32 % 16) (n % 32) = record { year = y; month = m; day = omega arith } in
-      took_some (Timed Newdate) s at d d' to 3 _ (omega arith) (omega arith) (λ by p.
-      sym (timed_told Newdate by p s at (sym (timed_got Newdate p s at n 0 (omega arith) x.0 u.0 (day_none 0 day)))))
+  took_date n e y m d = record {
+    few = omega arith;
+    reads = λ s b at h q by p.
+        let v : n ≡ le_value (take 3 (drop at s)) = e ∙ ap le_value (front_of 3 s at (omega arith) q) in
+        let lt : n < 256 ^ 3 = rw v (le_below s b at 3 (omega arith)) in
+        let x = whole_little Newdate s at n 3 refl (omega arith) refl v lt in
+        let u = units_little Newdate (take (temporal_size Newdate) (drop at s)) refl in
+        let day : Day (n / 32 / 16) (n / 32 % 16) (n % 32) = record { year = y; month = m; day = omega arith } in
+        rw d (sym (timed_told Newdate by p s at (sym (timed_got Newdate p s at n 0 (omega arith) x.0 u.0 (day_none 0 day)))));
+  }
 
-  module _ (m0 w : ℕ) (ew : (w ≡ fraction_bytes m0) × (w ≤ 3)) (x : ℕ) (ex : x ≡ be_value (take 8 (drop at s))) where
+  module _ (m0 w : ℕ) (ew : (w ≡ fraction_bytes m0) × (w ≤ 3)) (x : ℕ) (ex : x ≡ be_value eight) where
     pub took_seconds : (u : ℕ) → u ≡ x / 256 % 16777216 / 256 ^ (3 - w) * unit_of w → u ≤ 999999
-        → d' ≡ stored (6 ∷ (x / 4294967296 ∷ (u ∷ (0 ∷ (0 ∷ (0 ∷ (0 ∷ (0 ∷ [])))))))) d to
-        → Took (Timed (Timestamp2 m0)) s at d d' to (4 + w)
+        → exit ≡ 6 ∷ (x / 4294967296 ∷ (u ∷ (0 ∷ (0 ∷ (0 ∷ (0 ∷ (0 ∷ [])))))))
+        → Reads (Timed (Timestamp2 m0)) eight (4 + w) exit
     unfolding value_numbers temporal_of fault_of seconds_of whole_bytes fraction_size is_big
-    took_seconds u eu lu e =
-        let f = be_value (take w (drop (at + 4) s)) in
-        let ef : f ≡ x / 256 % 16777216 / 256 ^ (3 - w) = sym (rw (behind4 s b at x h ex) (front s b (at + 4) w ew.1 (omega arith))) in
-        let uf : u ≡ f * unit_of (fraction_bytes m0) = rw (ef, ← ew.0) eu in
-        let ck : Clock 0 0 0 0 (f * unit_of (fraction_bytes m0)) = record {
-          hour = omega arith;
-          minute = omega arith;
-          second = omega arith;
-          micros = rw uf at lu;
-        } in
-        let a : x / 4294967296 ≡ be_value (take 4 (drop at s)) = whole4 s b at x h ex in
-        let r = big_got (Timestamp2 m0) s at 4 w (x / 4294967296) f refl (omega arith) ew.0 ew.1 refl (omega (arith, ew.1)) a
-        (rw a (be_below s b at 4 (omega arith))) refl (be_below s b (at + 4) w (omega (arith, ew.1))) (clock_none ck) in
-        took_some (Timed (Timestamp2 m0)) s at d d' to (4 + w) (6 ∷ (x / 4294967296 ∷ (u ∷ (0 ∷ (0 ∷ (0 ∷ (0 ∷ (0 ∷ [])))))))) (omega arith)
-        (omega (arith, ew.1)) (λ by p. rw uf (r by p)) e
+    took_seconds u eu lu d = record {
+      few = omega (arith, ew.1);
+      reads = λ s b at h q by p.
+          let xe : x ≡ be_value (take 8 (drop at s)) = ex ∙ ap be_value q in
+          let f = be_value (take w (drop (at + 4) s)) in
+          let ef : f ≡ x / 256 % 16777216 / 256 ^ (3 - w) = sym (rw (behind4 s b at x h xe) (front s b (at + 4) w ew.1 (omega arith))) in
+          let uf : u ≡ f * unit_of (fraction_bytes m0) = rw (ef, ← ew.0) eu in
+          let ck : Clock 0 0 0 0 (f * unit_of (fraction_bytes m0)) = record {
+            hour = omega arith;
+            minute = omega arith;
+            second = omega arith;
+            micros = rw uf at lu;
+          } in
+          let a : x / 4294967296 ≡ be_value (take 4 (drop at s)) = whole4 s b at x h xe in
+          let r = big_got (Timestamp2 m0) s at 4 w (x / 4294967296) f refl (omega arith) ew.0 ew.1 refl (omega (arith, ew.1)) a
+          (rw a (be_below s b at 4 (omega arith))) refl (be_below s b (at + 4) w (omega (arith, ew.1))) (clock_none ck) in
+          rw (d, uf) (r by p);
+    }
 
     pub took_datetime : (n u : ℕ) → 2 ^ 39 ≤ x / 16777216 → n ≡ x / 16777216 - 2 ^ 39 → u ≡ x % 16777216 / 256 ^ (3 - w) * unit_of w
         → n / 64 / 64 / 32 / 32 / 13 ≤ 9999 → in_clock 23 (n / 64 / 64 % 32) (n / 64 % 64) (n % 64) u ≡ true
-        → d' ≡ stored (9 ∷ (n / 64 / 64 / 32 / 32 / 13 ∷ (n / 64 / 64 / 32 / 32 % 13 ∷ (n / 64 / 64 / 32 % 32 ∷ (n / 64 / 64 % 32
-        ∷ (n / 64 % 64 ∷ (n % 64 ∷ (u ∷ [])))))))) d to → Took (Timed (Datetime2 m0)) s at d d' to (5 + w)
+        → exit ≡ 9 ∷ (n / 64 / 64 / 32 / 32 / 13 ∷ (n / 64 / 64 / 32 / 32 % 13 ∷ (n / 64 / 64 / 32 % 32 ∷ (n / 64 / 64 % 32
+        ∷ (n / 64 % 64 ∷ (n % 64 ∷ (u ∷ []))))))) → Reads (Timed (Datetime2 m0)) eight (5 + w) exit
     unfolding value_numbers temporal_of fault_of datetime2_of datetime2_fault signed_datetime datetime_by whole_bytes fraction_size is_big
-    took_datetime n u big en eu ly ck e =
-        let f = be_value (take w (drop (at + 5) s)) in
-        let ef : f ≡ x % 16777216 / 256 ^ (3 - w) = sym (rw (behind5 s b at x h ex) (front s b (at + 5) w ew.1 (omega arith))) in
-        let uf : u ≡ f * unit_of (fraction_bytes m0) = rw (ef, ← ew.0) eu in
-        let c = clock_of 23 (n / 64 / 64 % 32) (n / 64 % 64) (n % 64) u ck in
-        let y : Day (n / 64 / 64 / 32 / 32 / 13) (n / 64 / 64 / 32 / 32 % 13) (n / 64 / 64 / 32 % 32) = record {
-          year = ly;
-          month = omega arith;
-          day = omega arith;
-        } in
-        let a : x / 16777216 ≡ be_value (take 5 (drop at s)) = whole5 s b at x h ex in
-        let z : fault_of (Datetime2 m0) (x / 16777216) f ≡ 0 =
-        rw (le-ltb (x / 16777216) (2 ^ 39) big, ← en, ← uf) (day_none _ y ∙ clock_none c) in
-        let r = big_got (Datetime2 m0) s at 5 w (x / 16777216) f refl (omega arith) ew.0 ew.1 refl (omega (arith, ew.1)) a
-        (rw a (be_below s b at 5 (omega arith))) refl (be_below s b (at + 5) w (omega (arith, ew.1))) z in
-        took_some (Timed (Datetime2 m0)) s at d d' to (5 + w) (9 ∷ (n / 64 / 64 / 32 / 32 / 13 ∷ (n / 64 / 64 / 32 / 32 % 13
-        ∷ (n / 64 / 64 / 32 % 32 ∷ (n / 64 / 64 % 32 ∷ (n / 64 % 64 ∷ (n % 64 ∷ (u ∷ [])))))))) (omega arith) (omega (arith, ew.1))
-        (λ by p. rw (en, uf) (r by p)) e
+    took_datetime n u big en eu ly ck d = record {
+      few = omega (arith, ew.1);
+      reads = λ s b at h q by p.
+          let xe : x ≡ be_value (take 8 (drop at s)) = ex ∙ ap be_value q in
+          let f = be_value (take w (drop (at + 5) s)) in
+          let ef : f ≡ x % 16777216 / 256 ^ (3 - w) = sym (rw (behind5 s b at x h xe) (front s b (at + 5) w ew.1 (omega arith))) in
+          let uf : u ≡ f * unit_of (fraction_bytes m0) = rw (ef, ← ew.0) eu in
+          let c = clock_of 23 (n / 64 / 64 % 32) (n / 64 % 64) (n % 64) u ck in
+          let y : Day (n / 64 / 64 / 32 / 32 / 13) (n / 64 / 64 / 32 / 32 % 13) (n / 64 / 64 / 32 % 32) = record {
+            year = ly;
+            month = omega arith;
+            day = omega arith;
+          } in
+          let a : x / 16777216 ≡ be_value (take 5 (drop at s)) = whole5 s b at x h xe in
+          let z : fault_of (Datetime2 m0) (x / 16777216) f ≡ 0 =
+          rw (le-ltb (x / 16777216) (2 ^ 39) big, ← en, ← uf) (day_none _ y ∙ clock_none c) in
+          let r = big_got (Datetime2 m0) s at 5 w (x / 16777216) f refl (omega arith) ew.0 ew.1 refl (omega (arith, ew.1)) a
+          (rw a (be_below s b at 5 (omega arith))) refl (be_below s b (at + 5) w (omega (arith, ew.1))) z in
+          rw d (rw (en, uf) (r by p));
+    }
 
-    pub took_time : (q off n u v : ℕ) → q ≡ x / 65536 / 256 ^ (3 - w) * 256 ^ (3 - w) → off ≡ q - 2 ^ 47 + (2 ^ 47 - q)
+    pub took_time : (v off n u i : ℕ) → v ≡ x / 65536 / 256 ^ (3 - w) * 256 ^ (3 - w) → off ≡ v - 2 ^ 47 + (2 ^ 47 - v)
         → n ≡ off / 16777216 → u ≡ off % 16777216 / 256 ^ (3 - w) * unit_of w
         → in_clock 838 (n / 64 / 64) (n / 64 % 64) (n % 64) u ≡ true
-        → v ≡ cond (ltb q (2 ^ 47)) 1 0
-        → d' ≡ stored (10 ∷ (v ∷ (n / 64 / 64 ∷ (n / 64 % 64 ∷ (n % 64 ∷ (u ∷ (0 ∷ (0 ∷ [])))))))) d to
-        → Took (Timed (Time2 m0)) s at d d' to (3 + w)
+        → i ≡ cond (ltb v (2 ^ 47)) 1 0
+        → exit ≡ 10 ∷ (i ∷ (n / 64 / 64 ∷ (n / 64 % 64 ∷ (n % 64 ∷ (u ∷ (0 ∷ (0 ∷ [])))))))
+        → Reads (Timed (Time2 m0)) eight (3 + w) exit
     unfolding value_numbers temporal_of fault_of time2_of time_by whole_bytes fraction_size is_big
-    took_time q off n u v eq eo en eu ck ev e =
-        let a = be_value (take 3 (drop at s)) in
-        let f = be_value (take w (drop (at + 3) s)) in
-        let lf = be_below s b (at + 3) w (omega (arith, ew.1)) in
-        let g : signed_time (fraction_bytes m0) a f ≡ record { negative = ltb q (2 ^ 47); whole = n; micros = u } =
-        rw (← ew.0, en, eu) (signed_is w ew.1 a f q off lf (eq ∙ kept3 s b at x h ex w ew.1) eo) in
-        let c = clock_of 838 (n / 64 / 64) (n / 64 % 64) (n % 64) u ck in
-        let z : fault_of (Time2 m0) a f ≡ 0 = rw g (clock_none c) in
-        let r = big_got (Time2 m0) s at 3 w a f refl (omega arith) ew.0 ew.1 refl (omega (arith, ew.1)) refl
-        (be_below s b at 3 (omega arith)) refl lf z in
-        took_some (Timed (Time2 m0)) s at d d' to (3 + w) (10 ∷ (v ∷ (n / 64 / 64 ∷ (n / 64 % 64 ∷ (n % 64
-        ∷ (u ∷ (0 ∷ (0 ∷ [])))))))) (omega arith) (omega (arith, ew.1)) (λ by p. rw ev (rw g at (r by p))) e
+    took_time v off n u i ev eo en eu ck ei d = record {
+      few = omega (arith, ew.1);
+      reads = λ s b at h q by p.
+          let xe : x ≡ be_value (take 8 (drop at s)) = ex ∙ ap be_value q in
+          let a = be_value (take 3 (drop at s)) in
+          let f = be_value (take w (drop (at + 3) s)) in
+          let lf = be_below s b (at + 3) w (omega (arith, ew.1)) in
+          let g : signed_time (fraction_bytes m0) a f ≡ record { negative = ltb v (2 ^ 47); whole = n; micros = u } =
+          rw (← ew.0, en, eu) (signed_is w ew.1 a f v off lf (ev ∙ kept3 s b at x h xe w ew.1) eo) in
+          let c = clock_of 838 (n / 64 / 64) (n / 64 % 64) (n % 64) u ck in
+          let z : fault_of (Time2 m0) a f ≡ 0 = rw g (clock_none c) in
+          let r = big_got (Time2 m0) s at 3 w a f refl (omega arith) ew.0 ew.1 refl (omega (arith, ew.1)) refl
+          (be_below s b at 3 (omega arith)) refl lf z in
+          rw d (rw ei (rw g at (r by p)));
+    }

@@ -2,21 +2,24 @@
 use Prim.Native.Nat.{ℕ, suc, ◌+◌, ◌-◌, ◌*◌, ◌/◌, ◌≤◌, ◌<◌, ◌^◌, min}
 use mathlib.Core.Path.{◌≡◌, refl, sym, ap, ◌∙◌}
 use mathlib.Core.Bool.{Bool, true, false, cond, ◌&&◌}
-use mathlib.Core.List.{List, [], ◌∷◌, ◌++◌}
+use mathlib.Core.List.{List}
 use mathlib.Core.Logic.{dite}
 use native.Mathlib.Decide.{dec_le}
 use native.Mathlib.Nat.{add-zero}
 use native.Mathlib.Omega.{arith}
 use borrow.Author.Tests.{eq-eqb, ne_eqb, le-leb, lt-leb, le-ltb, lt-ltb, ltb-false}
-use lib.ListN.{length, set, get_or, take, drop, length-drop, length-take}
+use lib.ListN.{length, get_or, take, drop, length-drop, length-take}
 use lib.Dec.{ltb, eqb}
+use Rattle.std.specs.Prelude.{Option, Some, None}
 use Rattle.wire.specs.declared.refusal.Refusal.{Refusal}
 use Rattle.wire.specs.Outcome.{Outcome, ok, refused, refuse, after}
-use Rattle.wire.specs.Number.{le_value}
+use Rattle.wire.specs.Number.{Bytes, le_value}
 use Rattle.wire.specs.Bits.{bytes_for, bit_lsb0}
 use Rattle.wire.specs.Stored.{stored}
 use Rattle.wire.proofs.Outcomes.{ok_not_refused, same_ok, same_refused}
-use Rattle.wire.proofs.Stores.{length_stored, stored_one, stored_stored}
+use Rattle.wire.proofs.Stores.{length_stored, part_stored}
+use Rattle.value.proofs.Readers.{part_length}
+use borrow.Rule.Slice.PartMut.{put_mid}
 use Rattle.value.specs.declared.datum.Value.{Value}
 use Rattle.value.specs.declared.datum.Value.TheVariants.{Null}
 use Rattle.value.specs.Ops.{shape_for}
@@ -26,33 +29,18 @@ use Rattle.image.proofs.EndLaws.Ends.{value_within}
 use Rattle.row_plan.specs.declared.row.RowCursor.{RowCursor}
 use Rattle.row_plan.specs.Plan.{item_count, item_at, row_cursor, RowStepped, null, value, row_next, plan_step}
 use Rattle.row_plan.specs.Runs.{value_numbers, turned, is_over, RowRan, ran, run_on, run_from}
-use Rattle.row_plan.specs.Inner.Numbers.{numbered, item_numbers}
-use Rattle.row_plan.specs.Inner.Fast.{Took, TookItem}
+use Rattle.row_plan.specs.Inner.Numbers.{numbered, one_of, item_numbers}
+use Rattle.row_plan.specs.Inner.Fast.{Took, ReadsItem, TookItem}
 use Rattle.row_plan.specs.Inner.Paused.{Stands, Running, row_gate}
-use Rattle.row_plan.proofs.NumberLaws.{one_listed}
 use Rattle.row_plan.proofs.Goes.{goes, slots_here}
 
--- ---- eight numbers stored one after the other
-next_stored : (d : List ℕ) (at : ℕ) (w : List ℕ) (x : ℕ) → at + length w < length d
-    → set (stored w d at) (at + length w) x ≡ stored (w ++ (x ∷ [])) d at
-next_stored d at w x h =
-    let l = length_stored d at w (omega arith) in
-    stored_one (stored w d at) (at + length w) x (omega arith) ∙ stored_stored d at w (x ∷ []) (omega arith)
-
-pub eight : (d : List ℕ) (at s a b c e f g h : ℕ) → at + 8 ≤ length d
-    → set (set (set (set (set (set (set (set d at s) (at + 1) a) (at + 2) b) (at + 3) c) (at + 4) e) (at + 5) f) (at + 6) g) (at + 7) h
-    ≡ stored (s ∷ (a ∷ (b ∷ (c ∷ (e ∷ (f ∷ (g ∷ (h ∷ [])))))))) d at
-eight d at s a b c e f g h l =
-    rw (
-      stored_one d at s (omega arith),
-      next_stored d at (s ∷ []) a (omega arith),
-      next_stored d at (s ∷ (a ∷ [])) b (omega arith),
-      next_stored d at (s ∷ (a ∷ (b ∷ []))) c (omega arith),
-      next_stored d at (s ∷ (a ∷ (b ∷ (c ∷ [])))) e (omega arith),
-      next_stored d at (s ∷ (a ∷ (b ∷ (c ∷ (e ∷ []))))) f (omega arith),
-      next_stored d at (s ∷ (a ∷ (b ∷ (c ∷ (e ∷ (f ∷ [])))))) g (omega arith),
-      next_stored d at (s ∷ (a ∷ (b ∷ (c ∷ (e ∷ (f ∷ (g ∷ []))))))) h (omega arith),
-    )
+-- ---- the numbers of one value written over the part of a buffer that is theirs
+pub slot_put : (d : List ℕ) (to : ℕ) {x ns : List ℕ} → x ≡ ns → length x ≡ length (take (to + 8 - to) (drop to d)) → to + 8 ≤ length d
+    → (put_mid to (to + 8 - to) d x ≡ stored ns d to) × (length (put_mid to (to + 8 - to) d x) ≡ length d)
+slot_put d to {x} {ns} e n h =
+    let l : length ns ≡ to + 8 - to = sym (ap length e) ∙ n ∙ part_length d to (to + 8 - to) (omega arith) in
+    let u = part_stored d ns x to (to + 8 - to) e (sym l) in
+    (u, ap length u ∙ length_stored d to ns (omega (arith, l)))
 
 -- ---- at an item of an image that was tested
 and_false : (b : Bool) → b && false ≡ false
@@ -290,34 +278,21 @@ module _ (plan images : List ℕ) (items room had : ℕ) (d₀ : List ℕ) (here
       ∙ ap (λ (k : ℕ). run_from k plan images (row_cursor here.start item offset) values d) (sym m) ∙ r.goes
 
 -- ---- an item read fast
-pub took_null : (plan image : List ℕ) (item offset : ℕ) (d d' : List ℕ) (to : ℕ) → bit_lsb0 image item ≡ true
-    → d' ≡ stored (one_listed 1 0) d to → TookItem plan image item offset d d' to 1
+pub took_null : (plan image : List ℕ) (item offset : ℕ) {numbers : List ℕ} → bit_lsb0 image item ≡ true → numbers ≡ one_of 1 0
+    → ReadsItem plan image item offset 0 numbers
 unfolding value_numbers
-took_null plan image item offset d d' to e s = record {
+took_null plan image item offset e s = record {
   few = omega arith;
-  left = λ x. absurd (omega (arith, x));
-  taken = λ f. record { numbers = one_listed 1 0; read = λ by p. rw add-zero (item_null plan image by item offset e); put = s };
+  reads = λ by. rw (s, add-zero) (item_null plan image by item offset e);
 }
 
-pub took_left : (plan image : List ℕ) (item offset : ℕ) (d d' : List ℕ) (to : ℕ) → d' ≡ d → TookItem plan image item offset d d' to 0
-took_left plan image item offset d d' to e = record { few = omega arith; left = λ x. e; taken = λ f. absurd (f refl) }
-
-pub took_read : (plan image : List ℕ) (item offset op : ℕ) (d d' : List ℕ) (to n : ℕ) → bit_lsb0 image item ≡ false
-    → op ≡ get_or plan (3 * item) 0 → Took (shape_for op) image offset d d' to n → (n ≡ 0 → ⊥)
-    → TookItem plan image item offset d d' to (1 + n)
-took_read plan image item offset op d d' to n e o t f =
-    let k = t.taken f in
-    let m : 1 + n - 1 ≡ n = omega arith in
+pub took_read : (plan image : List ℕ) (item offset op : ℕ) (room exit : List ℕ) {slot eight : List ℕ} (n : Option ℕ) → Bytes image
+    → offset + 8 ≤ length image → eight ≡ take 8 (drop offset image) → bit_lsb0 image item ≡ false → op ≡ get_or plan (3 * item) 0
+    → slot ≡ room → Took (shape_for op) eight slot exit n → TookItem plan image item offset room exit n
+took_read plan image item offset op room exit (Some n) b h q e o r t =
     let j = le_value (take 2 (drop (3 * item + 1) plan)) in
-    record {
-      few = omega (arith, t.few);
-      left = λ x. absurd (omega (arith, x));
-      taken = λ x. record {
-        numbers = k.numbers;
-        read = λ by p. rw m (item_read plan image by item offset op j e o refl ∙ k.read by j);
-        put = k.put;
-      };
-    }
+    record { few = t.few; reads = λ by. item_read plan image by item offset op j e o refl ∙ t.reads image b offset h q by j }
+took_read plan image item offset op room exit None b h q e o r t = t ∙ r
 
 -- ---- the loop that reads fast, up to a limit: for each item before it eight bytes and room for a value are there
 pub record Taking (plan images : List ℕ) (items room had : ℕ) (d₀ : List ℕ) (here : RowCursor) (d : List ℕ)
@@ -353,24 +328,23 @@ take_begin plan images items room had d here b t h x y z =
     let m : here.item + b - here.item ≡ b = omega arith in
     record { run = run_begin plan images items room had d here t h; space = rw m y; bytes = rw m z; most = x }
 
-pub take_fits : (offset limit item len n : ℕ) → offset + 8 * (limit - item) ≤ len → item < limit → n ≤ 9 → len < 2 ^ 64
-    → offset + (n - 1) < 2 ^ 64
+pub take_fits : (offset limit item len n : ℕ) → offset + 8 * (limit - item) ≤ len → item < limit → n ≤ 8 → len < 2 ^ 64
+    → offset + n < 2 ^ 64
 take_fits offset limit item len n h l f b = omega arith
 
 module _ (plan images : List ℕ) (items room had : ℕ) (d₀ : List ℕ) (here : RowCursor) (t : Stands plan images items here) (d : List ℕ)
     (item offset values limit : ℕ) (r : Taking plan images items room had d₀ here d item offset values limit) (l : item < limit)
     {im : List ℕ} (is : im ≡ drop here.start images) where
-  pub take_turn : (n : ℕ) (d' : List ℕ) → TookItem plan im item offset d d' (8 * values) n → (n ≡ 0 → ⊥) → length d' ≡ length d
-      → Taking plan images items room had d₀ here d' (item + 1) (offset + (n - 1)) (values + 1) limit
-  take_turn n d' k f e =
-      let g = k.taken f in
-      record {
-        run = run_turn plan images items room had d₀ here t d item offset values r.run (omega (arith, r.space))
-            (omega (arith, r.most)) is g.numbers (offset + (n - 1)) d' (g.read here.start 0) g.put e;
-        space = omega (arith, r.space);
-        bytes = omega (arith, r.bytes, k.few);
-        most = r.most;
-      }
+  pub take_turn : (n : ℕ) (ns d' : List ℕ) → ReadsItem plan im item offset n ns
+      → d' ≡ stored ns d (8 * values) → length d' ≡ length d
+      → Taking plan images items room had d₀ here d' (item + 1) (offset + n) (values + 1) limit
+  take_turn n ns d' k u e = record {
+    run = run_turn plan images items room had d₀ here t d item offset values r.run (omega (arith, r.space)) (omega (arith, r.most)) is ns
+        (offset + n) d' (k.reads here.start) u e;
+    space = omega (arith, r.space);
+    bytes = omega (arith, r.bytes, k.few);
+    most = r.most;
+  }
 
 -- ---- the loop through one image, at a cursor
 pub record Along (plan images : List ℕ) (items room had : ℕ) (d₀ : List ℕ) (here : RowCursor) (d : List ℕ) (at : RowCursor) (values : ℕ) :

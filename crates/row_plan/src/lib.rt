@@ -2,7 +2,6 @@
 // of document 02. And rows written by it, which is our own.
 #![tactic(auto)]
 
-mod eight;
 mod fast;
 mod make;
 mod numbers;
@@ -11,6 +10,6 @@ mod row;
 mod run;
 
 pub use make::make_plan;
+pub use numbers::VALUE_NUMBERS;
 pub use put::ItemCursor;
 pub use row::RowCursor;
-pub use run::VALUE_NUMBERS;

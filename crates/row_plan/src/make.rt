@@ -17,8 +17,8 @@ fn put_item(op: u8, column: usize, plan: &mut [u8], at: usize)
     requires { at + 3 ≤ length plan.old }
     ensures { plan.new ≡ stored (op ∷ le_bytes 2 column) plan.old at }
 {
-    plan[at] = op;
-    let _ = wire::write_le(2, column as u64, plan, at + 1);
+    let [low, high, ..] = column.to_le_bytes();
+    plan[at..at + ITEM_BYTES].copy_from_slice(&[op, low, high]);
 }
 
 // The plan stored at the start of a buffer that has room for it.
@@ -27,17 +27,12 @@ fn put_plan(profile: &[u8], presence: &[u8], columns: usize, plan: &mut [u8])
     ensures { plan.new ≡ stored (plan_of profile.now presence.now) plan.old 0 }
 {
     let mut at: usize = 0;
-    let mut j: usize = 0;
-    while j < columns {
-        let column = j;
-        j += 1;
+    for column in 0..columns {
         if !wire::bit_lsb0(presence, column) {
             continue;
         }
-        let op = value::op_of(value::shape_of(record::column_of(record::entry_in(
-            profile, column,
-        ))));
-        put_item(op, column, plan, at);
+        let stored = record::column_of(record::entry_in(profile, column));
+        put_item(value::op_of(value::shape_of(stored)), column, plan, at);
         at += ITEM_BYTES;
     }
 }

@@ -6,13 +6,11 @@ ghost use Rattle.row_plan.specs.Puts.{plan_put};
 use crate::make::ITEM_BYTES;
 use crate::row::column_at;
 use value::Value;
-use value_parts::sort::NULL;
-use value_parts::sort_of;
 use wire::Refusal;
 use wire::refusal::{BAD_BITS, NO_COLUMN, NO_ROOM, NOT_TAKEN};
 
 // Which present column comes next, and where its value goes in the image.
-#[derive(Clone, Copy)]
+#[derive(Clone, Copy, Debug, PartialEq, Eq)]
 pub struct ItemCursor {
     pub item: usize,
     pub offset: usize,
@@ -48,7 +46,7 @@ impl ItemCursor {
         let column = column_at(plan, at);
         let behind = item + 1;
         let is_marked = wire::bit_lsb0(nulls, item);
-        if sort_of(value) == NULL {
+        if let Value::Null = value {
             if !is_marked {
                 return Err(wire::refuse(NOT_TAKEN, column));
             }

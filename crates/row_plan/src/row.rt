@@ -1,5 +1,5 @@
 // A step by a plan.
-ghost use Rattle.std.specs.Prelude.{◌≡◌, ◌+◌, ◌≤◌, ◌<◌, min, length, get_or, take, drop};
+ghost use Rattle.std.specs.Prelude.{◌≡◌, ◌+◌, ◌≤◌, length, take, drop};
 ghost use Rattle.wire.specs.Number.{le_value};
 ghost use Rattle.row_plan.specs.Plan.{plan_step};
 
@@ -9,25 +9,11 @@ use wire::Refusal;
 use wire::refusal::{IMAGE_SHORT, NO_COLUMN};
 
 // Where this image starts among the images, which present column comes next, and where its value starts in the image.
-#[derive(Clone, Copy)]
+#[derive(Clone, Copy, Debug, PartialEq, Eq)]
 pub struct RowCursor {
     pub start: usize,
     pub item: usize,
     pub offset: usize,
-}
-
-pub(crate) fn least(a: usize, b: usize) -> usize
-    ensures { result ≡ min a b }
-{
-    if a < b { a } else { b }
-}
-
-// A byte, with its bound.
-fn byte(s: &[u8], i: usize) -> usize
-    requires { i < length s.now }
-    ensures { (result ≡ get_or s.now i 0) × (result < 256) }
-{
-    s[i] as usize
 }
 
 // The column of the item at a place of the plan: the call of a reader of any width costs 40 instructions here.
@@ -35,7 +21,7 @@ pub(crate) fn column_at(plan: &[u8], at: usize) -> usize
     requires { at + 3 ≤ length plan.now }
     ensures { result ≡ le_value (take 2 (drop (at + 1) plan.now)) }
 {
-    byte(plan, at + 1) + 256 * byte(plan, at + 2)
+    usize::from(u16::from_le_bytes([plan[at + 1], plan[at + 2]]))
 }
 
 impl RowCursor {
@@ -50,8 +36,7 @@ impl RowCursor {
         if items < item {
             return Err(wire::refuse(NO_COLUMN, item));
         }
-        let from = least(start, images.len());
-        let image = &images[from..];
+        let image = &images[start.min(images.len())..];
         if image.len() < wire::bytes_for(items) {
             return Err(wire::refuse(IMAGE_SHORT, 0));
         }

@@ -3,20 +3,17 @@ ghost use Rattle.std.specs.Prelude.{◌≡◌, ◌+◌, ◌-◌, ◌*◌, ◌/�
 ghost use Rattle.wire.specs.Bits.{bit_lsb0};
 ghost use Rattle.wire.specs.Stored.{stored, answer_of, left_of};
 ghost use Rattle.row_plan.specs.Runs.{turned, is_over, run_from, read_run};
-ghost use Rattle.row_plan.specs.Inner.Numbers.{listed, numbers_told, item_numbers};
+ghost use Rattle.row_plan.specs.Inner.Numbers.{item_numbers};
 ghost use Rattle.row_plan.specs.Inner.Fast.{TookItem};
 ghost use Rattle.row_plan.specs.Inner.Paused.{row_gate, paused_run, Further, Stands, Running, stop_answer};
 
 use crate::fast::take_op;
 use crate::make::ITEM_BYTES;
-use crate::numbers::{Numbers, number_op, one};
-use crate::row::{RowCursor, column_at, least};
+use crate::numbers::{Numbers, VALUE_NUMBERS, number_op, one};
+use crate::row::{RowCursor, column_at};
 use value_parts::sort::NULL;
 use wire::Refusal;
 use wire::refusal::{IMAGE_SHORT, NO_COLUMN, NO_ROOM};
-
-// How many numbers a value has: its sort and seven parts.
-pub const VALUE_NUMBERS: usize = 8;
 
 // Where a run left an image: at its end or at that of the room, or at a value that is refused.
 #[derive(Clone, Copy)]
@@ -34,19 +31,24 @@ pub(crate) struct Reached {
     pub(crate) offset: usize,
 }
 
-// The numbers of a value, stored where there is room for them.
-pub(crate) fn put(n: Numbers, out: &mut [u64], at: usize)
-    requires { at + 8 ≤ length out.old }
-    ensures { out.new ≡ stored (listed n) out.old at }
+// The numbers of a value, stored where there is room for just them. An array is stored as a whole: the compiler makes plain stores of it, and
+// a loop of `copy_from_slice`, which costs a tenth more for each integer.
+fn put(numbers: Numbers, room: &mut [u64])
+    requires { length room.old ≡ 8 }
+    ensures { room.new ≡ numbers }
 {
-    out[at] = n.sort;
-    out[at + 1] = n.a;
-    out[at + 2] = n.b;
-    out[at + 3] = n.c;
-    out[at + 4] = n.d;
-    out[at + 5] = n.e;
-    out[at + 6] = n.f;
-    out[at + 7] = n.g;
+    let Some(slot) = room.as_mut_array() else {
+        unreachable!()
+    };
+    *slot = numbers;
+}
+
+// Whether an item is NULL. Its bit is there, so that no item tests that again.
+fn is_null(image: &[u8], item: usize) -> bool
+    requires { item / 8 < length image.now }
+    ensures { result ≡ bit_lsb0 image.now item }
+{
+    (image[item / 8] >> (item % 8)) % 2 == 1
 }
 
 // The numbers of one item, in an image that starts at `by`.
@@ -57,47 +59,41 @@ fn number_item(
     item: usize,
     offset: usize,
 ) -> Result<(Numbers, usize), Refusal>
-    requires item_in_bounds { (3 * item + 3 ≤ length plan.now) × (offset ≤ length image.now) }
+    requires item_in_bounds { (3 * item + 3 ≤ length plan.now) × (item / 8 < length image.now) }
+    requires offset_in_bounds { offset ≤ length image.now }
     requires image_bound { by + length image.now < 2 ^ 64 }
-    ensures { numbers_told result ≡ item_numbers plan.now image.now by item offset }
+    ensures { result ≡ item_numbers plan.now image.now by item offset }
 {
-    if wire::bit_lsb0(image, item) {
+    if is_null(image, item) {
         return Ok((one(NULL, 0), offset));
     }
     let at = ITEM_BYTES * item;
     number_op(plan[at], image, offset, column_at(plan, at), by)
 }
 
-// Whether an item is NULL; its bit is there.
-fn is_null(image: &[u8], item: usize) -> bool
-    requires { item / 8 < length image.now }
-    ensures { result ≡ bit_lsb0 image.now item }
-{
-    (image[item / 8] >> (item % 8)) % 2 == 1
-}
-
-// The value of one item: one more than how many bytes it takes, NULL none, or 0 if it is left.
+// The value of one item: how many bytes it takes, NULL none, unless it is left.
 fn take_item(
     plan: &[u8],
     image: &[u8],
     item: usize,
     offset: usize,
-    out: &mut [u64],
-    to: usize,
-) -> usize
+    room: &mut [u64],
+) -> Option<usize>
     requires item_in_bounds { (3 * item + 3 ≤ length plan.now) × (item / 8 < length image.now) }
-    requires offset_in_bounds { (offset + 8 ≤ length image.now) × (to + 8 ≤ length out.old) }
-    ensures { TookItem plan.now image.now item offset out.old out.new to result }
+    requires offset_in_bounds { (offset + 8 ≤ length image.now) × (length room.old ≡ 8) }
+    ensures { TookItem plan.now image.now item offset room.old room.new result }
 {
+    let Some(slot) = room.as_mut_array() else {
+        unreachable!()
+    };
     if is_null(image, item) {
-        put(one(NULL, 0), out, to);
-        return 1;
+        *slot = one(NULL, 0);
+        return Some(0);
     }
-    let n = take_op(plan[ITEM_BYTES * item], image, offset, out, to);
-    if n == 0 {
-        return 0;
-    }
-    1 + n
+    let Some(bytes) = image[offset..offset + 8].as_array() else {
+        unreachable!()
+    };
+    take_op(plan[ITEM_BYTES * item], bytes, slot)
 }
 
 // From an item of an image on, as far as values are read fast: to a value that is left, to the image's end, to that of the room, or to
@@ -116,26 +112,24 @@ fn take_items(
     ensures { Running plan.now images.now items room had out.old here out.new result.item
         result.offset result.values }
 {
-    let start = here.start;
-    let image = &images[start..];
-    let mut item = here.item;
+    let image = &images[here.start..];
     let mut offset = here.offset;
     let mut values = had;
-    let limit = item
-        + least(
-            least(items - item, room - values),
-            (image.len() - offset) / 8,
-        );
+    let eights = (image.len() - offset) / 8;
+    let limit = here.item + (items - here.item).min(room - values).min(eights);
+    let mut item = here.item;
+    // What a value takes moves the offset. A `for` over the items was tried: with it a value of bytes costs a twentieth more.
     while item < limit {
-        let n = take_item(plan, image, item, offset, out, VALUE_NUMBERS * values);
-        if n == 0 {
+        let to = VALUE_NUMBERS * values;
+        let taken = take_item(plan, image, item, offset, &mut out[to..to + VALUE_NUMBERS]);
+        let Some(n) = taken else {
             return Reached {
                 values,
                 item,
                 offset,
             };
-        }
-        offset += n - 1;
+        };
+        offset += n;
         item += 1;
         values += 1;
     }
@@ -167,6 +161,7 @@ fn run_image(
     let image = &images[start..];
     let mut at = here;
     let mut values = had;
+    // A walk: each turn goes on from where the last one came to, and stores as many values as it comes to.
     while values < room {
         if at.item == items {
             return Paused {
@@ -182,21 +177,11 @@ fn run_image(
             item: far.item,
             offset: far.offset,
         };
-        if far.item == items {
+        if far.item == items || far.values == room {
             continue;
         }
-        if far.values == room {
-            continue;
-        }
-        match number_item(plan, image, start, far.item, far.offset) {
-            Ok((numbers, next)) => {
-                put(numbers, out, VALUE_NUMBERS * far.values);
-                at = RowCursor {
-                    start,
-                    item: far.item + 1,
-                    offset: next,
-                };
-            }
+        let (numbers, next) = match number_item(plan, image, start, far.item, far.offset) {
+            Ok(read) => read,
             Err(why) => {
                 return Paused {
                     values,
@@ -204,7 +189,14 @@ fn run_image(
                     stop: Err(why),
                 };
             }
-        }
+        };
+        let to = VALUE_NUMBERS * far.values;
+        put(numbers, &mut out[to..to + VALUE_NUMBERS]);
+        at = RowCursor {
+            start,
+            item: far.item + 1,
+            offset: next,
+        };
         values += 1;
     }
     Paused {
@@ -214,25 +206,13 @@ fn run_image(
     }
 }
 
-// How many bytes of the images stand from a place on.
-fn rest(images: &[u8], from: usize) -> usize
-    ensures { result ≡ length images.now - from }
-{
-    if images.len() <= from {
-        return 0;
-    }
-    images.len() - from
-}
-
 // Behind the last item of an image stands the next image.
+#[tactic(auto, using(wire::proofs::Rules::tests, crate::proofs::RunLaws::turn_past, crate::proofs::RunLaws::turn_next), unfolding(crate::specs::Runs::turned))]
 fn turned(c: RowCursor, plan: &[u8], images: &[u8]) -> RowCursor
     ensures { result ≡ turned plan.now images.now c }
 {
     let items = plan.len() / ITEM_BYTES;
-    if c.item != items {
-        return c;
-    }
-    if rest(images, c.start) < c.offset {
+    if c.item != items || images.len().saturating_sub(c.start) < c.offset {
         return c;
     }
     RowCursor {
@@ -243,13 +223,11 @@ fn turned(c: RowCursor, plan: &[u8], images: &[u8]) -> RowCursor
 }
 
 // Whether the images end where the next would begin.
+#[tactic(auto, using(wire::proofs::Rules::tests), unfolding(crate::specs::Runs::is_over))]
 fn is_over(c: RowCursor, images: &[u8]) -> bool
     ensures { result ≡ is_over images.now c }
 {
-    if c.item != 0 {
-        return false;
-    }
-    c.start == images.len()
+    c.item == 0 && c.start == images.len()
 }
 
 // The tests before the values of an image: refusals 14 and 9.
@@ -259,7 +237,7 @@ fn test_image(c: RowCursor, items: usize, images: &[u8]) -> Result<(), Refusal>
     if items < c.item {
         return Err(wire::refuse(NO_COLUMN, c.item));
     }
-    let left = rest(images, c.start);
+    let left = images.len().saturating_sub(c.start);
     if left < wire::bytes_for(items) {
         return Err(wire::refuse(IMAGE_SHORT, 0));
     }

@@ -1,7 +1,7 @@
 -- A value read fast, or left to another reader. Assumes nothing.
-use Rattle.std.specs.Prelude.{ℕ, ◌+◌, ◌-◌, ◌≤◌, ◌≡◌, List}
-use Rattle.wire.specs.Outcome.{Outcome, ok}
-use Rattle.wire.specs.Stored.{stored}
+use Rattle.std.specs.Prelude.{ℕ, ◌+◌, ◌≤◌, ◌≡◌, List, length, take, drop, Option, Some, None}
+use Rattle.wire.specs.Number.{Bytes}
+use Rattle.wire.specs.Outcome.{ok}
 use Rattle.temporal.specs.declared.storage.Storage.{Storage}
 use Rattle.temporal.specs.Fraction.{fraction_bytes}
 use Rattle.value.specs.declared.shape.Shape.{Shape}
@@ -9,24 +9,26 @@ use Rattle.value.specs.declared.shape.Shape.TheVariants.{Timed}
 use Rattle.value.specs.Reading.{read_value}
 use Rattle.row_plan.specs.Inner.Numbers.{numbered, item_numbers}
 
--- a reader, of any image and for any place of a refusal, reads numbers up to `next`; they were stored
-pub record Taken (reads : ℕ → ℕ → Outcome (List ℕ × ℕ)) (next : ℕ) (buf exit : List ℕ) (to : ℕ) : Type 0 where
-  pub numbers : List ℕ
-  pub read : (by p : ℕ) → reads by p ≡ ok (numbers, next)
-  pub put : exit ≡ stored numbers buf to
-
--- n bytes at a place are a value of a shape, and so it is; or n is 0 and nothing was stored
-pub record Took (sh : Shape) (s : List ℕ) (at : ℕ) (buf exit : List ℕ) (to n : ℕ) : Type 0 where
+-- wherever eight bytes stand, in any image and for any place of a refusal, n of them are a value of a shape, which is these numbers
+pub record Reads (sh : Shape) (eight : List ℕ) (n : ℕ) (numbers : List ℕ) : Type 0 where
   pub few : n ≤ 8
-  pub left : n ≡ 0 → exit ≡ buf
-  pub taken : (n ≡ 0 → ⊥) → Taken (λ by p. numbered by (read_value sh p s at)) (at + n) buf exit to
+  pub reads : (s : List ℕ) → Bytes s → (at : ℕ) → at + 8 ≤ length s → eight ≡ take 8 (drop at s) → (by p : ℕ)
+      → numbered by (read_value sh p s at) ≡ ok (numbers, at + n)
+
+-- the value's slot has its numbers; or nothing was read, and the slot stayed as it was
+abbrev pub Took : Shape → List ℕ → List ℕ → List ℕ → Option ℕ → Type 0
+Took sh eight slot exit (Some n) = Reads sh eight n exit
+Took sh eight slot exit None = exit ≡ slot
 
 -- the same of a temporal whose fraction has w bytes, however many digits its column declares
-abbrev pub TookTimed : (ℕ → Storage) → ℕ → List ℕ → ℕ → List ℕ → List ℕ → ℕ → ℕ → Type 0
-TookTimed kind w s at buf exit to n = (m0 : ℕ) → w ≡ fraction_bytes m0 → Took (Timed (kind m0)) s at buf exit to n
+abbrev pub TookTimed : (ℕ → Storage) → ℕ → List ℕ → List ℕ → List ℕ → Option ℕ → Type 0
+TookTimed kind w eight slot exit n = (m0 : ℕ) → w ≡ fraction_bytes m0 → Took (Timed (kind m0)) eight slot exit n
 
--- the same of an item of a plan; n is one more, since NULL takes no byte
-pub record TookItem (plan image : List ℕ) (item offset : ℕ) (buf exit : List ℕ) (to n : ℕ) : Type 0 where
-  pub few : n ≤ 9
-  pub left : n ≡ 0 → exit ≡ buf
-  pub taken : (n ≡ 0 → ⊥) → Taken (λ by p. item_numbers plan image by item offset) (offset + (n - 1)) buf exit to
+-- the same of an item of a plan, from an offset of an image on
+pub record ReadsItem (plan image : List ℕ) (item offset n : ℕ) (numbers : List ℕ) : Type 0 where
+  pub few : n ≤ 8
+  pub reads : (by : ℕ) → item_numbers plan image by item offset ≡ ok (numbers, offset + n)
+
+abbrev pub TookItem : List ℕ → List ℕ → ℕ → ℕ → List ℕ → List ℕ → Option ℕ → Type 0
+TookItem plan image item offset slot exit (Some n) = ReadsItem plan image item offset n exit
+TookItem plan image item offset slot exit None = exit ≡ slot

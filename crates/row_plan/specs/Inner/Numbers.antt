@@ -1,22 +1,21 @@
 -- A value read and told as numbers, and the value of an item of a plan. Assumes nothing.
-use Rattle.std.specs.Prelude.{ℕ, ◌+◌, ◌*◌, cond, List, [], ◌∷◌, get_or, take, drop}
-use Rattle.wire.specs.Outcome.{Outcome, ok, refused, after}
+use Rattle.std.specs.Prelude.{ℕ, ◌+◌, ◌*◌, cond, List, [], ◌∷◌, length, get_or, take, drop, leb}
+use Rattle.wire.specs.Outcome.{Outcome, ok, refuse, after}
 use Rattle.wire.specs.Number.{le_value}
 use Rattle.wire.specs.Bits.{bit_lsb0}
 use Rattle.value.specs.declared.datum.Value.{Value}
 use Rattle.value.specs.declared.datum.Value.TheVariants.{Null, Int, Uint, Float, Double, Year, Bytes}
 use Rattle.value.specs.Ops.{shape_for}
 use Rattle.value.specs.Reading.{read_value}
-use Rattle.row_plan.specs.declared.numbers.Numbers.{Numbers}
 use Rattle.row_plan.specs.Runs.{value_numbers}
 
--- the eight numbers in their order
-abbrev pub listed : Numbers → List ℕ
-listed n = n.sort ∷ (n.a ∷ (n.b ∷ (n.c ∷ (n.d ∷ (n.e ∷ (n.f ∷ (n.g ∷ [])))))))
+-- the numbers of a value that has one part
+abbrev pub one_of : ℕ → ℕ → List ℕ
+one_of sort n = sort ∷ (n ∷ (0 ∷ (0 ∷ (0 ∷ (0 ∷ (0 ∷ (0 ∷ [])))))))
 
-abbrev pub numbers_told : Outcome (Numbers × ℕ) → Outcome (List ℕ × ℕ)
-numbers_told (ok x) = ok (listed x.0, x.1)
-numbers_told (refused r) = refused r
+-- the number of k bytes and the place after them, or refusal 9 at `place`
+abbrev pub integer_in : ℕ → List ℕ → ℕ → ℕ → Outcome (ℕ × ℕ)
+integer_in k s at place = cond (leb (at + k) (length s)) (ok (le_value (take k (drop at s)), at + k)) (refuse 9 place)
 
 -- the numbers of a value that was read
 abbrev pub numbered : ℕ → Outcome (Value × ℕ) → Outcome (List ℕ × ℕ)

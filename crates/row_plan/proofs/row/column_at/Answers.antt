@@ -8,4 +8,4 @@ pub returns : goal.returns
 returns c = let a = c.args in
     let n : a.at + 1 + 1 ≡ a.at + 2 = omega arith in
     let l = rw n at (two a.plan.now (a.at + 1) (omega arith)) in
-    omega (arith, l, c.byte.ensures.0, c.byte-2.ensures.0)
+    omega (arith, l, c.from.ensures, c.from_le_bytes.ensures)

@@ -1,11 +1,11 @@
-use Prim.Native.Nat.{◌≤◌}
-use mathlib.Core.Path.{refl, sym, ap, ◌∙◌}
+use Prim.Native.Nat.{◌≤◌, ◌<◌}
+use mathlib.Core.Path.{refl, sym, ◌∙◌}
 use native.Mathlib.Omega.{arith}
 use lib.ListN.{length}
 use Rattle.wire.proofs.Outcomes.{ok_not_refused}
-use Rattle.row_plan.specs.Inner.Numbers.{numbers_told}
 use Rattle.row_plan.proofs.Goes.{rest_is}
-use Rattle.row_plan.proofs.RunLaws.{along_goes, along_stands, along_join, run_begin, run_turn, run_stop, above_had, item_fits, part_fits, part_holds}
+use Rattle.row_plan.proofs.RunLaws.{along_goes, along_stands, along_join, run_begin, run_turn, run_stop, above_had, item_fits, part_fits, part_holds, im_length, slot_put}
+use Rattle.row_plan.proofs.run.run_image.Goals.{then-far-items-via-then-far-items, then-far-items-via-else-far-items+then-far-room}
 use Rattle.row_plan.proofs.run.run_image.Goals as goal
 
 pub slice_bounds-image-count : goal.slice_bounds-image-count
@@ -50,26 +50,15 @@ take_items-far-requires c = let a = c.args in
     }
 
 pub loop-values-smaller-then-far-items : goal.loop-values-smaller-then-far-items
-loop-values-smaller-then-far-items c = omega (
-  arith,
-  above_had _ _ _ _ c.take_items-far.ensures.more c.take_items-far.ensures.first c.if-far-items.true,
-  c.take_items-far.ensures.most,
-  c.loop-values-test.true,
-)
+loop-values-smaller-then-far-items c =
+    let q = c.take_items-far.ensures in
+    elim c.then-far-items.branch [
+      | then-far-items-via-then-far-items w ↦ omega (arith, above_had _ _ _ _ q.more q.first w.if-far-items.true, q.most, c.loop-values-test.true)
+      | then-far-items-via-else-far-items+then-far-room w ↦ omega (arith, w.if-far-room.true, c.loop-values-test.true)
+    ]
 
 pub loop-values-preserved-then-far-items : goal.loop-values-preserved-then-far-items
 loop-values-preserved-then-far-items c = let a = c.args in
-    along_join a.plan.now a.images.now a.items a.room a.had a.out.now a.here c.loop-values.out c.loop-values.at c.loop-values.values c.loop-values.invariant _ _ _ _ c.take_items-far.ensures
-
-pub loop-values-smaller-then-far-room : goal.loop-values-smaller-then-far-room
-loop-values-smaller-then-far-room c = omega (
-  arith,
-  c.if-far-room.true,
-  c.loop-values-test.true,
-)
-
-pub loop-values-preserved-then-far-room : goal.loop-values-preserved-then-far-room
-loop-values-preserved-then-far-room c = let a = c.args in
     along_join a.plan.now a.images.now a.items a.room a.had a.out.now a.here c.loop-values.out c.loop-values.at c.loop-values.values c.loop-values.invariant _ _ _ _ c.take_items-far.ensures
 
 pub number_item-requires : goal.number_item-requires
@@ -77,34 +66,13 @@ number_item-requires c = let a = c.args in
     let t = c.requires.stands in
     let j = along_join a.plan.now a.images.now a.items a.room a.had a.out.now a.here c.loop-values.out c.loop-values.at c.loop-values.values
     c.loop-values.invariant _ _ _ _ c.take_items-far.ensures in
-    let s : a.here.start ≤ length a.images.now = omega (arith, t.nulls, t.item) in record {
-      item_in_bounds = (
-        item_fits a.plan.now a.items _ t.count (omega (arith, j.run.counted, c.if-far-items.false)),
-        part_holds a.images.now a.here.start _ s j.run.inside,
-      );
-      image_bound = part_fits a.images.now a.here.start s (omega (
-        arith,
-        c.well_formed,
-      ));
+    let s : a.here.start ≤ length a.images.now = omega (arith, t.nulls, t.item) in
+    let i : c.take_items-far.result.item < a.items = omega (arith, j.run.counted, c.if-far-items.false) in
+    let n = im_length a.plan.now a.images.now a.items a.here t (rest_is a.images.now a.here.start a.here.start (omega arith)) in record {
+      item_in_bounds = (item_fits a.plan.now a.items _ t.count i, omega (arith, i, t.nulls, n));
+      offset_in_bounds = part_holds a.images.now a.here.start _ s j.run.inside;
+      image_bound = part_fits a.images.now a.here.start s (omega (arith, c.well_formed));
     }
-
-pub overflow_mul-far : goal.overflow_mul-far
-overflow_mul-far c = omega (
-  arith,
-  c.take_items-far.ensures.most,
-  c.requires.had_lt_room.1,
-  c.well_formed,
-)
-
-pub put-requires : goal.put-requires
-put-requires c = omega (
-  arith,
-  c.take_items-far.ensures.same,
-  c.take_items-far.ensures.most,
-  c.loop-values.invariant.run.same,
-  c.requires.had_lt_room.1,
-  c.if-far-room.false,
-)
 
 pub overflow_add-at : goal.overflow_add-at
 overflow_add-at c = omega (
@@ -123,7 +91,7 @@ returns-in-Err c = let a = c.args in
     let j = along_join a.plan.now a.images.now a.items a.room a.had a.out.now a.here c.loop-values.out c.loop-values.at c.loop-values.values
     c.loop-values.invariant _ _ _ _ c.take_items-far.ensures in
     let is = rest_is a.images.now a.here.start a.here.start (omega (arith, t.nulls, t.item)) in
-    let e = sym c.number_item.ensures ∙ ap numbers_told c.in-Err.is in record {
+    let e = sym c.number_item.ensures ∙ c.in-Err.is in record {
       result_after = run_stop a.plan.now a.images.now a.items a.room a.had a.out.now a.here t _ _ _ _ j.run (omega (
         arith,
         j.run.most,
@@ -159,14 +127,21 @@ loop-values-preserved c = let a = c.args in
     let j = along_join a.plan.now a.images.now a.items a.room a.had a.out.now a.here c.loop-values.out c.loop-values.at c.loop-values.values
     c.loop-values.invariant _ _ _ _ c.take_items-far.ensures in
     let is = rest_is a.images.now a.here.start a.here.start (omega (arith, t.nulls, t.item)) in
-    let e = sym c.number_item.ensures ∙ ap numbers_told c.in-Ok.is in
+    let e = sym c.number_item.ensures ∙ c.in-Ok.is in
+    let u = slot_put c.take_items-far.new.out _ c.put.ensures c.put.auto.room (omega (
+      arith,
+      j.run.same,
+      c.requires.had_lt_room.1,
+      c.take_items-far.ensures.most,
+      c.if-far-room.false,
+    )) in
     record {
       run = run_turn a.plan.now a.images.now a.items a.room a.had a.out.now a.here t _ _ _ _ j.run (omega
           (arith, j.run.most, c.if-far-room.false)) (omega (
             arith,
             j.run.counted,
             c.if-far-items.false,
-          )) is _ _ _ e c.put.ensures c.put.auto.out;
+          )) is _ _ _ e u.0 u.1;
       start = refl;
     }
 

@@ -14,7 +14,7 @@ pub returns-then-left-bytes_for : goal.returns-then-left-bytes_for
 returns-then-left-bytes_for c =
     let a = c.args in
     ap refused c.refuse-then-left-bytes_for.ensures ∙ sym (gate_short a.items _ a.c c.if-items-c.false (omega
-    (arith, c.rest-left.ensures, c.bytes_for.ensures, c.if-left-bytes_for.true)))
+    (arith, c.saturating_sub-left.ensures, c.bytes_for.ensures, c.if-left-bytes_for.true)))
 
 pub returns-then-left-c : goal.returns-then-left-c
 returns-then-left-c c =
@@ -22,14 +22,14 @@ returns-then-left-c c =
     ap refused c.refuse-then-left-c.ensures ∙ sym (gate_past a.items _ a.c c.if-items-c.false
     (omega (
       arith,
-      c.rest-left.ensures,
+      c.saturating_sub-left.ensures,
       c.bytes_for.ensures,
       c.if-left-bytes_for.false,
-    )) (omega (arith, c.rest-left.ensures, c.if-left-c.true)))
+    )) (omega (arith, c.saturating_sub-left.ensures, c.if-left-c.true)))
 
 pub returns : goal.returns
 returns c =
     let a = c.args in
     sym (gate_passed a.items _ a.c c.if-items-c.false (omega
-    (arith, c.rest-left.ensures, c.bytes_for.ensures, c.if-left-bytes_for.false))
-    (omega (arith, c.rest-left.ensures, c.if-left-c.false)))
+    (arith, c.saturating_sub-left.ensures, c.bytes_for.ensures, c.if-left-bytes_for.false))
+    (omega (arith, c.saturating_sub-left.ensures, c.if-left-c.false)))

@@ -11,32 +11,32 @@ returns-then-items-item c = let a = c.args in ap refused c.refuse.ensures
 
 pub returns-then-image-bytes_for : goal.returns-then-image-bytes_for
 returns-then-image-bytes_for c = let a = c.args in let s = a.self in
-    let i = rest_is a.images.now s.start _ c.least-from.ensures in ap refused c.refuse-then-image-bytes_for.ensures
+    let i = rest_is a.images.now s.start _ c.min.ensures in ap refused c.refuse-then-image-bytes_for.ensures
     ∙ sym (row_short a.plan.now a.images.now s i (omega arith) (omega (arith, c.bytes_for.ensures)))
 
 pub returns-then-image-offset : goal.returns-then-image-offset
 returns-then-image-offset c = let a = c.args in let s = a.self in
-    let i = rest_is a.images.now s.start _ c.least-from.ensures in
+    let i = rest_is a.images.now s.start _ c.min.ensures in
     ap refused c.refuse-then-image-offset.ensures ∙ sym (row_past a.plan.now a.images.now s i (omega arith) (omega
     (arith, c.bytes_for.ensures)) (omega arith))
 
 pub returns-then-item-items : goal.returns-then-item-items
 returns-then-item-items c = let a = c.args in let s = a.self in
-    let i = rest_is a.images.now s.start _ c.least-from.ensures in
+    let i = rest_is a.images.now s.start _ c.min.ensures in
     sym (row_end a.plan.now a.images.now s i (omega arith) (omega (arith, c.bytes_for.ensures))
     (omega arith) c.if-item-items.true)
 
 pub returns-then-bit_lsb0 : goal.returns-then-bit_lsb0
 returns-then-bit_lsb0 c = let a = c.args in
     let s = a.self in let i = rest_is a.images.now s.start _
-    c.least-from.ensures in
+    c.min.ensures in
     sym (row_null a.plan.now a.images.now s i (omega arith) (omega
     (arith, c.bytes_for.ensures)) (omega arith) (omega arith)
     c.column_at-column.ensures (sym c.bit_lsb0.ensures ∙ c.if-bit_lsb0.true))
 
 pub returns-in_err-value : goal.returns-in_err-value
 returns-in_err-value c = let a = c.args in let s = a.self in
-    let i = rest_is a.images.now s.start _ c.least-from.ensures in
+    let i = rest_is a.images.now s.start _ c.min.ensures in
     let p = err_from_is_err_and c.from_residual.result c.from_residual.ensures.1 in
     rw (p.1, p.2) (sym (row_read a.plan.now a.images.now a.self i (omega arith) (omega
     (arith, c.bytes_for.ensures)) (omega arith) (omega arith) c.column_at-column.ensures
@@ -44,7 +44,7 @@ returns-in_err-value c = let a = c.args in let s = a.self in
 
 pub returns : goal.returns
 returns c = let a = c.args in let s = a.self in
-    let i = rest_is a.images.now s.start _ c.least-from.ensures in
+    let i = rest_is a.images.now s.start _ c.min.ensures in
     sym (row_read a.plan.now a.images.now s i (omega arith) (omega
     (arith, c.bytes_for.ensures)) (omega arith) (omega arith) c.column_at-column.ensures
     (sym c.bit_lsb0.ensures ∙ c.if-bit_lsb0.false) c.in_ok-value.ensures)
