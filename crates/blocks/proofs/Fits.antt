@@ -1,7 +1,7 @@
 -- The states that are fit are those that the laws speak of; what a call leaves is fit. Assumes nothing.
 use Prim.Native.Nat.{ℕ, ◌+◌, ◌-◌, ◌≤◌, ◌<◌}
 use mathlib.Core.Path.{◌≡◌, refl, sym, ap, subst, ◌∙◌}
-use mathlib.Core.Bool.{Bool, true, false, ◌&&◌, not, true≢false}
+use mathlib.Core.Bool.{Bool, true, false, not, true≢false}
 use mathlib.Core.Logic.{dite}
 use mathlib.Core.List.{List, [], ◌∷◌}
 use native.Mathlib.Decide.{dec_le}
@@ -25,11 +25,12 @@ use Rattle.image.proofs.PresenceLaws.Firsts.{count_at_most, first_is, slot_at, s
 use Rattle.blocks.specs.declared.state.Phase.{Phase}
 use Rattle.blocks.specs.declared.state.Phase.TheVariants.{Open, Long, Closed}
 use Rattle.blocks.specs.declared.state.Arriving.{Arriving}
-use Rattle.blocks.specs.States.{opened, longed, begun}
+use Rattle.blocks.specs.States.{longed, begun}
 use Rattle.blocks.specs.Turns.{too_long}
 use Rattle.blocks.specs.Fits.{waits, is_long, fits_in, is_counted, is_fit}
 use Rattle.blocks.specs.Gives.{give_long}
 use Rattle.value.proofs.Most.{need_most}
+use Rattle.blocks.proofs.Counts.{fit_counted, fit_in}
 use Rattle.blocks.proofs.Spends.{most_to, most_next, most_mono, room_is}
 use Rattle.blocks.proofs.Ons.{Waiting, Longing, Ready, LongReady, Left, open_left, long_left, Leaves}
 
@@ -198,23 +199,20 @@ module _ (r p carry : List ℕ) (u : Over r p) (m : 1024 ≤ length carry) where
   open_back : (column held left used : ℕ)
       → is_fit r p (count_of r) nb (record { phase = Open; column = column; held = held; left = left; used = used }) carry ≡ true
       → (left ≡ 0) × Ready ⊥ r p column held used carry
-  unfolding is_fit is_counted fits_in
+  unfolding fits_in
   open_back column held left used e =
-      let st = opened column held used in
       let y = take held carry in
-      let a = both_true (leb column (count_of r) && (leb held (length carry) && (leb held used && leb used (image_room r p)))) _ e in
-      let b = both_true (leb column (count_of r)) _ a.0 in
-      let c = both_true (leb held (length carry)) _ b.1 in
-      let g = both_true (leb held used) _ c.1 in
-      let d = both_true (eqb left 0) _ a.1 in (
+      let st : Arriving = record { phase = Open; column = column; held = held; left = left; used = used } in
+      let w = fit_counted r p carry (count_of r) nb st refl e in
+      let d = both_true (eqb left 0) _ (fit_in r p carry (count_of r) nb st refl e) in (
         eqb-true left 0 d.0,
         record {
           over = u;
           room = omega (arith, null_most r p u);
           least = m;
-          among = leb-true column (count_of r) b.0;
-          fits = leb-true held (length carry) c.0;
-          counted = leb-true held used g.0;
+          among = w.among;
+          fits = w.fits;
+          counted = w.counted;
           first = λ (k : held < nb).
               let f = both_true (eqb column 0) (eqb used held) (rw (lt-ltb held nb k) at d.1) in
               (eqb-true column 0 f.0, eqb-true used held f.1);
@@ -227,30 +225,28 @@ module _ (r p carry : List ℕ) (u : Over r p) (m : 1024 ≤ length carry) where
 
   long_back_ready : (column held left used : ℕ) → is_fit r p (count_of r) nb (longed column held left used) carry ≡ true
       → LongReady ⊥ r p column held left used carry
-  unfolding is_fit is_counted fits_in
+  unfolding fits_in
   long_back_ready column held left used e =
       let y = take held carry in
-      let a = both_true (leb column (count_of r) && (leb held (length carry) && (leb held used && leb used (image_room r p)))) _ e in
-      let b = both_true (leb column (count_of r)) _ a.0 in
-      let c = both_true (leb held (length carry)) _ b.1 in
-      let g = both_true (leb held used) _ c.1 in
-      let d = both_true (leb nb held) _ a.1 in
+      let st = longed column held left used in
+      let w = fit_counted r p carry (count_of r) nb st refl e in
+      let d = both_true (leb nb held) _ (fit_in r p carry (count_of r) nb st refl e) in
       let l = long_back (length carry - nb) column left (slots_at r p y column) (drop nb y) d.1 in
       record {
         over = u;
         room = omega (arith, null_most r p u);
         least = m;
-        among = longing_among column left y (drop nb y) (leb-true column (count_of r) b.0) l.1;
+        among = longing_among column left y (drop nb y) w.among l.1;
         low = leb-true nb held d.0;
-        fits = leb-true held (length carry) c.0;
-        counted = leb-true held used g.0;
+        fits = w.fits;
+        counted = w.counted;
         some = l.0;
         longs = l.1;
         spent = λ k. absurd k;
       }
 
   pub fit_left : (st : Arriving) → is_fit r p (count_of r) nb st carry ≡ true → Left ⊥ r p carry st
-  unfolding is_fit fits_in
+  unfolding fits_in
   fit_left st e = go st.phase refl
     where
       go : (f : Phase) → st.phase ≡ f → Left ⊥ r p carry st
@@ -269,17 +265,10 @@ module _ (r p carry : List ℕ) (u : Over r p) (m : 1024 ≤ length carry) where
           subst (λ (f : Phase). Left ⊥ r p carry
           (record { phase = f; column = st.column; held = st.held; left = st.left; used = st.used })) (sym g)
           (long_left st.column st.held st.left st.used q)
-      go Closed g = absurd (true≢false (sym (both_true (is_counted r p (count_of r) (length carry) st) false (rw g at e)).1))
+      go Closed g = absurd (true≢false (sym (rw g at (fit_in r p carry (count_of r) nb st refl e))))
 
   pub fit_room : (st : Arriving) → is_fit r p (count_of r) nb st carry ≡ true → st.used ≤ image_room r p
-  unfolding is_fit is_counted
-  fit_room st e =
-      let a = both_true
-      (leb st.column (count_of r) && (leb st.held (length carry) && (leb st.held st.used && leb st.used (image_room r p)))) _ e
-      in
-      let b = both_true (leb st.column (count_of r)) _ a.0 in
-      let c = both_true (leb st.held (length carry)) _ b.1 in
-      leb-true st.used (image_room r p) (both_true (leb st.held st.used) _ c.1).1
+  fit_room st e = (fit_counted r p carry (count_of r) nb st refl e).room
 
 -- ---- a part of a long value taken
 longing_less : (room j left left' : ℕ) (is : List Slot) (h : List ℕ) → left' ≤ left → Longing room j left is h → Longing room j left' is h

@@ -4,19 +4,18 @@ use mathlib.Core.Path.{◌≡◌, refl, sym, ap, subst, ◌∙◌}
 use mathlib.Core.Bool.{Bool, true, false, cond}
 use mathlib.Core.List.{List, []}
 use native.Mathlib.Omega.{arith}
-use borrow.Author.Tests.{leb-true, eqb-true, ltb-false}
+use borrow.Author.Tests.{eqb-true, ltb-false}
 use lib.ListN.{length}
 use lib.Dec.{leb, ltb, eqb}
 use Rattle.wire.specs.Outcome.{Outcome, ok, refused, refuse, after, why}
 use Rattle.wire.specs.Bits.{bytes_for}
 use Rattle.wire.specs.Stored.{answer_of, left_of}
-use Rattle.wire.proofs.Outcomes.{both_true, same_ok, after_is_ok, test_is_ok}
+use Rattle.wire.proofs.Outcomes.{same_ok, after_is_ok, test_is_ok}
 use Rattle.record.specs.Records.{most_columns, count_of, record_valid, read_record}
 use Rattle.record.proofs.Valid.{valid_few, read_valid}
 use Rattle.image.specs.declared.cursor.Head.{Head}
 use Rattle.image.specs.Present.{count_bits}
 use Rattle.image.specs.Split.{head_of}
-use Rattle.image.specs.Room.{image_room}
 use Rattle.image.proofs.CursorLaws.Heads.{head_tested}
 use Rattle.image.proofs.PresenceLaws.Firsts.{count_at_most}
 use Rattle.image.proofs.RoomLaws.Adds.{room_small}
@@ -24,10 +23,11 @@ use Rattle.blocks.specs.declared.state.Phase.{Phase}
 use Rattle.blocks.specs.declared.state.Phase.TheVariants.{Open, Long}
 use Rattle.blocks.specs.declared.state.Arriving.{Arriving}
 use Rattle.blocks.specs.States.{opened, longed, more, part, BlockGiven}
-use Rattle.blocks.specs.Fits.{is_counted, is_fit}
+use Rattle.blocks.specs.Fits.{is_fit}
 use Rattle.blocks.specs.Gives.{Handed, parted, give_long, give_in, given_fit, head_carry, give_block}
 use Rattle.blocks.specs.Ends.{end_in, ended_fit, end_blocks}
 use Rattle.blocks.specs.Inner.Hands.{Sits, end_open}
+use Rattle.blocks.proofs.Counts.{fit_counted}
 use Rattle.blocks.proofs.Heldings.{end_open_is}
 
 -- the tests for 11, 12 and 20 were passed
@@ -39,45 +39,19 @@ pub record Tested (r p : List ℕ) (carry columns nulls : ℕ) : Type 0 where
   pub few : columns ≤ most_columns
   pub least : 1024 ≤ carry
 
--- the numbers of a state are within their bounds
-pub record Numbered (carry columns : ℕ) (at : Arriving) : Type 0 where
-  pub among : at.column ≤ columns
-  pub fits : at.held ≤ carry
-
--- ---- the numbers
-module _ (r p : List ℕ) (n len : ℕ) (at : Arriving) where
-  pub numbered : {b : Bool} → b ≡ is_counted r p n len at → b ≡ true → Numbered len n at
-  unfolding is_counted
-  numbered e f =
-      let a = both_true (leb at.column n) _ (sym e ∙ f) in
-      let c = both_true (leb at.held len) _ a.1 in
-      record { among = leb-true at.column n a.0; fits = leb-true at.held len c.0 }
-
 -- ---- the state
 module _ (r p carry : List ℕ) (n nb : ℕ) (at : Arriving) where
-  pub fit_numbered : {b : Bool} → b ≡ is_fit r p n nb at carry → b ≡ true → Numbered (length carry) n at
-  unfolding is_fit
-  fit_numbered e f = numbered r p n (length carry) at refl (both_true (is_counted r p n (length carry) at) _ (sym e ∙ f)).0
-
-  fit_used : {b : Bool} → b ≡ is_fit r p n nb at carry → b ≡ true → at.used ≤ image_room r p
-  unfolding is_fit is_counted
-  fit_used e f =
-      let a = both_true (is_counted r p n (length carry) at) _ (sym e ∙ f) in
-      let b = both_true (leb at.column n) _ a.0 in
-      let c = both_true (leb at.held (length carry)) _ b.1 in
-      leb-true at.used (image_room r p) (both_true (leb at.held at.used) _ c.1).1
-
   module _ {b : Bool} (t : Tested r p (length carry) n nb) (e : b ≡ is_fit r p n nb at carry) (f : b ≡ true) where
     pub sits : Sits (length carry) n nb at
     sits =
-        let w = fit_numbered e f in
+        let w = fit_counted r p carry n nb at e f in
         record { room = omega (arith, t.bits, count_at_most p n, t.few, t.least); among = w.among; fits = w.fits }
 
     pub used_fits : (len : ℕ) → len < 9223372036854775808 → at.used + len < 18446744073709551616
-    used_fits len h = omega (arith, fit_used e f, room_small r p t.valid)
+    used_fits len h = omega (arith, (fit_counted r p carry n nb at e f).room, room_small r p t.valid)
 
     pub held_fits : (len : ℕ) → length carry < 9223372036854775808 → len < 9223372036854775808 → at.held + len < 18446744073709551616
-    held_fits len g h = omega (arith, (fit_numbered e f).fits)
+    held_fits len g h = omega (arith, (fit_counted r p carry n nb at e f).fits)
 
 -- ---- the calls behind the tests
 abbrev pub Answers : Outcome Handed → List ℕ → Outcome BlockGiven → List ℕ → Type 0
@@ -114,7 +88,7 @@ module _ (r p carry block : List ℕ) (at : Arriving) {h : Head} (t : head_carry
     pub ended_open : {g : Outcome ℕ} → h.columns ≡ count_of r → at.phase ≡ Open → g ≡ end_open p h.columns h.nulls at carry
         → g ≡ end_blocks r p at carry
     ended_open {g} k i w =
-        let a = fit_numbered r p carry h.columns h.nulls at e f in
+        let a = fit_counted r p carry h.columns h.nulls at e f in
         w ∙ ap (λ (m : ℕ). end_open p m h.nulls at carry) k ∙ end_open_is r p carry h.nulls at (omega (arith, a.among))
         ∙ sym (ended_in Open i)
 

@@ -2,7 +2,7 @@
 -- the end call tells what is to come when nothing comes. `Joins`, `Wholes`: the stream from the first state, long values joined, is the
 -- walk. `Runs`: so blocks given one after the other tell the walk. `Fits`: fit states are those that the laws speak of. `Taken`: what a
 -- call takes, counts and leaves. `Answers`: which refusals a call has. `Carries`, `Turned`, `Spends`: what these lean on. `Hands`, `Opens`,
--- `Values`, `Sitting`, `Heldings`, `Seats`, `Fitting`: for the functions. `Worked`: document 01's worked image, cut at every place, computed.
+-- `Counts`, `Values`, `Sitting`, `Heldings`, `Seats`, `Fitting`: for the functions. `Worked`: document 01's worked image, cut at every place, computed.
 pub mod Carries
 pub mod Turned
 pub mod Spends
@@ -17,6 +17,7 @@ pub mod Answers
 pub mod Taken
 pub mod Lasts
 pub mod Hands
+pub mod Counts
 pub mod Opens
 pub mod Values
 pub mod Sitting

@@ -49,7 +49,7 @@ impl Seat<'_> {
     }
 }
 
-#[tactic(auto, using(crate::proofs::Fitting::fit_numbered), unfolding(crate::specs::Ends::end_blocks, crate::specs::Ends::ended_fit, crate::specs::Ends::end_in))]
+#[tactic(auto, using(crate::proofs::Counts::fit_counted), unfolding(crate::specs::Ends::end_blocks, crate::specs::Ends::ended_fit, crate::specs::Ends::end_in))]
 fn end_blocks<'a>(
     profile: &'a [u8],
     presence: &'a [u8],

@@ -12,7 +12,7 @@ use crate::state::{Arriving, Phase};
 use crate::turn::{Turn, prefix_of, turn_of};
 use value::Shape;
 
-#[tactic(auto, using(crate::proofs::Fitting::numbered), unfolding(crate::specs::Fits::is_fit, crate::specs::Fits::fits_in))]
+#[tactic(auto, using(crate::proofs::Counts::counted), unfolding(crate::specs::Fits::is_fit, crate::specs::Fits::fits_in))]
 pub(crate) fn is_fit<'a>(lent: Lent<'a>, carry: &'a [u8], at: Arriving) -> bool
     ensures { let l = lent.entry in result ≡ is_fit l.profile.now l.presence.now l.head.columns l.head.nulls at carry.now }
 {
