@@ -20,13 +20,13 @@ use Rattle.value.proofs.Appends.{prefix_within}
 use Rattle.blocks.specs.Turns.{too_long, turn_of}
 use Rattle.blocks.specs.Inner.Hands.{turn_by, Heads}
 
-pub bit_held : (h b : List ℕ) (i : ℕ) → i / 8 < length h → bit_lsb0 h i ≡ bit_lsb0 (h ++ b) i
+pub bit_front : (h b : List ℕ) (i : ℕ) → i / 8 < length h → bit_lsb0 h i ≡ bit_lsb0 (h ++ b) i
 unfolding bit_lsb0
-bit_held h b i l = ap (λ (x : ℕ). digit x (i % 8)) (sym (get_or-append h b 0 (i / 8) l))
+bit_front h b i l = ap (λ (x : ℕ). digit x (i % 8)) (sym (get_or-append h b 0 (i / 8) l))
 
-pub bit_block : (h b : List ℕ) (i : ℕ) → length h ≤ i / 8 → bit_lsb0 b (i - 8 * length h) ≡ bit_lsb0 (h ++ b) i
+pub bit_behind : (h b : List ℕ) (i : ℕ) → length h ≤ i / 8 → bit_lsb0 b (i - 8 * length h) ≡ bit_lsb0 (h ++ b) i
 unfolding bit_lsb0
-bit_block h b i l =
+bit_behind h b i l =
     let k = i / 8 - length h in
     let d : (i - 8 * length h) / 8 ≡ k = omega arith in
     let m : (i - 8 * length h) % 8 ≡ i % 8 = omega arith in

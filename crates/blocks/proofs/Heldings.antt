@@ -184,12 +184,12 @@ end_open_is r p carry nb st h =
 
 -- ---- the loop over the columns that are present
 -- the columns before j are NULL or absent
-pub record DueAt (p y : List ℕ) (column n j rank : ℕ) : Type 0 where
+pub record DueFrom (p y : List ℕ) (column n j rank : ℕ) : Type 0 where
   pub is_rank : rank ≡ count_bits p j
   pub rest : due_from (n - column) p y column ≡ due_from (n - j) p y j
 
-module _ (p y : List ℕ) (column n j rank : ℕ) (d : DueAt p y column n j rank) where
-  pub due_absent : j < n → bit_lsb0 p j ≡ false → DueAt p y column n (j + 1) rank
+module _ (p y : List ℕ) (column n j rank : ℕ) (d : DueFrom p y column n j rank) where
+  pub due_absent : j < n → bit_lsb0 p j ≡ false → DueFrom p y column n (j + 1) rank
   unfolding due_from
   due_absent h e =
       let k : n - j ≡ suc (n - (j + 1)) = omega arith in
@@ -197,7 +197,7 @@ module _ (p y : List ℕ) (column n j rank : ℕ) (d : DueAt p y column n j rank
       record { is_rank = d.is_rank ∙ sym (rw z (count_not p j e)); rest = d.rest ∙ rw (k, e, z) }
 
   module _ (h : j < n) (e : bit_lsb0 p j ≡ true) where
-    pub due_null : bit_lsb0 y rank ≡ true → DueAt p y column n (j + 1) (rank + 1)
+    pub due_null : bit_lsb0 y rank ≡ true → DueFrom p y column n (j + 1) (rank + 1)
     unfolding due_from
     due_null f =
         let k : n - j ≡ suc (n - (j + 1)) = omega arith in

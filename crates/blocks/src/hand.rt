@@ -23,7 +23,7 @@ impl Hand<'_> {
     }
 
     // One of their bits, the lowest of each byte first.
-    #[tactic(auto, using(crate::proofs::Hands::bit_held, crate::proofs::Hands::bit_block))]
+    #[tactic(auto, using(crate::proofs::Hands::bit_front, crate::proofs::Hands::bit_behind))]
     pub(crate) fn bit(self, i: usize) -> bool
         ensures { result ≡ bit_lsb0 (self.entry.held.now ++ self.entry.block.now) i }
     {
