@@ -6,11 +6,15 @@ use native.Mathlib.Omega.{arith}
 use borrow.Author.Tests.{le-leb, leb-true, eq-eqb, ne_eqb, eqb-true, eqb-false}
 use lib.Dec.{eqb}
 use Rattle.wire.proofs.Outcomes.{both_true}
+use Rattle.temporal.specs.declared.storage.Storage.TheVariants.{Time2}
 use Rattle.temporal.specs.declared.parts.Seconds.{Seconds}
 use Rattle.temporal.specs.declared.parts.Datetime.{Datetime}
 use Rattle.temporal.specs.declared.parts.Time.{Time}
-use Rattle.temporal.specs.Fraction.{unit_of}
-use Rattle.temporal.specs.Domains.{seconds_domain, datetime_domain, time_domain}
+use Rattle.temporal.specs.declared.parts.Temporal.{Temporal}
+use Rattle.temporal.specs.Fraction.{fraction_bytes, unit_of}
+use Rattle.temporal.specs.Times.{time_number}
+use Rattle.temporal.specs.Storage.{is_time, time_in}
+use Rattle.temporal.specs.Domains.{seconds_domain, datetime_domain, time_domain, temporal_domain}
 use Rattle.temporal.proofs.Ranges.{Clock, Day, clock_of, clock_in, day_of, day_in}
 
 -- ---- a seconds, a datetime and a time that a fraction of w bytes can hold, and the other way round
@@ -89,3 +93,12 @@ time_of w t e =
 pub time_in_lem : (w : ℕ) (t : Time) → HoldsTime w t → time_domain w t ≡ true
 unfolding time_domain
 time_in_lem w t h = rw (clock_in h.clock, eq-eqb (t.micros % unit_of w) 0 h.units) (not_zero t.negative (sum t) h.signed)
+
+-- ---- what TIME2 holds can be stored: no number of it is too large
+pub time2_room : (m0 : ℕ) (t : Temporal) → temporal_domain (Time2 m0) t ≡ true
+    → (time_number 64 (time_in t) < 8388608) × ((time_in t).micros ≤ 999999)
+unfolding temporal_domain
+time2_room m0 t e =
+    let a = both_true (is_time t) (time_domain (fraction_bytes m0) (time_in t)) e in
+    let c = (time_of (fraction_bytes m0) (time_in t) a.1).clock in
+    (omega arith, c.micros)

@@ -3,10 +3,12 @@
 use Prim.Native.Nat.{ℕ, zero, suc, ◌+◌, ◌-◌, ◌/◌, ◌^◌, ◌≤◌, ◌<◌, min}
 use mathlib.Core.Path.{◌≡◌, refl, sym, ◌∙◌}
 use mathlib.Core.Bool.{true, false, true≢false}
-use mathlib.Core.List.{List, []}
-use native.Mathlib.Nat.{zero-mod}
+use mathlib.Core.List.{List, [], ◌∷◌}
+use native.Mathlib.Nat.{zero-mod, add-zero}
 use native.Mathlib.Omega.{arith}
 use borrow.Author.Tests.{lt-ltb, eq-eqb, ltb-true}
+use types.Run.{OneOf, miss}
+use denote.Enum.Declared.{tag_of}
 use lib.ListN.{length, take, replicate, length-append, length-take, length-replicate}
 use lib.IntN.{pos}
 use Rattle.wire.specs.Number.{Bytes, are_bytes, le_value, le_bytes}
@@ -25,15 +27,43 @@ use Rattle.temporal.specs.Domains.{temporal_domain, seconds_domain, date_domain,
 use Rattle.value.specs.declared.shape.Shape.{Shape}
 use Rattle.value.specs.declared.shape.Shape.TheVariants.{Unsigned, Signed, FloatBits, DoubleBits, YearByte, Timed, Fixed, Counted}
 use Rattle.value.specs.declared.shape.Shape.TheVariants.{NotTaken}
+use Rattle.value.specs.declared.datum.Value.{Value}
+use Rattle.value.specs.contracts.shape.Shape.{the_type as shape_type}
 use Rattle.value.specs.Columns.{is_taken}
 use Rattle.value.specs.Data.{Datum, null, int, uint, float, double, year, temporal, bytes, tag, int_in, number_in, temporal_in, bytes_in}
 use Rattle.value.specs.Domains.{domain}
 use Rattle.value.specs.Shapes.{bytes_of, need, most_of}
 use Rattle.value.specs.Inner.Shapes.{Sized}
+use Rattle.value.specs.Reading.{datum_of}
+use Rattle.value.specs.Storing.{is_in}
 use Rattle.value.proofs.Facts.{sorted, need_bytes}
-use Rattle.value.proofs.Writers.{top_narrow}
+use Rattle.value.proofs.Writers.{width_fixed, size_is, top_narrow}
 
--- ---- a length of k bytes and the most that it can count
+-- ---- a shape without a length of its own, told by its tag
+uncounted : (sh : Shape) → OneOf (0 ∷ 1 ∷ 2 ∷ 3 ∷ 4 ∷ 5 ∷ 6 ∷ 8 ∷ []) (tag_of shape_type sh) → (k : ℕ) → sh ≡ Counted k → ⊥
+uncounted sh o k e =
+    let t : OneOf (0 ∷ 1 ∷ 2 ∷ 3 ∷ 4 ∷ 5 ∷ 6 ∷ 8 ∷ []) 7 = rw e at o in
+    miss (0 ∷ 1 ∷ 2 ∷ 3 ∷ 4 ∷ 5 ∷ 6 ∷ 8 ∷ []) 7 tt t
+
+-- so a value of a shape of such a tag takes just what its width says
+pub size_fixed : (sh : Shape) (s : List ℕ) (v : Value) → OneOf (0 ∷ 1 ∷ 2 ∷ 3 ∷ 4 ∷ 5 ∷ 6 ∷ 8 ∷ []) (tag_of shape_type sh)
+    → is_in sh s v ≡ true → need sh [] ≡ length (bytes_of sh (datum_of s v))
+size_fixed sh s v o h = sym ((width_fixed sh (uncounted sh o)).0 (bytes_of sh (datum_of s v))) ∙ size_is sh s v h
+
+-- ---- a length of k bytes: with none at hand it counts nothing
+none_taken : (k : ℕ) → take {A = ℕ} k [] ≡ []
+none_taken zero = refl
+none_taken (suc k) = refl
+
+pub width_counted : (k : ℕ) → need (Counted k) [] ≡ k
+unfolding need le_value
+width_counted k = rw (none_taken k) (add-zero k)
+
+-- of which the code knows the top
+pub most_counted : (k top : ℕ) → k ≤ 4 → top + 1 ≡ 256 ^ min k 8 → k + top ≡ most_of (Counted k)
+unfolding most_of
+most_counted k top h e = omega (arith, top_narrow k top (omega arith) e)
+
 pub top_small : (k top : ℕ) → k ≤ 4 → top + 1 ≡ 256 ^ min k 8 → k + top ≤ 4294967299
 top_small k top h e =
     let l : top < 256 ^ 4 = wider k 4 top h (omega (arith, top_narrow k top (omega arith) e)) in

@@ -2,7 +2,7 @@
 use Prim.Native.Nat.{ℕ, ◌+◌, ◌-◌, ◌*◌, ◌≤◌, ◌<◌}
 use mathlib.Core.Bool.{Bool, true, false, cond, ◌&&◌, ◌||◌, true≢false}
 use mathlib.Core.Path.{◌≡◌, refl, sym, ap, ◌∙◌}
-use borrow.Author.Tests.{ltb-true, ltb-false, le-leb}
+use borrow.Author.Tests.{ltb-true, ltb-false, le-leb, lt-leb}
 use native.Mathlib.Omega.{arith}
 use lib.Dec.{T, leb, ltb, eqb, leb→le, eqb→eq}
 use Rattle.temporal.specs.declared.storage.Storage.{Storage}
@@ -24,6 +24,10 @@ use Rattle.value.specs.Ops.{shape_for, within, storage_op, op_of, StorageOpped, 
 use Rattle.wire.proofs.Each.{left, right}
 use Rattle.wire.proofs.Rules.{tests}
 use Rattle.value.proofs.Tables.{pick, sized}
+
+-- ---- an op of a range
+pub above : (op k : ℕ) → k ≤ op → (op ≡ k → ⊥) → k + 1 ≤ op
+above op k h n = omega (arith, n)
 
 at_unsigned : (op : ℕ) → 1 ≤ op → op < 10 → shape_for op ≡ Unsigned (op - 1)
 unfolding shape_for
@@ -182,3 +186,12 @@ opped c = opped_of (shape_of c) (sized c) (told c)
 -- the op of an accepted column tells its shape
 pub column_op : (c : Column) → is_taken (shape_of c) ≡ true → shape_for (op_of (shape_of c)) ≡ shape_of c
 column_op c t = shape_of_op (shape_of c) t (opped c)
+
+-- ---- the op of a signed width
+pub signed_op : (k : ℕ) → 1 ≤ k → op_of (Signed k) ≡ within 8 9 k
+unfolding op_of
+signed_op k h = rw (le-leb 1 k h)
+
+pub signed_none : (k : ℕ) → k < 1 → op_of (Signed k) ≡ 0
+unfolding op_of
+signed_none k h = rw (lt-leb 1 k h)

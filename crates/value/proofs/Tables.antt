@@ -1,10 +1,10 @@
 -- What holds of every column: its shape has a width that there is, an accepted column's value takes a byte at least and few at most, and a
 -- value in its domain has few bytes. The rule of a decimal's leftover digits is document 01's table. Assumes nothing.
-use Prim.Native.Nat.{ℕ, ◌+◌, ◌-◌, ◌*◌, ◌^◌, ◌≤◌, ◌<◌}
+use Prim.Native.Nat.{ℕ, ◌+◌, ◌-◌, ◌*◌, ◌/◌, ◌%◌, ◌^◌, ◌≤◌, ◌<◌}
 use mathlib.Core.Bool.{Bool, true, false, cond, ◌&&◌, ◌||◌, true≢false}
 use mathlib.Core.List.{List, [], ◌∷◌}
 use mathlib.Core.Logic.{◌⊎◌, inl, inr, dite}
-use mathlib.Core.Path.{◌≡◌, refl, sym, subst}
+use mathlib.Core.Path.{◌≡◌, refl, sym, ap, ◌∙◌, subst}
 use borrow.Author.Tests.{lt-leb, ne_eqb, ltb-true, eqb-true}
 use native.Mathlib.Decide.{dec_le}
 use native.Mathlib.Omega.{arith}
@@ -24,7 +24,7 @@ use Rattle.value.specs.declared.types.Family.TheVariants.{Integer, Float, Double
 use Rattle.value.specs.declared.types.Family.TheVariants.{Datetime2, Time2, Varchar, Char, Blob, Json, Bit, Decimal, Enum, Set}
 use Rattle.value.specs.declared.types.Family.TheVariants.{Unknown}
 use Rattle.value.specs.Types.{family_of, or30}
-use Rattle.value.specs.Columns.{shape_in, shape_of, is_taken, refusal_of, leftover_bytes, decimal_bytes, declared_in}
+use Rattle.value.specs.Columns.{shape_in, shape_of, is_taken, refusal_of, leftover_bytes, digits_bytes, decimal_bytes, declared_in}
 use Rattle.value.specs.Columns.{length_bytes}
 use Rattle.value.specs.Data.{Datum, tag, bytes_in}
 use Rattle.value.specs.Domains.{domain}
@@ -41,6 +41,10 @@ leftover_table digits h =
   where
     table : List ℕ
     table = 0 ∷ 1 ∷ 1 ∷ 2 ∷ 2 ∷ 3 ∷ 3 ∷ 4 ∷ 4 ∷ []
+
+pub digits_size : (digits : ℕ) → digits_bytes digits ≡ digits / 9 * 4 + (digits % 9 + 1) / 2
+unfolding leftover_bytes
+digits_size digits = refl
 
 decimal_some : (m0 m1 : ℕ) → 1 ≤ m0 → m1 ≤ m0 → 0 < decimal_bytes m0 m1
 unfolding decimal_bytes leftover_bytes
@@ -240,6 +244,15 @@ most_of_fine (NotTaken n) f = omega arith
 
 pub most_few : (c : Column) → most_of (shape_of c) ≤ 4294967299
 most_few c = most_of_fine (shape_of c) (fine c)
+
+-- ---- a column's shape is its family's, where its type is a real type
+pub by_family :
+    (c : Column) (f : Family) → (c.real ≡ 10 → ⊥) → f ≡ family_of c.real →
+    shape_in f c.m0 c.m1 c.unsigned ≡ shape_of c
+unfolding shape_of
+by_family c f h e =
+    ap (λ (g : Family). shape_in g c.m0 c.m1 c.unsigned) e
+    ∙ sym (ap (λ (b : Bool). cond b (NotTaken 4) (shape_in (family_of c.real) c.m0 c.m1 c.unsigned)) (ne_eqb c.real 10 h))
 
 -- a column that there is not is refused with 4 or 5
 number_of : (sh : Shape) → Fine sh → is_taken sh ≡ false → (refusal_of sh ≡ 4) ⊎ (refusal_of sh ≡ 5)

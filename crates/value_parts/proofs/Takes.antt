@@ -1,12 +1,16 @@
 -- The parts that a sort takes. Assumes nothing.
-use Prim.Native.Nat.{ℕ, zero, suc, ◌≤◌, ◌<◌}
-use mathlib.Core.Path.{◌≡◌, refl, sym, ap}
+use Prim.Native.Nat.{ℕ, zero, suc, ◌+◌, ◌≤◌, ◌<◌}
+use mathlib.Core.Path.{◌≡◌, refl, sym, ap, ◌∙◌}
 use mathlib.Core.Bool.{Bool, true, false, cond, ◌&&◌, true≢false}
+use mathlib.Core.Logic.{dite}
 use mathlib.Core.List.{List, [], ◌∷◌, ◌++◌}
 use native.Mathlib.Nat.{not-suc-le-zero}
+use native.Mathlib.Numerals.{add-one}
+use native.Mathlib.Decide.{dec_lt}
 use native.Mathlib.Omega.{arith}
-use borrow.Author.Tests.{le-leb, leb-true}
-use lib.ListN.{length, get_or}
+use borrow.Author.Tests.{le-leb, lt-leb, leb-true}
+use lib.ListN.{length, get_or, drop, drop_of_length-le}
+use lib.Seq.{drop-cons}
 use lib.Dec.{leb, leb-suc-zero, leb-suc-suc}
 use mir.Val.{bool_byte}
 use Rattle.std.specs.Prelude.{Some, None}
@@ -33,6 +37,25 @@ fit_more (t ∷ ts) [] rest h = absurd (true≢false (sym h))
 fit_more (t ∷ ts) (p ∷ ps) rest h = let w = both_true (leb p t) (fit ts ps) h in
     rw (w.0, fit_more ts ps rest w.1)
 
+-- ---- a turn of a loop over them
+pub fit_short : (ts ps : List ℕ) (i : ℕ) → i < length ts → length ps ≤ i → fit (drop i ts) (drop i ps) ≡ false
+unfolding fit
+fit_short ts ps i h l = rw (drop-cons ts i 0 h, drop_of_length-le ps {i = i} l)
+
+pub fit_great : (ts ps : List ℕ) (i : ℕ) → i < length ts → i < length ps → get_or ts i 0 < get_or ps i 0 → fit (drop i ts) (drop i ps) ≡ false
+unfolding fit
+fit_great ts ps i h l g = rw (drop-cons ts i 0 h, drop-cons ps i 0 l, lt-leb _ _ g)
+
+pub fit_on : (ts ps : List ℕ) (i : ℕ) → i < length ts → i < length ps → get_or ps i 0 ≤ get_or ts i 0
+    → fit (drop i ts) (drop i ps) ≡ fit (drop (i + 1) ts) (drop (i + 1) ps)
+unfolding fit
+fit_on ts ps i h l g = rw (drop-cons ts i 0 h, drop-cons ps i 0 l, le-leb _ _ g, add-one i)
+
+pub fit_end : (ts ps : List ℕ) (i : ℕ) → length ts ≤ i → fit (drop i ts) (drop i ps) ≡ true
+unfolding fit
+fit_end ts ps i h = rw (drop_of_length-le ts {i = i} h)
+
+-- ---- all at once
 swapped : (a b c : Bool) → (a && (b && c)) ≡ (b && (a && c))
 swapped true b c = refl
 swapped false true c = refl
@@ -61,9 +84,25 @@ as_number true = refl
 as_number false = refl
 
 -- ---- sorts
+pub taken_fit : (sort k : ℕ) (ps : List ℕ) → makes_value sort ps ≡ true → sort ≡ k → fit (tops_of k) ps ≡ true
+unfolding makes_value
+taken_fit sort k ps h e = let w = both_true (leb 1 sort) (leb sort 11 && fit (tops_of sort) ps) h in
+    ap (λ (n : ℕ). fit (tops_of n) ps) (sym e) ∙ (both_true (leb sort 11) (fit (tops_of sort) ps) w.1).1
+
 pub taken_is : (sort : ℕ) (ps : List ℕ) → 1 ≤ sort → sort ≤ 11 → makes_value sort ps ≡ fit (tops_of sort) ps
 unfolding makes_value
 taken_is sort ps a b = rw (le-leb 1 sort a, le-leb sort 11 b)
+
+-- a number that is no sort: neither the least, nor the one behind it, and so on
+pub beyond : (k sort : ℕ) → k ≤ sort → (sort ≡ k → ⊥) → suc k ≤ sort
+beyond k sort h n = omega arith
+
+pub not_taken : (sort : ℕ) (ps : List ℕ) → (1 ≤ sort → 12 ≤ sort) → makes_value sort ps ≡ false
+unfolding makes_value
+not_taken sort ps h =
+    dite (dec_lt sort 1)
+    (λ a. rw (lt-leb 1 sort a))
+    (λ a. rw (le-leb 1 sort (omega arith), lt-leb sort 11 (h (omega arith))))
 
 -- ---- a value or a refusal, from a value or none
 pub ok_or_cond : {A : Type 0} (b : Bool) (x : A) (w : Refusal) → ok_or (cond b (Some x) None) w ≡ cond {A = Outcome A} b (ok x) (refused w)
