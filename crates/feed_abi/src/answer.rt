@@ -56,6 +56,7 @@ pub(crate) fn joined<const K: usize, const L: usize, const N: usize>(
     all
 }
 
+// A cursor's two numbers are told by a function of its own in `rows`: a trait for the two would be longer than both.
 pub(crate) fn part_numbers(part: Part) -> [u64; 2]
     ensures { result ≡ part_numbers part }
 {

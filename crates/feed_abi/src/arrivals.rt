@@ -6,8 +6,9 @@ ghost use Rattle.blocks.specs.Gives.{give_block};
 ghost use Rattle.blocks.specs.Ends.{end_blocks};
 ghost use Rattle.feed_abi.specs.Answers.{status_of, numbers_left, bytes_left};
 ghost use Rattle.feed_abi.specs.Calls.{said, said_with};
-ghost use Rattle.feed_abi.specs.Blocks.{phase_number, phase_asked, state_numbers, state_asked, told_block, arrived_numbers, ended};
+ghost use Rattle.feed_abi.specs.Blocks.{phase_number, phase_asked, state_numbers, state_asked, arrived_numbers, ended};
 ghost use Rattle.feed_abi.specs.Blocks.{feed_begin, feed_give, feed_end};
+ghost use Rattle.feed_abi.specs.Inner.Blocks.{given_told};
 
 use crate::answer::{NO_NUMBERS, joined, tell};
 use blocks::{Arrival, Arriving, Given, Phase};
@@ -15,7 +16,7 @@ use value::Value;
 use value_parts::{parts_of, sort_of};
 use wire::Refusal;
 
-// What arrives beside values, each with a number that no sort of value has.
+// What arrives beside values, each with a number that no sort of value has. They stay numbers: callers in C read them.
 const END: u64 = 0;
 
 const MORE: u64 = 12;
@@ -89,7 +90,7 @@ fn bytes_alone(bytes: usize) -> [u64; 7]
 // What a call answered: the next state, sort, column, bytes taken, and parts.
 #[tactic(auto, unfolding(crate::specs::Blocks::told_block, value_parts::specs::Parts::padded))]
 fn arrived(given: Given) -> Result<[u64; 15], Refusal>
-    ensures { result ≡ said (told_block given.next given.taken) given.arrival }
+    ensures { result ≡ said arrived_numbers (given_told given) }
 {
     let (sort, column, parts) = match given.arrival? {
         Arrival::More => (MORE, 0, bytes_alone(0)),

@@ -1,5 +1,6 @@
 // The calls of the port for programs in C and Rust: numbers and lent slices alone, a status as the result, and the answer in a lent buffer
-// of numbers. Each stands over one call of the library.
+// of numbers. Each stands over one call of the library: the inner function above it answers the numbers or a refusal, and `tell` puts either
+// into the buffer. The public functions are alike and their parameters travel together because they are the interface for C (feed_abi_c).
 #![tactic(auto)]
 
 mod answer;
