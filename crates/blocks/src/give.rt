@@ -17,7 +17,8 @@ use wire::refusal::{SMALL_CARRY, UNFIT_STATE};
 // A carry has room for the null bits of 4,096 columns, and as much again for a value.
 pub const LEAST_CARRY: usize = 1024;
 
-// The tests before any call: refusal 11 for the record, 12 for the presence bits, 20 for the carry.
+// The tests before any call: refusal 11 for the record, 12 for the presence bits, 20 for the carry. The three stay parameters, since that is
+// what a caller lends; behind the tests they are a `Lent` and a carry.
 #[tactic(auto, using(wire::proofs::Rules::tests), unfolding(crate::specs::Gives::head_carry))]
 pub(crate) fn read_head_carry(
     profile: &[u8],

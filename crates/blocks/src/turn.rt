@@ -7,6 +7,7 @@ ghost use Rattle.blocks.specs.Inner.Hands.{turn_by};
 use temporal::temporal_size;
 use value::Shape;
 
+// Three things to say, of which two have a size, so no Option.
 #[derive(Clone, Copy)]
 pub(crate) enum Turn {
     Wait,
