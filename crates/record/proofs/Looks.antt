@@ -1,14 +1,22 @@
 -- The entry of a column, by the bytes where it stands. Assumes nothing.
-use Prim.Native.Nat.{ℕ, ◌+◌, ◌<◌, ◌^◌}
-use mathlib.Core.Path.{◌≡◌, ap}
-use mathlib.Core.List.{List, ◌++◌}
+use Prim.Native.Nat.{ℕ, ◌+◌, ◌≤◌, ◌<◌, ◌^◌}
+use mathlib.Core.Path.{◌≡◌, refl, ap}
+use mathlib.Core.List.{List, [], ◌++◌}
 use native.Mathlib.Omega.{arith}
-use lib.ListN.{get_or, take, drop}
+use lib.ListN.{length, get_or, take, drop, drop_of_length-le}
 use lib.Seq.{get_or-drop, drop-drop}
 use Rattle.wire.specs.Number.{le_value, le_bytes}
 use Rattle.wire.proofs.Inverse.{le_back}
 use Rattle.record.specs.declared.entry.Entry.{Entry}
 use Rattle.record.specs.Entries.{entry_of, entry_bytes}
+use Rattle.record.specs.Records.{entry_at, entry_in}
+
+-- past the record's end there are zeros
+pub entry_past : (r : List ℕ) (j : ℕ) → length r ≤ entry_at j → entry_in r j ≡ record { real = 0; flags = 0; m0 = 0; m1 = 0; charset = 0 }
+unfolding entry_in entry_of le_value
+entry_past r j h =
+    let e : drop (entry_at j) r ≡ [] = drop_of_length-le r h in
+    rw e refl
 
 -- by its bytes
 pub entry_bytes_lem : (r : List ℕ) (at : ℕ)

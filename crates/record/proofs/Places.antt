@@ -22,6 +22,14 @@ place_far j h = rw (le-ltb (entry_at j) (2 ^ 64) h)
 pub place_few : (j : ℕ) → j ≤ most_columns → entry_place j ≡ entry_at j
 place_few j h = place_is j (omega arith)
 
+-- n being the length of a slice: within it the place is the entry's
+pub place_within : (j n : ℕ) → n < 2 ^ 64 → entry_place j < n → entry_place j ≡ entry_at j
+place_within j n l h = dite (dec_le (2 ^ 64) (entry_at j)) (λ g. absurd (omega (arith, place_far j g))) (λ g. place_is j (omega arith))
+
+-- and behind it there is no byte of the entry
+pub place_past : (j n : ℕ) → n < 2 ^ 64 → n ≤ entry_place j → n ≤ entry_at j
+place_past j n l h = dite (dec_le (2 ^ 64) (entry_at j)) (λ g. omega arith) (λ g. omega (arith, place_is j (omega arith)))
+
 -- what stands from there on, or from the end of a slice that ends before it
 place_drop : (j : ℕ) (r : List ℕ) (at : ℕ) → length r < 2 ^ 64 → at ≡ min (entry_place j) (length r) → drop at r ≡ drop (entry_at j) r
 place_drop j r at l e =

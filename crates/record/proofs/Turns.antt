@@ -1,5 +1,5 @@
--- Entries one by one: all may be there if each may. Assumes nothing.
-use Prim.Native.Nat.{ℕ, zero, suc, ◌+◌, ◌<◌}
+-- Entries one by one: all may be there if each may; the first of them, and then the rest. Assumes nothing.
+use Prim.Native.Nat.{ℕ, zero, suc, ◌+◌, ◌-◌, ◌<◌}
 use mathlib.Core.Path.{◌≡◌, refl, sym, ap, subst, ◌∙◌}
 use mathlib.Core.Bool.{Bool, true, false}
 use mathlib.Core.List.{List}
@@ -52,3 +52,23 @@ told_by_each n r false (k, b, h) =
     let i : k < n = omega arith in
     let P : ℕ → Type 0 = λ j. entry_holds (entry_in r j) ≡ false in
     one_stops n k r i (subst P (get_or-range_with_len 0 n k 0 i) (h 0)) (entries_hold n r 0) refl
+
+-- the entry of a column that may not be there ends it
+pub stops : (n : ℕ) (r : List ℕ) (j : ℕ) → j < n → entry_holds (entry_in r j) ≡ false → entries_hold (n - j) r j ≡ false
+unfolding entries_hold
+stops n r j h e =
+    let k : n - j ≡ suc (n - (j + 1)) = omega arith in
+    rw (k, e)
+
+-- else the rest decides
+pub goes_on_lem : (n : ℕ) (r : List ℕ) (j : ℕ) → j < n → entry_holds (entry_in r j) ≡ true
+    → entries_hold (n - j) r j ≡ entries_hold (n - (j + 1)) r (j + 1)
+unfolding entries_hold
+goes_on_lem n r j h e =
+    let k : n - j ≡ suc (n - (j + 1)) = omega arith in
+    let i : j + 1 ≡ suc j = omega arith in
+    rw (k, e, i)
+
+pub none_left : (r : List ℕ) (j : ℕ) → entries_hold 0 r j ≡ true
+unfolding entries_hold
+none_left r j = refl

@@ -175,3 +175,18 @@ images_on r w s c =
     dite (dec_le (n + 1) (m + 2))
     (λ (h : n + 1 ≤ m + 2). steps_same (n + 1) (m + 2) r w s c' a h)
     (λ h. sym (steps_same (m + 2) (n + 1) r w s c' d (omega arith))))
+
+-- ---- as the code finds out whether no set has a column: n is the number of columns, k and k' are counted under the first set and under
+-- the second
+pub not_empty : (r : List ℕ) (w : Rows) (s : List ℕ) (n k : ℕ) → n ≡ count_of r → k ≡ count_bits (set_of w s false) n → (k ≡ 0 → ⊥)
+    → false ≡ is_empty r w s
+unfolding is_empty
+not_empty r w s n k e q h = sym (rw (ne_eqb (counted r w s false) 0 (λ z. h (q ∙ ap (count_bits (set_of w s false)) e ∙ z))))
+
+pub second_empty : (r : List ℕ) (w : Rows) (s : List ℕ) (n k k' : ℕ) → n ≡ count_of r → k ≡ count_bits (set_of w s false) n → k ≡ 0
+    → k' ≡ count_bits (set_of w s true) n → eqb k' 0 ≡ is_empty r w s
+unfolding is_empty
+second_empty r w s n k k' e q z q' =
+    let a : counted r w s false ≡ 0 = ap (count_bits (set_of w s false)) (sym e) ∙ sym q ∙ z in
+    let b : k' ≡ counted r w s true = q' ∙ ap (count_bits (set_of w s true)) e in
+    rw (b, eq-eqb (counted r w s false) 0 a)
