@@ -1,112 +1,65 @@
-// The answer to a line: its words are read by the form of its kind, and then it is answered in turns.
-use crate::kinds::take_turn;
-use crate::output::put_byte;
-use crate::parsing::parse;
-use crate::printing::put_turn;
-use crate::room::fill;
-use crate::slices::{find, least, part, plus};
-use crate::tables::{NO_ROW, row_named};
-use crate::words::room_asked;
-use std::rt::Runtime;
+// The answer to a line: its name is the kind of the case, and each kind reads the words behind it. The
+// kinds stand in the order of docs/CASES.md.
+use crate::arrivals::blocks;
+use crate::checks::{check, check_as, name, names, record};
+use crate::events::rows;
+use crate::fields::{field, fields, fields_as};
+use crate::images::{first, image, room_of, step};
+use crate::lists::{item, list};
+use crate::lone::{size, size_at, store, value};
+use crate::maps::{event, event_parts, event_size, write_event};
+use crate::packing::{pack, packed};
+use crate::rows::{put, row, start};
+use crate::stop::{Answer, Stop, tell_refusal};
+use crate::words::Words;
+use std::io;
+use std::io::Write;
 
-// Turn after turn, until one is the last. It counts its turns down as `next_line` does.
-fn put_turns(
-    rt: &impl Runtime,
-    kind: usize,
-    form: &[u8],
-    line: &[u8],
-    args: &[u64],
-    room: &mut [u8],
-    out: &mut [u8],
-    used: usize,
-) -> usize {
-    let mut state = [0u64; 10];
-    let mut now = used;
-    let mut turns = u64::MAX;
-    while turns > 0 {
-        turns -= 1;
-        let turn = take_turn(kind, line, args, room, state);
-        now = put_turn(rt, form, turn, line, args, room, out, now);
-        if turn.is_last {
-            return now;
-        }
-        let next = turn.next;
-        state = next;
-    }
-    now
-}
-
-// The room that the line asks for is lent, filled. It is all there: a line that asks for more is bad.
-fn answer_case(
-    rt: &impl Runtime,
-    kind: usize,
-    form: &[u8],
-    line: &[u8],
-    args: &[u64],
-    room: &mut [u8],
-    out: &mut [u8],
-    used: usize,
-) -> usize {
-    let size = least(room_asked(args), room.len());
-    let lent = &mut room[0..size];
-    fill(lent);
-    let used = put_turns(rt, kind, form, line, args, lent, out, used);
-    put_byte(rt, b'\n', out, used)
-}
-
-// What the table has for a line: the kind's number, where its name ends in the line, and where in the
-// table the letters of its words and the form of its answer start and end.
-#[derive(Drop)]
-struct Case {
-    kind: usize,
-    name_end: usize,
-    words: usize,
-    words_end: usize,
-    form: usize,
-    form_end: usize,
-}
-
-fn case_of(kinds: &[u8], line: &[u8]) -> Case {
-    let name_end = find(line, 0, b' ');
-    let row = row_named(kinds, b'|', part(line, 0, name_end));
-    let words = plus(row.bar, 1);
-    let words_end = find(kinds, words, b'|');
-    Case {
-        kind: row.number,
-        name_end,
-        words,
-        words_end,
-        form: plus(words_end, 1),
-        form_end: row.end,
+// The line is changed: its byte strings are decoded in it.
+fn answer_case(line: &mut [u8], room: &mut [u8], out: &mut impl Write) -> Answer {
+    let (kind, words) = Words::behind_name(line, b' ');
+    match kind {
+        b"packed" => packed(words, out),
+        b"pack" => pack(words, room, out),
+        b"value" => value(words, out),
+        b"store" => store(words, room, out),
+        b"size" => size(words, out),
+        b"size-at" => size_at(words, out),
+        b"event" => event(words, out),
+        b"event-parts" => event_parts(words, out),
+        b"write-event" => write_event(words, room, out),
+        b"event-size" => event_size(words, out),
+        b"fields" => fields(words, out),
+        b"fields-as" => fields_as(words, out),
+        b"field" => field(words, out),
+        b"list" => list(words, out),
+        b"item" => item(words, out),
+        b"check" => check(words, room, out),
+        b"check-as" => check_as(words, room, out),
+        b"record" => record(words, out),
+        b"names" => names(words, out),
+        b"name" => name(words, out),
+        b"first" => first(words, out),
+        b"step" => step(words, out),
+        b"image" => image(words, out),
+        b"rows" => rows(words, out),
+        b"blocks" => blocks(words, room, out),
+        b"room" => room_of(words, out),
+        b"start" => start(words, room, out),
+        b"put" => put(words, room, out),
+        b"row" => row(words, room, out),
+        _ => Err(Stop::Bad),
     }
 }
 
-// The kind of a line that is good. A bad one has none, and so it is answered.
-fn kind_if(is_good: bool, kind: usize) -> usize {
-    if is_good {
-        return kind;
+// Answers a line, and ends the answer's line.
+pub(crate) fn answer(line: &mut [u8], room: &mut [u8], out: &mut impl Write) -> io::Result<()> {
+    match answer_case(line, room, out) {
+        Ok(()) => {}
+        Err(Stop::Bad) => write!(out, "bad")?,
+        Err(Stop::Refused(refusal)) => tell_refusal(refusal, out)?,
+        Err(Stop::Spoiled) => write!(out, "spoiled")?,
+        Err(Stop::Lost(error)) => return Err(error),
     }
-    NO_ROW
-}
-
-// Answers the line that stands in the first bytes of the line buffer, and ends the answer's line. The
-// line is changed: its byte strings are decoded in it.
-pub(crate) fn answer(
-    rt: &impl Runtime,
-    kinds: &[u8],
-    buffer: &mut [u8],
-    length: usize,
-    args: &mut [u64],
-    room: &mut [u8],
-    out: &mut [u8],
-    used: usize,
-) -> usize {
-    let end = least(length, buffer.len());
-    let line = &mut buffer[0..end];
-    let case = case_of(kinds, line);
-    let words = part(kinds, case.words, case.words_end);
-    let is_good = parse(line, case.name_end, words, args);
-    let form = part(kinds, case.form, case.form_end);
-    let kind = kind_if(is_good, case.kind);
-    answer_case(rt, kind, form, line, args, room, out, used)
+    out.write_all(b"\n")
 }

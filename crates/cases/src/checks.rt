@@ -1,61 +1,67 @@
 // The kinds of the check and of what it writes: `check`, `check-as`, `record`, `name` and `names`.
-use crate::room::written;
-use crate::turn::{OWN, Turn, few, one, plain, refused};
-use crate::words::{dialect, index, post_header, text};
-use map_check::{NameRead, NamesRead, TablePlace};
-use record::RecordRead;
+use crate::output::Hex;
+use crate::room::tell_written;
+use crate::stop::Answer;
+use crate::words::Words;
+use map_check::TablePlace;
+use std::io::Write;
 use value::Dialect;
 
+// `POSTHEADER HEX ROOM`
+fn tell_check(
+    dialect: Dialect,
+    mut words: Words<'_>,
+    room: &mut [u8],
+    out: &mut impl Write,
+) -> Answer {
+    let post_header = words.post_header()?;
+    let event = words.bytes()?;
+    let room = words.room(room)?;
+    words.end()?;
+    let written = map_check::check(event, post_header, dialect, room);
+    tell_written(room, written, out)
+}
+
 // `check POSTHEADER HEX ROOM`
-pub(crate) fn check(line: &[u8], args: &[u64], room: &mut [u8]) -> Turn {
-    let answer = map_check::check(
-        text(line, args, 2),
-        post_header(args, 1),
-        Dialect::Document,
-        room,
-    );
-    written(room, answer)
+pub(crate) fn check(words: Words<'_>, room: &mut [u8], out: &mut impl Write) -> Answer {
+    tell_check(Dialect::Document, words, room, out)
 }
 
 // `check-as DIALECT POSTHEADER HEX ROOM`
-pub(crate) fn check_as(line: &[u8], args: &[u64], room: &mut [u8]) -> Turn {
-    let answer = map_check::check(
-        text(line, args, 3),
-        post_header(args, 2),
-        dialect(args, 1),
-        room,
-    );
-    written(room, answer)
+pub(crate) fn check_as(mut words: Words<'_>, room: &mut [u8], out: &mut impl Write) -> Answer {
+    tell_check(words.dialect()?, words, room, out)
 }
 
 // `record HEX`
-pub(crate) fn record_of(line: &[u8], args: &[u64]) -> Turn {
-    match record::read_record(text(line, args, 1)) {
-        RecordRead::Valid { columns } => one(columns as u64),
-        RecordRead::Refused(refusal) => refused(refusal),
-    }
+pub(crate) fn record(mut words: Words<'_>, out: &mut impl Write) -> Answer {
+    let record = words.bytes()?;
+    words.end()?;
+    let columns = record::read_record(record)?;
+    write!(out, "ok {columns}")?;
+    Ok(())
 }
 
-// `name NAMES OPERATOR COLUMN`
-pub(crate) fn name(line: &[u8], args: &[u64]) -> Turn {
-    let column = TablePlace(index(args, 3));
-    match map_check::column_name(text(line, args, 1), text(line, args, 2), column) {
-        NameRead::Name(_) => plain(OWN),
-        NameRead::Refused(refusal) => refused(refusal),
-    }
-}
-
-// The name that such a line asks for, by the call that hands out its bytes.
-pub(crate) fn name_asked<'a>(line: &'a [u8], args: &[u64]) -> &'a [u8] {
-    let column = TablePlace(index(args, 3));
-    map_check::name_part(text(line, args, 1), text(line, args, 2), column)
+// `name NAMES OPERATOR COLUMN`: whether there is such a name, and by the other call its bytes
+pub(crate) fn name(mut words: Words<'_>, out: &mut impl Write) -> Answer {
+    let names = words.bytes()?;
+    let operator = words.bytes()?;
+    let column = TablePlace(words.number()?);
+    words.end()?;
+    map_check::column_name(names, operator, column)?;
+    let name = map_check::name_part(names, operator, column);
+    write!(out, "ok {}", Hex(name))?;
+    Ok(())
 }
 
 // `names DIALECT POSTHEADER HEX`
-pub(crate) fn names(line: &[u8], args: &[u64]) -> Turn {
-    match map_check::names_field(text(line, args, 3), post_header(args, 2), dialect(args, 1)) {
-        NamesRead::Names(part) => few(OWN, 1, part.start as u64, part.len as u64, 0),
-        NamesRead::Absent => few(OWN, 0, 0, 0, 0),
-        NamesRead::Refused(refusal) => refused(refusal),
+pub(crate) fn names(mut words: Words<'_>, out: &mut impl Write) -> Answer {
+    let dialect = words.dialect()?;
+    let post_header = words.post_header()?;
+    let event = words.bytes()?;
+    words.end()?;
+    match map_check::names_field(event, post_header, dialect)? {
+        Some(names) => write!(out, "ok 1 {} {}", names.start, names.len)?,
+        None => write!(out, "ok 0 0 0")?,
     }
+    Ok(())
 }

@@ -1,248 +1,88 @@
 // The kind `rows`: a rows event, its images one after the other, and their values.
-use crate::slices::{part, plus};
-use crate::turn::{
-    FLAGS, FLAGS_EXTRA, IMAGE_AT, ONE_SET, OWN, TWO_SETS, Turn, USED, few, onward, plain, refused,
-    silent, standing, valued,
-};
-use crate::words::{number, text};
-use image::{Cursor, First, Step};
-use rows_event::{Extra, ImageStep, Images, Rows, RowsRead, Second};
-use value::Value;
-use wire::{Part, Refusal};
+use crate::images::{Layout, tell_values};
+use crate::output::Hex;
+use crate::room::part;
+use crate::stop::Answer;
+use crate::words::Words;
+use rows_event::{Images, Rows};
+use std::io::Write;
+use wire::Refusal;
 
-// What a turn behind the first tells: the sets, that an image begins or that there is none, or a value.
-const SETS: u64 = 1;
-
-const IMAGE: u64 = 2;
-
-const VALUE: u64 = 3;
-
-// Where the walk over the images stands: an image, how many came before it, and the cursor in it.
-#[derive(Drop)]
-struct Standing {
-    images: Images,
-    met: usize,
-    cursor: Cursor,
-}
-
-fn bit(b: bool) -> u64 {
-    if b {
-        return 1;
+// `ok FLAGS EXTRA SETS`, each with a space behind it
+fn tell_parts(rows: Rows, event: &[u8], out: &mut impl Write) -> Answer {
+    write!(out, "ok {} ", rows.flags)?;
+    match rows.extra {
+        Some(extra) => write!(out, "{} ", Hex(wire::part_of(event, extra)))?,
+        None => write!(out, "none ")?,
     }
-    0
+    write!(out, "{}", Hex(wire::part_of(event, rows.before)))?;
+    if let Some(after) = rows.after {
+        write!(out, ",{}", Hex(wire::part_of(event, after)))?;
+    }
+    write!(out, " ")?;
+    Ok(())
 }
 
-fn state_of(turn: u64, at: Standing) -> [u64; 10] {
-    [
-        turn,
-        at.images.at as u64,
-        bit(at.images.second),
-        at.met as u64,
-        at.cursor.column as u64,
-        at.cursor.offset as u64,
-        0,
-        0,
-        0,
-        0,
-    ]
+// An image that is refused. The values before the refused one are told, and the walk over them comes to
+// the refusal: nothing tells where the image ends, so all bytes behind its start may be its. Where its
+// values begin at 0 no column is present, and no image begins: what is refused are bytes left over.
+fn tell_broken(
+    layout: Layout<'_>,
+    event: &[u8],
+    at: usize,
+    refusal: Refusal,
+    out: &mut impl Write,
+) -> Answer {
+    match layout.first_cursor() {
+        Ok(cursor) if cursor.offset != 0 => {
+            write!(out, "image {at} ")?;
+            tell_values(layout, part(event, at, event.len()), cursor, out)?;
+        }
+        _ => {}
+    }
+    Err(refusal.into())
 }
 
-fn standing_at(state: [u64; 10]) -> Standing {
-    Standing {
-        images: Images {
-            at: state[1] as usize,
-            second: state[2] == 1,
-        },
-        met: state[3] as usize,
-        cursor: Cursor {
-            column: state[4] as usize,
-            offset: state[5] as usize,
-        },
+// What an image is read under, by its set.
+fn layout_of<'a>(rows: Rows, record: &'a [u8], event: &'a [u8], second: bool) -> Layout<'a> {
+    Layout {
+        record,
+        presence: rows_event::set_of(rows, event, second),
     }
 }
 
-// Before an image: its cursor is not known yet.
-fn before(images: Images, met: usize) -> [u64; 10] {
-    let cursor = Cursor {
-        column: 0,
-        offset: 0,
-    };
-    state_of(
-        IMAGE,
-        Standing {
-            images,
-            met,
-            cursor,
-        },
-    )
-}
-
-// `ok FLAGS EXTRA`
-fn flags_told(rows: Rows) -> Turn {
-    let flags = rows.flags as u64;
-    let extra = rows.extra;
-    match extra {
-        Extra::Absent => few(FLAGS, flags, 0, 0, 0),
-        Extra::Data(data) => few(FLAGS_EXTRA, flags, data.start as u64, data.len as u64, 0),
-    }
-}
-
-// `SETS`
-fn sets_told(rows: Rows) -> Turn {
-    let start = rows.before.start as u64;
-    let len = rows.before.len as u64;
-    let after = rows.after;
-    match after {
-        Second::Absent => few(ONE_SET, start, len, 0, 0),
-        Second::Bits(bits) => few(TWO_SETS, start, len, bits.start as u64, bits.len as u64),
-    }
-}
-
-// Behind the sets the images begin.
-fn with_images(rows: Rows) -> Turn {
-    let first = Images {
+// `rows CODE RECORD TABLEID HEX`. It counts its turns as `answer_all` does.
+pub(crate) fn rows(mut words: Words<'_>, out: &mut impl Write) -> Answer {
+    let code = words.number()?;
+    let record = words.bytes()?;
+    let table = words.number()?;
+    let event = words.bytes()?;
+    words.end()?;
+    let rows = rows_event::read_rows(code, record, table, event)?;
+    tell_parts(rows, event, out)?;
+    let mut images = Images {
         at: rows.images,
         second: false,
     };
-    onward(sets_told(rows), before(first, 0))
-}
-
-// `image OFFSET`, and the cursor that the walk over the image begins with
-fn begin(profile: &[u8], presence: &[u8], images: Images, met: usize) -> Turn {
-    match image::first_cursor(profile, presence) {
-        First::At(cursor) => {
-            let next = Standing {
-                images,
-                met,
-                cursor,
-            };
-            onward(
-                few(IMAGE_AT, images.at as u64, 0, 0, 0),
-                state_of(VALUE, next),
-            )
-        }
-        First::Refused(refusal) => refused(refusal),
-    }
-}
-
-// The same for an image that is refused: the values before the refused one are told, and the walk over
-// them comes to the refusal. Where the cursor begins at 0 no column is present, and no image begins: what
-// is refused are bytes left over.
-fn begin_broken(refusal: Refusal, begun: Turn) -> Turn {
-    let next = begun.next;
-    if next[5] == 0 {
-        return refused(refusal);
-    }
-    begun
-}
-
-// `image OFFSET`, or `end IMAGES`
-fn image_turn(rows: Rows, profile: &[u8], event: &[u8], at: Standing) -> Turn {
-    let images = at.images;
-    let met = at.met;
-    match images.next(rows, profile, event) {
-        ImageStep::Image {
-            image: _,
-            second,
-            next: _,
-        } => begin(
-            profile,
-            rows_event::set_of(rows, event, second),
-            images,
-            met,
-        ),
-        ImageStep::End => few(USED, met as u64, 0, 0, 0),
-        ImageStep::Refused(refusal) => {
-            let presence = rows_event::set_of(rows, event, images.second);
-            begin_broken(refusal, begin(profile, presence, images, met))
+    for met in 0..u64::MAX {
+        let at = images.at;
+        match images.next(rows, record, event) {
+            Ok(Some((image, next))) => {
+                let layout = layout_of(rows, record, event, image.second);
+                let cursor = layout.first_cursor()?;
+                write!(out, "image {at} ")?;
+                tell_values(layout, wire::part_of(event, image.part), cursor, out)?;
+                images = next;
+            }
+            Ok(None) => {
+                write!(out, "end {met}")?;
+                break;
+            }
+            Err(refusal) => {
+                let layout = layout_of(rows, record, event, images.second);
+                return tell_broken(layout, event, at, refusal, out);
+            }
         }
     }
-}
-
-// An image to be read, and what comes behind it.
-#[derive(Drop)]
-struct Span {
-    image: Part,
-    second: bool,
-    next: Images,
-}
-
-// Of an image that is refused there is no end: all bytes behind its start may be its.
-fn span_of(step: ImageStep, images: Images) -> Span {
-    match step {
-        ImageStep::Image {
-            image,
-            second,
-            next,
-        } => Span {
-            image,
-            second,
-            next,
-        },
-        _ => Span {
-            image: Part {
-                start: images.at,
-                len: usize::MAX,
-            },
-            second: images.second,
-            next: images,
-        },
-    }
-}
-
-// The value in the event, not in the image alone: there its bytes are shown.
-fn in_event(value: Value, at: usize) -> Value {
-    match value {
-        Value::Bytes(bytes) => Value::Bytes(Part {
-            start: plus(at, bytes.start),
-            len: bytes.len,
-        }),
-        _ => value,
-    }
-}
-
-// A column's value, NULL too, with the next column's cursor.
-fn found(value: Value, mut at: Standing, cursor: Cursor) -> Turn {
-    at.cursor = cursor;
-    let shown = in_event(value, at.images.at);
-    onward(valued(plain(OWN), shown), state_of(VALUE, at))
-}
-
-// A value of an image, or nothing at its end.
-fn value_turn(rows: Rows, profile: &[u8], event: &[u8], at: Standing) -> Turn {
-    let images = at.images;
-    let cursor = at.cursor;
-    let span = span_of(images.next(rows, profile, event), images);
-    let presence = rows_event::set_of(rows, event, span.second);
-    let start = span.image.start;
-    let image = part(event, start, plus(start, span.image.len));
-    match cursor.step(profile, presence, image) {
-        Step::Null { column: _, next } => found(Value::Null, at, next),
-        Step::Value {
-            column: _,
-            value,
-            next,
-        } => found(value, at, next),
-        Step::End { used: _ } => silent(before(span.next, plus(at.met, 1))),
-        Step::Refused(refusal) => refused(refusal),
-    }
-}
-
-fn turn_of(rows: Rows, profile: &[u8], event: &[u8], state: [u64; 10]) -> Turn {
-    match state[0] {
-        0 => onward(flags_told(rows), standing(SETS, 0, 0)),
-        SETS => with_images(rows),
-        IMAGE => image_turn(rows, profile, event, standing_at(state)),
-        _ => value_turn(rows, profile, event, standing_at(state)),
-    }
-}
-
-// `rows CODE RECORD TABLEID HEX`. Each turn reads the event's parts again: a state cannot hold them.
-pub(crate) fn rows_of(line: &[u8], args: &[u64], state: [u64; 10]) -> Turn {
-    let profile = text(line, args, 2);
-    let event = text(line, args, 4);
-    match rows_event::read_rows(number(args, 1), profile, number(args, 3), event) {
-        RowsRead::Read(rows) => turn_of(rows, profile, event, state),
-        RowsRead::Refused(refusal) => refused(refusal),
-    }
+    Ok(())
 }

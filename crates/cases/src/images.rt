@@ -1,74 +1,105 @@
 // The kinds `first`, `step` and `image`, a row image that is read; and `room`, how large one can be.
-use crate::turn::{
-    OWN, Turn, USED, alone, few, one, onward, refused, silent, standing, two, valued,
-};
-use crate::words::{index, text};
-use image::{Cursor, First, Room, Step};
+use crate::stop::{Answer, Stop};
+use crate::values::Lent;
+use crate::words::Words;
+use image::{Cursor, Step};
+use std::io::Write;
 use value::Value;
+use wire::Refusal;
 
-// `first RECORD PRESENCE`
-pub(crate) fn first(line: &[u8], args: &[u64]) -> Turn {
-    match image::first_cursor(text(line, args, 1), text(line, args, 2)) {
-        First::At(cursor) => two(cursor.column as u64, cursor.offset as u64),
-        First::Refused(refusal) => refused(refusal),
+// What an image is read under: the record of its map, and its presence bits.
+#[derive(Clone, Copy)]
+pub(crate) struct Layout<'a> {
+    pub(crate) record: &'a [u8],
+    pub(crate) presence: &'a [u8],
+}
+
+impl Layout<'_> {
+    pub(crate) fn first_cursor(self) -> Result<Cursor, Refusal> {
+        image::first_cursor(self.record, self.presence)
+    }
+
+    fn step(self, image: &[u8], at: Cursor) -> Result<Step<Cursor>, Refusal> {
+        at.step(self.record, self.presence, image)
     }
 }
 
-// A column's value, NULL too: the column and the next cursor, which the next turn of a walk starts with.
-fn found(column: usize, value: Value, next: Cursor) -> Turn {
-    let at = next.column as u64;
-    let offset = next.offset as u64;
-    let turn = valued(few(OWN, column as u64, at, offset, 0), value);
-    onward(turn, standing(1, at, offset))
+// `first RECORD PRESENCE`
+pub(crate) fn first(mut words: Words<'_>, out: &mut impl Write) -> Answer {
+    let layout = words.layout()?;
+    words.end()?;
+    let cursor = layout.first_cursor()?;
+    write!(out, "ok {} {}", cursor.column, cursor.offset)?;
+    Ok(())
 }
 
-fn step_in(profile: &[u8], presence: &[u8], image: &[u8], at: Cursor) -> Turn {
-    match at.step(profile, presence, image) {
-        Step::Null { column, next } => found(column, Value::Null, next),
+// `step RECORD PRESENCE IMAGE COLUMN OFFSET`
+pub(crate) fn step(mut words: Words<'_>, out: &mut impl Write) -> Answer {
+    let layout = words.layout()?;
+    let bytes = words.bytes()?;
+    let cursor = words.cursor()?;
+    words.end()?;
+    let (column, value, next) = match layout.step(bytes, cursor)? {
+        Step::Null { column, next } => (column, Value::Null, next),
         Step::Value {
             column,
             value,
             next,
-        } => found(column, value, next),
-        Step::End { used } => few(USED, used as u64, 0, 0, 0),
-        Step::Refused(refusal) => refused(refusal),
+        } => (column, value, next),
+        Step::End { used } => {
+            write!(out, "end {used}")?;
+            return Ok(());
+        }
+    };
+    let value = Lent { value, bytes };
+    write!(out, "ok {column} {value} {} {}", next.column, next.offset)?;
+    Ok(())
+}
+
+// The values of an image from a cursor on, each with a space behind it; and how many bytes they end
+// with. It counts its turns as `answer_all` does.
+pub(crate) fn tell_values(
+    layout: Layout<'_>,
+    bytes: &[u8],
+    from: Cursor,
+    out: &mut impl Write,
+) -> Result<usize, Stop> {
+    let mut cursor = from;
+    let mut used = 0;
+    for _ in 0..u64::MAX {
+        let (value, next) = match layout.step(bytes, cursor)? {
+            Step::Null { column: _, next } => (Value::Null, next),
+            Step::Value {
+                column: _,
+                value,
+                next,
+            } => (value, next),
+            Step::End { used: all } => {
+                used = all;
+                break;
+            }
+        };
+        write!(out, "{} ", Lent { value, bytes })?;
+        cursor = next;
     }
+    Ok(used)
 }
 
-// A step over the image of a line.
-fn step_from(line: &[u8], args: &[u64], column: usize, offset: usize) -> Turn {
-    let profile = text(line, args, 1);
-    let presence = text(line, args, 2);
-    let image = text(line, args, 3);
-    step_in(profile, presence, image, Cursor { column, offset })
-}
-
-// `step RECORD PRESENCE IMAGE COLUMN OFFSET`
-pub(crate) fn step(line: &[u8], args: &[u64]) -> Turn {
-    let turn = step_from(line, args, index(args, 4), index(args, 5));
-    alone(turn)
-}
-
-// The first turn of a walk prints nothing.
-fn begin(profile: &[u8], presence: &[u8]) -> Turn {
-    match image::first_cursor(profile, presence) {
-        First::At(cursor) => silent(standing(1, cursor.column as u64, cursor.offset as u64)),
-        First::Refused(refusal) => refused(refusal),
-    }
-}
-
-// `image RECORD PRESENCE IMAGE`: whether the walk has begun, and its cursor
-pub(crate) fn image_of(line: &[u8], args: &[u64], state: [u64; 10]) -> Turn {
-    if state[0] == 0 {
-        return begin(text(line, args, 1), text(line, args, 2));
-    }
-    step_from(line, args, state[1] as usize, state[2] as usize)
+// `image RECORD PRESENCE IMAGE`
+pub(crate) fn image(mut words: Words<'_>, out: &mut impl Write) -> Answer {
+    let layout = words.layout()?;
+    let bytes = words.bytes()?;
+    words.end()?;
+    let used = tell_values(layout, bytes, layout.first_cursor()?, out)?;
+    write!(out, "end {used}")?;
+    Ok(())
 }
 
 // `room RECORD PRESENCE`
-pub(crate) fn room_for(line: &[u8], args: &[u64]) -> Turn {
-    match image::image_room(text(line, args, 1), text(line, args, 2)) {
-        Room::Bytes(bytes) => one(bytes),
-        Room::Refused(refusal) => refused(refusal),
-    }
+pub(crate) fn room_of(mut words: Words<'_>, out: &mut impl Write) -> Answer {
+    let Layout { record, presence } = words.layout()?;
+    words.end()?;
+    let bytes = image::image_room(record, presence)?;
+    write!(out, "ok {bytes}")?;
+    Ok(())
 }

@@ -1,114 +1,111 @@
 // The kinds `list` and `item`: the lists in optional fields.
-use crate::turn::{
-    BAD, DEFAULT, END, Turn, alone, few, holding, onward, plain, refused, standing, two,
-};
-use crate::values::{GROUP, INTEGER, PAIR, STRING};
-use crate::words::{index, number, text};
-use table_map::{
-    DefaultCharset, GroupStep, Groups, IntegerStep, Integers, PairStep, Pairs, StringStep, Strings,
-};
+use crate::output::Hex;
+use crate::stop::{Answer, Stop};
+use crate::words::Words;
+use std::fmt;
+use std::io::Write;
+use table_map::{Groups, Integers, Pairs, Strings};
+use wire::Refusal;
 
-// The kinds of lists, by the numbers of their words. Charsets are a default, and pairs behind it.
-const INTEGERS: u64 = 0;
-
-const CHARSETS: u64 = 2;
-
-const STRINGS: u64 = 3;
-
-const GROUPS: u64 = 4;
-
-// An item of one number or two by its form, and where the next one starts, which is behind a first turn.
-fn item(form: usize, first: u64, second: u64, next: usize) -> Turn {
-    let at = next as u64;
-    let turn = holding(two(0, at), form, [first, second, 0, 0, 0, 0, 0]);
-    onward(turn, standing(1, at, 0))
+// The kinds of lists. Charsets are a default, and pairs behind it.
+#[derive(Clone, Copy, PartialEq, Eq)]
+enum Kind {
+    Integers,
+    Pairs,
+    Charsets,
+    Strings,
+    Groups,
 }
 
-fn next_integer(s: &[u8], at: usize) -> Turn {
-    let list = Integers { at };
-    match list.next(s) {
-        IntegerStep::Item { value, next } => item(INTEGER, value, 0, next.at),
-        IntegerStep::End => plain(END),
-        IntegerStep::Refused(refusal) => refused(refusal),
+#[derive(Clone, Copy)]
+enum Element<'a> {
+    Integer(u64),
+    Pair(u64, u64),
+    Text(&'a [u8]),
+    Group { count: u64, first: usize },
+}
+
+impl fmt::Display for Element<'_> {
+    fn fmt<W: fmt::Write>(&self, f: &mut fmt::Formatter<W>) -> fmt::Result {
+        match *self {
+            Element::Integer(n) => write!(f, "{n}"),
+            Element::Pair(first, second) => write!(f, "{first}:{second}"),
+            Element::Text(text) => write!(f, "{}", Hex(text)),
+            Element::Group { count, first } => write!(f, "{count}@{first}"),
+        }
     }
 }
 
-fn next_pair(s: &[u8], at: usize) -> Turn {
-    let list = Pairs { at };
-    match list.next(s) {
-        PairStep::Item {
-            first,
-            second,
-            next,
-        } => item(PAIR, first, second, next.at),
-        PairStep::End => plain(END),
-        PairStep::Refused(refusal) => refused(refusal),
+fn read_kind(words: &mut Words<'_>) -> Result<Kind, Stop> {
+    match &*words.word()? {
+        b"integers" => Ok(Kind::Integers),
+        b"pairs" => Ok(Kind::Pairs),
+        b"charsets" => Ok(Kind::Charsets),
+        b"strings" => Ok(Kind::Strings),
+        b"groups" => Ok(Kind::Groups),
+        _ => Err(Stop::Bad),
     }
 }
 
-fn next_string(s: &[u8], at: usize) -> Turn {
-    let list = Strings { at };
-    match list.next(s) {
-        StringStep::Item { value, next } => item(
-            STRING,
-            value.start as u64,
-            value.len as u64,
+// The item at a place, and where the next one starts.
+fn next_item<'a>(
+    kind: Kind,
+    s: &'a [u8],
+    at: usize,
+) -> Result<Option<(Element<'a>, usize)>, Refusal> {
+    Ok(match kind {
+        Kind::Integers => Integers { at }
+            .next(s)?
+            .map(|(value, next)| (Element::Integer(value), next.at)),
+        Kind::Pairs | Kind::Charsets => Pairs { at }.next(s)?.map(|((first, second), next)| (
+            Element::Pair(first, second),
             next.at,
-        ),
-        StringStep::End => plain(END),
-        StringStep::Refused(refusal) => refused(refusal),
-    }
+        )),
+        Kind::Strings => Strings { at }.next(s)?.map(|(value, next)| (
+            Element::Text(wire::part_of(s, value)),
+            next.at,
+        )),
+        Kind::Groups => Groups { at }.next(s)?.map(|((count, first), next)| (
+            Element::Group { count, first },
+            next.at,
+        )),
+    })
 }
 
-fn next_group(s: &[u8], at: usize) -> Turn {
-    let list = Groups { at };
-    match list.next(s) {
-        GroupStep::Item { count, first, next } => item(GROUP, count, first as u64, next.at),
-        GroupStep::End => plain(END),
-        GroupStep::Refused(refusal) => refused(refusal),
+// `list KIND HEX`. It counts its turns as `answer_all` does.
+pub(crate) fn list(mut words: Words<'_>, out: &mut impl Write) -> Answer {
+    let kind = read_kind(&mut words)?;
+    let bytes = words.bytes()?;
+    words.end()?;
+    let mut at = 0;
+    if kind == Kind::Charsets {
+        let (charset, pairs) = table_map::default_charset(bytes)?;
+        write!(out, "default:{charset} ")?;
+        at = pairs.at;
     }
-}
-
-// The step from `at` on.
-fn next_item(kind: u64, s: &[u8], at: usize) -> Turn {
-    match kind {
-        INTEGERS => next_integer(s, at),
-        STRINGS => next_string(s, at),
-        GROUPS => next_group(s, at),
-        _ => next_pair(s, at),
+    for _ in 0..u64::MAX {
+        let Some((item, next)) = next_item(kind, bytes, at)? else {
+            break;
+        };
+        write!(out, "{item} ")?;
+        at = next;
     }
-}
-
-// The default, with the pairs behind it.
-fn default(s: &[u8]) -> Turn {
-    match table_map::default_charset(s) {
-        DefaultCharset::Read { charset, pairs } => {
-            onward(
-                few(DEFAULT, charset, 0, 0, 0),
-                standing(1, pairs.at as u64, 0),
-            )
-        }
-        DefaultCharset::Refused(refusal) => refused(refusal),
-    }
-}
-
-// `list KIND HEX`: whether the walk has begun, and where it stands
-pub(crate) fn list(line: &[u8], args: &[u64], state: [u64; 10]) -> Turn {
-    let kind = number(args, 1);
-    if kind == CHARSETS {
-        if state[0] == 0 {
-            return default(text(line, args, 2));
-        }
-    }
-    next_item(kind, text(line, args, 2), state[1] as usize)
+    write!(out, "end")?;
+    Ok(())
 }
 
 // `item KIND HEX OFFSET`; not for charsets, whose items are of two kinds
-pub(crate) fn item_at(line: &[u8], args: &[u64]) -> Turn {
-    let kind = number(args, 1);
-    if kind == CHARSETS {
-        return plain(BAD);
+pub(crate) fn item(mut words: Words<'_>, out: &mut impl Write) -> Answer {
+    let kind = read_kind(&mut words)?;
+    let bytes = words.bytes()?;
+    let offset = words.number()?;
+    words.end()?;
+    if kind == Kind::Charsets {
+        return Err(Stop::Bad);
     }
-    let turn = next_item(kind, text(line, args, 2), index(args, 3));
-    alone(turn)
+    match next_item(kind, bytes, offset)? {
+        Some((item, next)) => write!(out, "ok {item} {next}")?,
+        None => write!(out, "end")?,
+    }
+    Ok(())
 }

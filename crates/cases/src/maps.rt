@@ -1,85 +1,93 @@
 // The kinds of a table map: `event`, `event-parts`, `write-event`, `event-size`.
-use crate::lone::told;
-use crate::room::written;
-use crate::turn::{OWN, Turn, last, refused};
-use crate::words::{number, post_header, text};
-use table_map::{Event, EventRead};
-
-fn parts(e: Event) -> [u64; 14] {
-    [
-        e.id,
-        e.flags as u64,
-        e.database.start as u64,
-        e.database.len as u64,
-        e.table.start as u64,
-        e.table.len as u64,
-        e.types.start as u64,
-        e.types.len as u64,
-        e.metadata.start as u64,
-        e.metadata.len as u64,
-        e.bits.start as u64,
-        e.bits.len as u64,
-        e.optional.start as u64,
-        e.optional.len as u64,
-    ]
-}
+use crate::output::Hex;
+use crate::room::tell_written;
+use crate::stop::{Answer, Stop};
+use crate::words::Words;
+use std::io::Write;
 
 // `event POSTHEADER HEX`
-pub(crate) fn event(line: &[u8], args: &[u64]) -> Turn {
-    match table_map::read_event(text(line, args, 2), post_header(args, 1)) {
-        EventRead::Read(event) => last(OWN, parts(event)),
-        EventRead::Refused(refusal) => refused(refusal),
+pub(crate) fn event(mut words: Words<'_>, out: &mut impl Write) -> Answer {
+    let post_header = words.post_header()?;
+    let bytes = words.bytes()?;
+    words.end()?;
+    let event = table_map::read_event(bytes, post_header)?;
+    write!(out, "ok {} {}", event.id, event.flags)?;
+    for part in [
+        event.database,
+        event.table,
+        event.types,
+        event.metadata,
+        event.bits,
+        event.optional,
+    ] {
+        write!(out, " {}", Hex(wire::part_of(bytes, part)))?;
     }
+    Ok(())
 }
 
-// `event-parts POSTHEADER HEX`: which parts are asked for
-pub(crate) fn event_parts() -> Turn {
-    last(OWN, [0, 1, 2, 3, 4, 5, 0, 0, 0, 0, 0, 0, 0, 0])
-}
-
-// One of them, by its own call.
-pub(crate) fn event_part(event: &[u8], post_header: u8, which: u64) -> &[u8] {
-    match which {
-        0 => table_map::database_name(event, post_header),
-        1 => table_map::table_name(event, post_header),
-        2 => table_map::column_types(event, post_header),
-        3 => table_map::column_metadata(event, post_header),
-        4 => table_map::nullable_bits(event, post_header),
-        _ => table_map::optional_metadata(event, post_header),
+// `event-parts POSTHEADER HEX`: each part by its own call
+pub(crate) fn event_parts(mut words: Words<'_>, out: &mut impl Write) -> Answer {
+    let post_header = words.post_header()?;
+    let event = words.bytes()?;
+    words.end()?;
+    write!(out, "ok")?;
+    for part in [
+        table_map::database_name(event, post_header),
+        table_map::table_name(event, post_header),
+        table_map::column_types(event, post_header),
+        table_map::column_metadata(event, post_header),
+        table_map::nullable_bits(event, post_header),
+        table_map::optional_metadata(event, post_header),
+    ] {
+        write!(out, " {}", Hex(part))?;
     }
+    Ok(())
 }
 
-// The flags of a line, held to their 16 bits.
-fn flags(args: &[u64]) -> u16 {
-    (number(args, 2) % 65536) as u16
+// `ID FLAGS DB TABLE TYPES METADATA BITS OPTIONAL`
+#[derive(Clone, Copy)]
+struct Parts<'a> {
+    id: u64,
+    flags: u16,
+    database: &'a [u8],
+    table: &'a [u8],
+    types: &'a [u8],
+    metadata: &'a [u8],
+    bits: &'a [u8],
+    optional: &'a [u8],
+}
+
+fn read_parts<'a>(words: &mut Words<'a>) -> Result<Parts<'a>, Stop> {
+    Ok(Parts {
+        id: words.number()?,
+        flags: words.number()?,
+        database: words.bytes()?,
+        table: words.bytes()?,
+        types: words.bytes()?,
+        metadata: words.bytes()?,
+        bits: words.bytes()?,
+        optional: words.bytes()?,
+    })
 }
 
 // `write-event ID FLAGS DB TABLE TYPES METADATA BITS OPTIONAL ROOM`
-pub(crate) fn write_event(line: &[u8], args: &[u64], room: &mut [u8]) -> Turn {
-    let answer = table_map::write_event(
-        number(args, 1),
-        flags(args),
-        text(line, args, 3),
-        text(line, args, 4),
-        text(line, args, 5),
-        text(line, args, 6),
-        text(line, args, 7),
-        text(line, args, 8),
-        room,
+pub(crate) fn write_event(mut words: Words<'_>, room: &mut [u8], out: &mut impl Write) -> Answer {
+    let p = read_parts(&mut words)?;
+    let room = words.room(room)?;
+    words.end()?;
+    let written = table_map::write_event(
+        p.id, p.flags, p.database, p.table, p.types, p.metadata, p.bits, p.optional, room,
     );
-    written(room, answer)
+    tell_written(room, written, out)
 }
 
 // `event-size ID FLAGS DB TABLE TYPES METADATA BITS OPTIONAL`
-pub(crate) fn event_size(line: &[u8], args: &[u64]) -> Turn {
-    told(table_map::event_size(
-        number(args, 1),
-        flags(args),
-        text(line, args, 3),
-        text(line, args, 4),
-        text(line, args, 5),
-        text(line, args, 6),
-        text(line, args, 7),
-        text(line, args, 8),
-    ))
+pub(crate) fn event_size(mut words: Words<'_>, out: &mut impl Write) -> Answer {
+    let p = read_parts(&mut words)?;
+    words.end()?;
+    let size = table_map::event_size(
+        p.id, p.flags, p.database, p.table, p.types, p.metadata, p.bits, p.optional,
+    )?;
+    write!(out, "ok {size}")?;
+    Ok(())
 }

@@ -1,88 +1,60 @@
-// Answers, gathered in a buffer that is written when it is full and at the end, so that a short
-// answer costs no system call. `used` bytes of `out` wait; each function returns the new count.
-ghost use Rattle.std.specs.Prelude.{◌<◌};
+// Answers, gathered in a buffer that is written when it is full and at the end, so that a short answer
+// costs no system call. Std's `BufWriter` is not used, since it takes its buffer of the heap.
+ghost use Rattle.std.specs.Prelude.{◌≤◌, length};
 
-use crate::slices::part;
-use crate::system::fail;
-use std::rt::Runtime;
+use std::io::Write;
+use std::{fmt, io};
 
-// The count once output was lost, which no buffer has: it stays.
-pub(crate) const LOST: usize = usize::MAX;
+// The first `used` bytes of the buffer wait.
+#[derive(Drop)]
+pub(crate) struct Output<'a, R> {
+    rt: &'a R,
+    buffer: &'a mut [u8],
+    used: usize,
+    ghost inside: { used ≤ length buffer.now },
+}
 
-// Writes what waits.
-pub(crate) fn flush(rt: &impl Runtime, out: &[u8], used: usize) -> usize {
-    if used == LOST {
-        return LOST;
-    }
-    match rt.write_all(part(out, 0, used)) {
-        Ok(()) => 0,
-        Err(error) => {
-            fail(rt, "cases: standard output cannot be written", error);
-            LOST
+impl<'a, R: Print> Output<'a, R> {
+    pub(crate) fn new(rt: &'a R, buffer: &'a mut [u8]) -> Output<'a, R> {
+        Output {
+            rt,
+            buffer,
+            used: 0,
         }
     }
 }
 
-// Writes what waits where there is no room for one byte more.
-fn with_room(rt: &impl Runtime, out: &[u8], used: usize) -> usize {
-    if used < out.len() {
-        return used;
+impl<R: Print> Write for Output<'_, R> {
+    fn write(&mut self, bytes: &[u8]) -> io::Result<usize> {
+        if self.used == self.buffer.len() {
+            self.flush()?;
+        }
+        let free = &mut self.buffer[self.used..];
+        let count = bytes.len().min(free.len());
+        free[..count].copy_from_slice(&bytes[..count]);
+        self.used += count;
+        Ok(count)
     }
-    flush(rt, out, used)
-}
 
-// One byte. A buffer of no bytes at all would have no room for it.
-pub(crate) fn put_byte(rt: &impl Runtime, b: u8, out: &mut [u8], used: usize) -> usize {
-    let at = with_room(rt, out, used);
-    if out.len() <= at {
-        return LOST;
+    fn flush(&mut self) -> io::Result<()> {
+        self.rt.write_all(&self.buffer[..self.used])?;
+        self.used = 0;
+        Ok(())
     }
-    out[at] = b;
-    at + 1
-}
-
-// The bytes as they are.
-pub(crate) fn put_text(rt: &impl Runtime, text: &[u8], out: &mut [u8], used: usize) -> usize {
-    let mut now = used;
-    let mut i: usize = 0;
-    while i < text.len() {
-        now = put_byte(rt, text[i], out, now);
-        i += 1;
-    }
-    now
-}
-
-// A number in decimal.
-pub(crate) fn put_number(rt: &impl Runtime, n: u64, out: &mut [u8], used: usize) -> usize {
-    let mut digits = [0u8; 20];
-    let count = io::decimal(n, &mut digits);
-    put_text(rt, &digits[..count], out, used)
-}
-
-fn hex_digit(n: u8) -> u8
-    requires { n < 16 }
-{
-    if n < 10 {
-        return b'0' + n;
-    }
-    b'a' + (n - 10)
-}
-
-fn put_hex_byte(rt: &impl Runtime, b: u8, out: &mut [u8], used: usize) -> usize {
-    let used = put_byte(rt, hex_digit(b / 16), out, used);
-    put_byte(rt, hex_digit(b % 16), out, used)
 }
 
 // Bytes in hex, `-` where there are none.
-pub(crate) fn put_hex(rt: &impl Runtime, s: &[u8], out: &mut [u8], used: usize) -> usize {
-    if s.len() == 0 {
-        return put_byte(rt, b'-', out, used);
+#[derive(Clone, Copy)]
+pub(crate) struct Hex<'a>(pub(crate) &'a [u8]);
+
+impl fmt::Display for Hex<'_> {
+    fn fmt<W: fmt::Write>(&self, f: &mut fmt::Formatter<W>) -> fmt::Result {
+        if self.0.is_empty() {
+            return write!(f, "-");
+        }
+        for byte in self.0 {
+            write!(f, "{byte:02x}")?;
+        }
+        Ok(())
     }
-    let mut now = used;
-    let mut i: usize = 0;
-    while i < s.len() {
-        now = put_hex_byte(rt, s[i], out, now);
-        i += 1;
-    }
-    now
 }

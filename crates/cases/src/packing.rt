@@ -1,19 +1,24 @@
 // The kinds `packed` and `pack`: a packed integer.
-use crate::room::written;
-use crate::turn::{Turn, refused, two};
-use crate::words::{index, number, text};
-use wire::Packed;
+use crate::room::tell_written;
+use crate::stop::Answer;
+use crate::words::Words;
+use std::io::Write;
 
 // `packed HEX AT`
-pub(crate) fn packed(line: &[u8], args: &[u64]) -> Turn {
-    match wire::read_packed(text(line, args, 1), index(args, 2)) {
-        Packed::Value { value, next } => two(value, next as u64),
-        Packed::Refused(refusal) => refused(refusal),
-    }
+pub(crate) fn packed(mut words: Words<'_>, out: &mut impl Write) -> Answer {
+    let text = words.bytes()?;
+    let at = words.number()?;
+    words.end()?;
+    let (value, next) = wire::read_packed(text, at)?;
+    write!(out, "ok {value} {next}")?;
+    Ok(())
 }
 
 // `pack VALUE ROOM`
-pub(crate) fn pack(args: &[u64], room: &mut [u8]) -> Turn {
-    let answer = wire::write_packed(number(args, 1), room, 0);
-    written(room, answer)
+pub(crate) fn pack(mut words: Words<'_>, room: &mut [u8], out: &mut impl Write) -> Answer {
+    let value = words.number()?;
+    let room = words.room(room)?;
+    words.end()?;
+    let written = wire::write_packed(value, room, 0);
+    tell_written(room, written, out)
 }

@@ -1,105 +1,148 @@
-// Value words, read. The table has their forms, by which they are printed too: the rows are the kinds of
-// `value_parts`, and there is none of number 0. Behind the name a letter stands for each part: N for a
-// number, I for a signed one, S for a sign, H for bytes.
-use crate::digits::{Decimal, parse_int, parse_limited, parse_sign};
-use crate::slices::{find, part, plus};
-use crate::tables::row_named;
-use value_parts::Made;
+// Values, as words of a line and of an answer.
+use crate::digits::{is_hex, parse_signed};
+use crate::output::Hex;
+use crate::stop::Stop;
+use crate::words::Words;
+use std::fmt;
+use temporal::{Date, Datetime, Seconds, Temporal, Time};
+use value::Value;
+use wire::Part;
 
-// The forms of values, and behind them those of the items of lists, whose rows have names here.
-pub(crate) const INTEGER: usize = 12;
-
-pub(crate) const PAIR: usize = 13;
-
-pub(crate) const STRING: usize = 14;
-
-pub(crate) const GROUP: usize = 15;
-
-pub(crate) const FORMS: [u8; 124] = *b"\n\
-    null\n\
-    int:I\n\
-    uint:N\n\
-    float:N\n\
-    double:N\n\
-    seconds:N:N\n\
-    year:N\n\
-    date:N:N:N\n\
-    datetime:N:N:N:N:N:N:N\n\
-    time:S:N:N:N:N\n\
-    bytes:H\n\
-    N\n\
-    N:N\n\
-    H\n\
-    N@N\n";
-
-// A value in numbers: its sort and parts, or sort 0 where a word is none.
-#[derive(Drop)]
-pub(crate) struct Numbers {
-    pub(crate) sort: u64,
-    pub(crate) parts: [u64; 7],
+// A value, and the bytes that its part is of.
+#[derive(Clone, Copy)]
+pub(crate) struct Lent<'a> {
+    pub(crate) value: Value,
+    pub(crate) bytes: &'a [u8],
 }
 
-fn no_value() -> Numbers {
-    Numbers {
-        sort: 0,
-        parts: [0, 0, 0, 0, 0, 0, 0],
+fn read_date(parts: &mut Words<'_>) -> Result<Date, Stop> {
+    Ok(Date {
+        year: parts.number()?,
+        month: parts.number()?,
+        day: parts.number()?,
+    })
+}
+
+fn read_datetime(parts: &mut Words<'_>) -> Result<Datetime, Stop> {
+    Ok(Datetime {
+        year: parts.number()?,
+        month: parts.number()?,
+        day: parts.number()?,
+        hour: parts.number()?,
+        minute: parts.number()?,
+        second: parts.number()?,
+        micros: parts.number()?,
+    })
+}
+
+// The sign of a time: whether it is a minus.
+fn read_sign(parts: &mut Words<'_>) -> Result<bool, Stop> {
+    match &*parts.word()? {
+        b"+" => Ok(false),
+        b"-" => Ok(true),
+        _ => Err(Stop::Bad),
     }
 }
 
-// One part of a word.
-fn parse_part(letter: u8, s: &[u8]) -> Decimal {
-    match letter {
-        b'N' => parse_limited(s, u64::MAX),
-        b'I' => parse_int(s),
-        b'S' => parse_sign(s),
-        _ => Decimal::Bad,
-    }
+fn read_time(parts: &mut Words<'_>) -> Result<Time, Stop> {
+    Ok(Time {
+        negative: read_sign(parts)?,
+        hours: parts.number()?,
+        minutes: parts.number()?,
+        seconds: parts.number()?,
+        micros: parts.number()?,
+    })
 }
 
-// The parts that stand in `s`, a colon before each, by the letters of a form, which have colons before
-// them too.
-fn parse_parts(sort: u64, letters: &[u8], s: &[u8]) -> Numbers {
-    let mut parts = [0u64; 7];
-    let mut at: usize = 0;
-    let mut i: usize = 0;
-    while i < letters.len() / 2 {
-        if 7 <= i {
-            return no_value();
-        }
-        let from = plus(at, 1);
-        let to = find(s, from, b':');
-        let Decimal::Value(n) = parse_part(letters[2 * i + 1], part(s, from, to)) else {
-            return no_value();
-        };
-        parts[i] = n;
-        at = to;
-        i += 1;
-    }
-    if at != s.len() {
-        return no_value();
-    }
-    Numbers { sort, parts }
+fn read_seconds(parts: &mut Words<'_>) -> Result<Seconds, Stop> {
+    Ok(Seconds {
+        seconds: parts.number()?,
+        micros: parts.number()?,
+    })
 }
 
-// The value, if its parts fit its sort.
-fn judged(value: Numbers) -> Numbers {
-    let parts = value.parts;
-    let Made::Value(_) = value_parts::value_of(value.sort, &parts) else {
-        return no_value();
+// A value that has no bytes, by its name and the parts behind it.
+fn read_plain(name: &[u8], mut parts: Words<'_>) -> Result<Value, Stop> {
+    let value = match name {
+        b"null" => Value::Null,
+        b"int" => Value::Int(parse_signed(parts.word()?).ok_or(Stop::Bad)?),
+        b"uint" => Value::Uint(parts.number()?),
+        b"float" => Value::Float(parts.number()?),
+        b"double" => Value::Double(parts.number()?),
+        b"year" => Value::Year(parts.number()?),
+        b"seconds" => Value::Temporal(Temporal::Seconds(read_seconds(&mut parts)?)),
+        b"date" => Value::Temporal(Temporal::Date(read_date(&mut parts)?)),
+        b"datetime" => Value::Temporal(Temporal::Datetime(read_datetime(&mut parts)?)),
+        b"time" => Value::Temporal(Temporal::Time(read_time(&mut parts)?)),
+        _ => return Err(Stop::Bad),
     };
-    value
+    parts.end()?;
+    Ok(value)
 }
 
-// A word by its name, which ends at its first colon.
-fn parse_by(forms: &[u8], word: &[u8]) -> Numbers {
-    let colon = find(word, 0, b':');
-    let row = row_named(forms, b':', part(word, 0, colon));
-    let letters = part(forms, row.bar, row.end);
-    let behind = part(word, colon, word.len());
-    judged(parse_parts(row.number as u64, letters, behind))
+// `bytes:HEX`, behind its name
+fn read_bytes<'a>(mut parts: Words<'a>) -> Result<Lent<'a>, Stop> {
+    let bytes = parts.bytes()?;
+    parts.end()?;
+    let part = Part {
+        start: 0,
+        len: bytes.len(),
+    };
+    Ok(Lent {
+        value: Value::Bytes(part),
+        bytes,
+    })
 }
 
-// A word that has no bytes.
-pub(crate) fn parse_value(word: &[u8]) -> Numbers {
-    parse_by(&FORMS, word)
+pub(crate) fn read_value<'a>(word: &'a mut [u8]) -> Result<Lent<'a>, Stop> {
+    let (name, parts) = Words::behind_name(word, b':');
+    if name == b"bytes".as_slice() {
+        return read_bytes(parts);
+    }
+    Ok(Lent {
+        value: read_plain(name, parts)?,
+        bytes: &[],
+    })
+}
+
+// Whether a word can be read so. It stays as it is.
+pub(crate) fn is_value(word: &mut [u8]) -> bool {
+    match word.strip_prefix(b"bytes:") {
+        Some(hex) => is_hex(hex),
+        None => read_value(word).is_ok(),
+    }
+}
+
+fn write_temporal<W: fmt::Write>(t: Temporal, f: &mut fmt::Formatter<W>) -> fmt::Result {
+    match t {
+        Temporal::Seconds(s) => write!(f, "seconds:{}:{}", s.seconds, s.micros),
+        Temporal::Date(d) => write!(f, "date:{}:{}:{}", d.year, d.month, d.day),
+        Temporal::Datetime(d) => {
+            write!(f, "datetime:{}:{}:{}", d.year, d.month, d.day)?;
+            write!(f, ":{}:{}:{}:{}", d.hour, d.minute, d.second, d.micros)
+        }
+        Temporal::Time(t) => {
+            let sign = if t.negative { '-' } else { '+' };
+            write!(
+                f,
+                "time:{sign}:{}:{}:{}:{}",
+                t.hours, t.minutes, t.seconds, t.micros
+            )
+        }
+    }
+}
+
+impl fmt::Display for Lent<'_> {
+    fn fmt<W: fmt::Write>(&self, f: &mut fmt::Formatter<W>) -> fmt::Result {
+        match self.value {
+            Value::Null => write!(f, "null"),
+            Value::Int(n) => write!(f, "int:{n}"),
+            Value::Uint(n) => write!(f, "uint:{n}"),
+            Value::Float(bits) => write!(f, "float:{bits}"),
+            Value::Double(bits) => write!(f, "double:{bits}"),
+            Value::Year(year) => write!(f, "year:{year}"),
+            Value::Temporal(t) => write_temporal(t, f),
+            Value::Bytes(part) => write!(f, "bytes:{}", Hex(wire::part_of(self.bytes, part))),
+        }
+    }
 }

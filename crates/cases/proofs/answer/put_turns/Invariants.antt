@@ -1,5 +1,0 @@
--- `put_turns` ends, since the turns are counted down.
-use Rattle.cases.proofs.answer.put_turns.Given as goal
-
-abbrev pub decreases-loop-turns : goal.decreases-loop-turns
-decreases-loop-turns g l = l.turns

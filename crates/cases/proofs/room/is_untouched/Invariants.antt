@@ -1,6 +1,0 @@
--- `is_untouched` ends, since each turn leaves a byte less to look at.
-use Rattle.std.proofs.Common.{length, ◌-◌}
-use Rattle.cases.proofs.room.is_untouched.Given as goal
-
-abbrev pub decreases-loop-i : goal.decreases-loop-i
-decreases-loop-i l = length l.room - l.i

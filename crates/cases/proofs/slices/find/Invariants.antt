@@ -1,6 +1,0 @@
--- `find` ends, since each turn leaves a byte less to look at.
-use Rattle.std.proofs.Common.{length, ◌-◌}
-use Rattle.cases.proofs.slices.find.Given as goal
-
-abbrev pub decreases-loop-i : goal.decreases-loop-i
-decreases-loop-i l = length l.s - l.i
