@@ -1,35 +1,22 @@
 // The input, read to its end or until the buffer is full.
+ghost use Rattle.std.specs.Prelude.{IfOk};
 ghost use Rattle.io.specs.Counts.{IsPrefixLen};
 
-use crate::system::fail;
+use std::io;
 use std::io::Read;
 use std::rt::Runtime;
 
-// How many bytes came, and whether no read failed.
-#[derive(Drop)]
-pub(crate) struct Input {
-    pub(crate) len: usize,
-    pub(crate) is_read: bool,
-}
-
-// A read that failed is said.
-pub(crate) fn read_input(rt: &impl Runtime, buf: &mut [u8]) -> Input
-    ensures { IsPrefixLen result.len buf.new }
+// How many bytes came. A read tells how far it came, so the place is not counted by a `for`.
+pub(crate) fn read_input(rt: &impl Runtime, buf: &mut [u8]) -> io::Result<usize>
+    ensures { IfOk result (λ len. IsPrefixLen len buf.new) }
 {
     let mut input = rt.reader();
-    let mut len: usize = 0;
+    let mut len = 0;
     while len < buf.len() {
-        match input.read(&mut buf[len..]) {
-            Ok(0) => return Input { len, is_read: true },
-            Ok(more) => len += more,
-            Err(error) => {
-                fail(rt, "profile: standard input cannot be read", error);
-                return Input {
-                    len,
-                    is_read: false,
-                };
-            }
+        match input.read(&mut buf[len..])? {
+            0 => break,
+            more => len += more,
         }
     }
-    Input { len, is_read: true }
+    Ok(len)
 }

@@ -13,16 +13,17 @@ use input::read_input;
 use output::{MOST_INPUT, MOST_OUTPUT, Text, put_profile};
 use std::io;
 use std::rt::Runtime;
-use system::{fail, tell_status};
+use system::{fail, is_word, tell_status};
 use value::Dialect;
-use words::{Asked, asked_behind, is_status_asked, same};
+use words::{Asked, asked_behind};
 
-// The statuses: of a map that was accepted, of one that was refused, and of a run without an answer.
-const ACCEPTED: u64 = 0;
-
-const REFUSED: u64 = 1;
-
-const FAILED: u64 = 2;
+// Of a map that was accepted, of one that was refused, and of a run without an answer.
+#[derive(Clone, Copy)]
+enum Status {
+    Accepted = 0,
+    Refused = 1,
+    Failed = 2,
+}
 
 // How the program is used.
 const USAGE: &str = "usage: profile [document | mysql | mariadb] < EVENT\n\
@@ -32,29 +33,28 @@ const USAGE: &str = "usage: profile [document | mysql | mariadb] < EVENT\n\
     Status: 0 if the map is accepted, 1 if it is refused, 2 if there is no answer.\n";
 
 // The status of a run whose output was printed, all of it or not.
-fn status_if(rt: &impl Runtime, printed: io::Result<()>, status: u64) -> u64 {
+fn status_if(rt: &impl Runtime, printed: io::Result<()>, status: Status) -> Status {
     match printed {
         Ok(()) => status,
         Err(error) => {
             fail(rt, "profile: standard output cannot be written", error);
-            FAILED
+            Status::Failed
         }
     }
 }
 
-fn status_of(text: Text) -> u64 {
+fn status_of(text: Text) -> Status {
     if text.is_refusal {
-        return REFUSED;
+        return Status::Refused;
     }
-    ACCEPTED
+    Status::Accepted
 }
 
 // Whether the answer in a dialect is another text.
 fn is_other(event: &[u8], dialect: Dialect, text: &[u8]) -> bool {
     let mut out = [0u8; MOST_OUTPUT];
     let other = put_profile(event, dialect, &mut out);
-    let len = other.len;
-    !same(&out[..len], text)
+    &out[..other.len] != text
 }
 
 // The words of these servers.
@@ -85,40 +85,42 @@ fn say_others(rt: &impl Eprint, event: &[u8], text: &[u8]) {
 }
 
 // Answers the input in a dialect, which was named or not.
-fn answer(rt: &impl Runtime, dialect: Dialect, is_named: bool) -> u64 {
-    let mut event = [0u8; MOST_INPUT + 1];
+fn answer(rt: &impl Runtime, dialect: Dialect, is_named: bool) -> Status {
+    let mut buffer = [0u8; MOST_INPUT + 1];
     let mut out = [0u8; MOST_OUTPUT];
-    let input = read_input(rt, &mut event);
-    if !input.is_read {
-        return FAILED;
-    }
-    let size = input.len;
-    let text = put_profile(&event[..size], dialect, &mut out);
-    let len = text.len;
+    let event = match read_input(rt, &mut buffer) {
+        Ok(len) => &buffer[..len],
+        Err(error) => {
+            fail(rt, "profile: standard input cannot be read", error);
+            return Status::Failed;
+        }
+    };
+    let text = put_profile(event, dialect, &mut out);
+    let printed = &out[..text.len];
     if !is_named {
-        say_others(rt, &event[..size], &out[..len]);
+        say_others(rt, event, printed);
     }
-    status_if(rt, rt.write_all(&out[..len]), status_of(text))
+    status_if(rt, rt.write_all(printed), status_of(text))
 }
 
-fn run(rt: &impl Runtime, asked: Asked) -> u64 {
+fn run(rt: &impl Runtime, asked: Asked) -> Status {
     match asked {
         Asked::For(dialect) => answer(rt, dialect, true),
         Asked::Letter => answer(rt, Dialect::Document, false),
-        Asked::Help => status_if(rt, rt.print(USAGE), ACCEPTED),
+        Asked::Help => status_if(rt, rt.print(USAGE), Status::Accepted),
         Asked::Unknown => {
             let _ = rt.eprint("profile: one word is taken, document, mysql or mariadb, or none\n");
             let _ = rt.eprint(USAGE);
-            FAILED
+            Status::Failed
         }
     }
 }
 
 fn main(rt: HostRuntime) {
-    if !is_status_asked(&rt) {
+    if !is_word(&rt, 1, b"--tell-status") {
         run(&rt, asked_behind(&rt, 1));
         return;
     }
     let status = run(&rt, asked_behind(&rt, 2));
-    tell_status(&rt, status);
+    tell_status(&rt, status as u8);
 }

@@ -7,8 +7,8 @@ ghost use Rattle.profile.specs.Text.{decimal, behind, line, column_line, column_
 
 use record::Entry;
 use value::Dialect;
+use wire::Refusal;
 use wire::refusal::NO_ROOM;
-use wire::{Refusal, Written};
 
 // The longest input that is taken.
 pub(crate) const MOST_INPUT: usize = 65536;
@@ -22,7 +22,8 @@ pub(crate) const MOST_OUTPUT: usize = LINE * record::MOST_COLUMNS;
 // The post-header length of the events that are read.
 const POST_HEADER: u8 = 8;
 
-// How many bytes of the buffer are to be printed, and whether they are a refusal.
+// How many bytes of the buffer are to be printed, and whether they are a refusal. Each text has both, and the
+// whole buffer is spoken of by the contracts: so this is no Result, and no slice.
 #[derive(Drop)]
 pub(crate) struct Text {
     pub(crate) len: usize,
@@ -34,7 +35,7 @@ fn put_text(text: &[u8], out: &mut [u8], at: usize) -> usize
     ensures value { result ≡ at + length text.now }
     ensures out_after { out.new ≡ stored text.now out.old at }
 {
-    wire::write_bytes(text, out, at);
+    let _ = wire::write_bytes(text, out, at);
     at + text.len()
 }
 
@@ -51,13 +52,11 @@ fn put_number(n: u64, end: u8, out: &mut [u8], at: usize) -> usize
 }
 
 // What stands behind a number with so many more to come.
+#[tactic(auto, using(wire::proofs::Rules::tests), unfolding(crate::specs::Text::behind))]
 fn end_of(left: usize) -> u8
     ensures { result ≡ behind left }
 {
-    if left == 0 {
-        return b'\n';
-    }
-    b' '
+    if left == 0 { b'\n' } else { b' ' }
 }
 
 fn put_line(numbers: &[u64], out: &mut [u8], at: usize) -> usize
@@ -66,11 +65,9 @@ fn put_line(numbers: &[u64], out: &mut [u8], at: usize) -> usize
     ensures out_after { out.new ≡ stored (line numbers.now) out.old at }
 {
     let mut next = at;
-    let mut i: usize = 0;
-    while i < numbers.len() {
+    for i in 0..numbers.len() {
         let end = end_of(numbers.len() - i - 1);
         next = put_number(numbers[i], end, out, next);
-        i += 1;
     }
     next
 }
@@ -82,7 +79,7 @@ fn put_refusal(refusal: Refusal, out: &mut [u8]) -> Text
     ensures out_after { out.new ≡ stored (refused_line refusal) out.old 0 }
 {
     let next = put_text(b"refused ", out, 0);
-    let numbers = [refusal.number as u64, refusal.place as u64];
+    let numbers = [u64::from(refusal.number), refusal.place as u64];
     let len = put_line(&numbers, out, next);
     Text {
         len,
@@ -99,11 +96,11 @@ fn put_column(place: usize, entry: Entry, out: &mut [u8], at: usize) -> usize
 {
     let numbers = [
         place as u64,
-        entry.real as u64,
-        entry.flags as u64,
-        entry.m0 as u64,
-        entry.m1 as u64,
-        entry.charset as u64,
+        u64::from(entry.real),
+        u64::from(entry.flags),
+        u64::from(entry.m0),
+        u64::from(entry.m1),
+        u64::from(entry.charset),
     ];
     put_line(&numbers, out, at)
 }
@@ -116,11 +113,9 @@ fn put_columns(profile: &[u8], n: usize, out: &mut [u8]) -> Text
     ensures prefix_len { IsPrefixLen result.len out.new }
     ensures out_after { out.new ≡ stored (column_lines 0 (entries_in n profile.now 0)) out.old 0 }
 {
-    let mut len: usize = 0;
-    let mut j: usize = 0;
-    while j < n {
+    let mut len = 0;
+    for j in 0..n {
         len = put_column(j, record::entry_in(profile, j), out, len);
-        j += 1;
     }
     Text {
         len,
@@ -132,10 +127,7 @@ fn put_columns(profile: &[u8], n: usize, out: &mut [u8]) -> Text
 fn columns_of(size: usize) -> usize
     ensures { result ≡ (size - 6) / 6 }
 {
-    if size < 6 {
-        return 0;
-    }
-    (size - 6) / 6
+    size.saturating_sub(6) / 6
 }
 
 // All that is printed of an input.
@@ -154,7 +146,7 @@ pub(crate) fn put_profile(event: &[u8], dialect: Dialect, out: &mut [u8]) -> Tex
     }
     let mut profile = [0u8; record::MOST_BYTES];
     match map_check::check(event, POST_HEADER, dialect, &mut profile) {
-        Written::Done { next } => put_columns(&profile[..next], columns_of(next), out),
-        Written::Refused(refusal) => put_refusal(refusal, out),
+        Ok(len) => put_columns(&profile[..len], columns_of(len), out),
+        Err(refusal) => put_refusal(refusal, out),
     }
 }

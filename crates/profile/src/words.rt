@@ -1,6 +1,6 @@
-// The words that the program was given. `./run` puts one of its own before them, `--tell-status`.
+// The words that the program was given.
 ghost use Rattle.std.specs.Prelude.{◌≡◌};
-ghost use Rattle.profile.specs.Words.{same_bytes, asked_by};
+ghost use Rattle.profile.specs.Words.{asked_by};
 
 use crate::system::{word, word_count};
 use std::env::Env;
@@ -16,46 +16,23 @@ pub(crate) enum Asked {
     Unknown,
 }
 
-// Whether the two hold the same bytes.
-pub(crate) fn same(a: &[u8], b: &[u8]) -> bool
-    ensures { result ≡ same_bytes a.now b.now }
-{
-    if a.len() != b.len() {
-        return false;
-    }
-    let mut i: usize = 0;
-    while i < a.len() {
-        if a[i] != b[i] {
-            return false;
-        }
-        i += 1;
-    }
-    true
-}
-
+#[tactic(auto, using(crate::proofs::Sames::compared), unfolding(crate::specs::Words::asked_by))]
 fn asked_by(word: &[u8]) -> Asked
     ensures { result ≡ asked_by word.now }
 {
-    if same(word, b"document") {
+    if word == b"document".as_slice() {
         return Asked::For(Dialect::Document);
     }
-    if same(word, b"mysql") {
+    if word == b"mysql".as_slice() {
         return Asked::For(Dialect::Mysql);
     }
-    if same(word, b"mariadb") {
+    if word == b"mariadb".as_slice() {
         return Asked::For(Dialect::Mariadb);
     }
-    if same(word, b"--help") {
+    if word == b"--help".as_slice() {
         return Asked::Help;
     }
     Asked::Unknown
-}
-
-// Whether `./run` has asked for the status.
-pub(crate) fn is_status_asked(rt: &impl Env) -> bool {
-    let mut asked = [0u8; 16];
-    let length = word(rt, 1, &mut asked);
-    same(&asked[..length], b"--tell-status")
 }
 
 // What the words behind the first `before` ask for.
@@ -67,7 +44,5 @@ pub(crate) fn asked_behind(rt: &impl Env, before: usize) -> Asked {
     if 1 < count - before {
         return Asked::Unknown;
     }
-    let mut asked = [0u8; 16];
-    let length = word(rt, before, &mut asked);
-    asked_by(&asked[..length])
+    asked_by(word(rt, before, &mut [0u8; 16]))
 }

@@ -8,19 +8,20 @@ pub put_line-requires : goal.put_line-requires
 unfolding column_line
 put_line-requires c =
     let e = c.args.entry in
-    omega (arith, column_short c.args.place e (omega arith) (omega arith) (omega arith) (omega arith) (omega arith) (omega arith))
+    let s = column_short c.args.place e (omega arith) (omega arith) (omega arith) (omega arith) (omega arith) (omega arith) in
+    rw (c.from.ensures, c.from-2.ensures, c.from-3.ensures, c.from-4.ensures, c.from-5.ensures) (omega (arith, s))
 
 pub returns-clause-value : goal.returns-clause-value
 unfolding column_line
-returns-clause-value c = c.put_line.ensures.value
+returns-clause-value c = rw (c.from.ensures, c.from-2.ensures, c.from-3.ensures, c.from-4.ensures, c.from-5.ensures) at c.put_line.ensures.value
 
 pub returns-clause-upper_bound : goal.returns-clause-upper_bound
 unfolding column_line
 returns-clause-upper_bound c =
     let e = c.args.entry in
     let s = column_short c.args.place e (omega arith) (omega arith) (omega arith) (omega arith) (omega arith) (omega arith) in
-    omega (arith, s, c.put_line.ensures.value)
+    omega (arith, s, rw (c.from.ensures, c.from-2.ensures, c.from-3.ensures, c.from-4.ensures, c.from-5.ensures) at c.put_line.ensures.value)
 
 pub returns-clause-out_after : goal.returns-clause-out_after
 unfolding column_line
-returns-clause-out_after c = c.put_line.ensures.out_after
+returns-clause-out_after c = rw (c.from.ensures, c.from-2.ensures, c.from-3.ensures, c.from-4.ensures, c.from-5.ensures) at c.put_line.ensures.out_after

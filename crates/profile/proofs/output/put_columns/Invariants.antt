@@ -12,6 +12,3 @@ invariant-loop-j l =
     (l.j ≤ l.n) × (length l.out ≡ length l.initial.out) × (l.len ≤ 32 * l.j)
     × ((l.len + length (column_lines l.j (entries_in (l.n - l.j) l.profile l.j)) ≡ length (column_lines 0 (entries_in l.n l.profile 0)))
     × (stored (column_lines l.j (entries_in (l.n - l.j) l.profile l.j)) l.out l.len ≡ stored (column_lines 0 (entries_in l.n l.profile 0)) l.initial.out 0))
-
-abbrev pub decreases-loop-j : goal.decreases-loop-j
-decreases-loop-j l = l.n - l.j

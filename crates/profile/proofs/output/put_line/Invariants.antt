@@ -11,6 +11,3 @@ invariant-loop-i l =
     (l.i ≤ length l.numbers) × (length l.out ≡ length l.initial.out)
     × ((l.next + length (line (drop l.i l.numbers)) ≡ l.at + length (line l.numbers))
     × (stored (line (drop l.i l.numbers)) l.out l.next ≡ stored (line l.numbers) l.initial.out l.at))
-
-abbrev pub decreases-loop-i : goal.decreases-loop-i
-decreases-loop-i l = length l.numbers - l.i

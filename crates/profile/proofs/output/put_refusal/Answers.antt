@@ -14,7 +14,7 @@ pub put_line-len-requires : goal.put_line-len-requires
 put_line-len-requires c =
     let w = c.args.refusal in
     let first = c.put_text-next in
-    omega (arith, refusal_short w.number w.place (omega arith) (omega arith), first.ensures.value, first.auto.out)
+    rw c.from.ensures (omega (arith, refusal_short w.number w.place (omega arith) (omega arith), first.ensures.value, first.auto.out))
 
 pub returns-clause-value : goal.returns-clause-value
 unfolding refused_line
@@ -24,7 +24,7 @@ returns-clause-value c =
     let last = c.put_line-len.ensures in
     let s = refusal_short w.number w.place (omega arith) (omega arith) in
     let p = both refused_word (line (w.number ∷ w.place ∷ [])) c.args.out.now _ _ 0 _ _ (omega arith) (first.value, first.out_after)
-    (last.value, last.out_after) in
+    (rw c.from.ensures at last.value, rw c.from.ensures at last.out_after) in
     let n : c.put_line-len.result ≡ length (refused_line w) = omega (arith, p.0) in
     ap (λ (k : ℕ). record { len = k; is_refusal = true }) n
 
@@ -34,7 +34,7 @@ returns-clause-prefix_len c =
     let first = c.put_text-next in
     let last = c.put_line-len in
     let s = refusal_short w.number w.place (omega arith) (omega arith) in
-    prefix_len_of_le _ _ (omega (arith, s, first.ensures.value, last.ensures.value, first.auto.out, last.auto.out))
+    prefix_len_of_le _ _ (omega (arith, s, first.ensures.value, rw c.from.ensures at last.ensures.value, first.auto.out, last.auto.out))
 
 pub returns-clause-out_after : goal.returns-clause-out_after
 unfolding refused_line
@@ -43,5 +43,5 @@ returns-clause-out_after c =
     let first = c.put_text-next.ensures in
     let last = c.put_line-len.ensures in
     let p = both refused_word (line (w.number ∷ w.place ∷ [])) c.args.out.now _ _ 0 _ _ (omega arith) (first.value, first.out_after)
-    (last.value, last.out_after) in
+    (rw c.from.ensures at last.value, rw c.from.ensures at last.out_after) in
     p.1
