@@ -1,8 +1,7 @@
 -- "Any two results it allows are proved equal." A contract says what a call answers by an equality. Where the answer is a number, a truth
 -- value, a struct or bytes, that leaves no choice. Where it is a Result, the equality is with what the definition says on paper, and that is
 -- the answer itself, but that a cursor over a list is seen as its place: so no two answers look the same there, and that leaves none either.
--- While answers were enums of the code, each line said so of the view of one on paper; that view is now `itself`. Here for every Result
--- that a public call answers, but for the calls of `blocks`, whose contracts have the answer itself. `results` in
+-- Here for every Result that a public call answers, but for the calls of `blocks`, whose contracts have the answer itself. `results` in
 -- proofs/Demand1/Results.antt proves it. Assumes nothing.
 use Rattle.std.specs.Prelude.{ℕ, ◌≡◌, Option}
 use Rattle.wire.specs.Outcome.{Outcome}
