@@ -85,6 +85,7 @@ fn groups_hold(value: &[u8], size: Rank) -> bool
 }
 
 // Whether pairs (rank, charset) fill the value from a place on, their ranks rising and below the size of the class.
+#[tactic(auto, using(wire::proofs::Rules::tests, crate::proofs::ContentsLaws::Tallies::pair_turns))]
 fn pairs_hold(value: &[u8], start: usize, size: Rank) -> bool
     ensures { result ≡ pairs_whole size.0 0 value.now start }
 {

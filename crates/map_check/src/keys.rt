@@ -22,6 +22,7 @@ pub(crate) fn key_at(value: &[u8], paired: bool, at: usize) -> Result<(u64, usiz
 }
 
 // Whether the value is keys, and each is the place of one of the map's columns.
+#[tactic(auto, using(crate::proofs::KeyLaws::KeyItems::key_moved))]
 pub(crate) fn keys_below(value: &[u8], paired: bool, columns: TablePlace) -> bool
     ensures { result ≡ list_holds (key_item paired) (λ k. ltb k columns.0) value.now 0 }
 {
@@ -43,6 +44,7 @@ pub(crate) fn keys_below(value: &[u8], paired: bool, columns: TablePlace) -> boo
 // outer loop: with the earlier one outside, keys 1, 2, 2, 1 would be told at the fourth item and not at the third. The contents were judged
 // before, so keys are below n, which is at most MOST_COLUMNS: a repetition comes within the first n + 1 items, and however long the value
 // is, at most n (n + 1) / 2 pairs of items are compared.
+#[tactic(auto, using(crate::proofs::KeyLaws::Repeats::key_turns))]
 fn keys_once(value: &[u8], paired: bool, start: usize) -> Result<(), Refusal>
     requires { start + length value.now < 2 ^ 64 }
     ensures { result ≡ keys_once start [] (keys_from paired value.now 0) }

@@ -45,6 +45,7 @@ pub fn names_field(event: &[u8], post_header: u8, dialect: Dialect) -> Result<Op
 }
 
 // The same from a cursor on. It is read up to the names and no further, as a list of names is read up to the name.
+#[tactic(auto, using(crate::proofs::NameLaws::NameLooks::names_looks))]
 fn find_names(event: &[u8], fields: Fields) -> Result<Option<Part>, Refusal>
     ensures { result ≡ names_in (walk_fields fields event.now) }
 {
@@ -67,6 +68,7 @@ fn list_of<'a>(names: &'a [u8], operator: &'a [u8]) -> &'a [u8]
 }
 
 // A string of a list, read up to it and no further: the number asked is believed only as far as the list goes.
+#[tactic(auto, using(wire::proofs::Rules::tests, crate::proofs::NameLaws::NameLooks::string_looks))]
 fn string_at(list: &[u8], asked: usize) -> Result<Part, Refusal>
     ensures { result ≡ string_at asked asked list.now 0 }
 {

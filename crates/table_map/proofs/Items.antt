@@ -30,6 +30,9 @@ strings_turn s n i at h =
     let k : n - i ≡ suc (n - (i + 1)) = omega arith in
     ap (λ (j : ℕ). strings j s at) k
 
+-- what the loop over them turns on
+pub ruleset string_turns = (strings_none, strings_turn)
+
 -- ---- past the bytes nothing is read
 pub integer_early : Early integer_item
 unfolding read_packed

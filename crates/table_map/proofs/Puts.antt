@@ -203,3 +203,6 @@ event_put p d x n next e q =
     let l : x ≡ stored (event_bytes p) d 0 = q'.left in
     let i : next ≡ 0 + length (event_bytes p) = q'.next_is in
     rw s.0 (store_fits d (event_bytes p) 0 q'.room ∙ rw (l, i))
+
+-- where writes end, one behind the other
+pub ruleset puts = (after_put, after_number, after_name, column_length)

@@ -63,6 +63,7 @@ impl ListItem for (u64, usize) {
 }
 
 // Reads n strings, one after the other, up to the first that is not there: n is believed only as far as the bytes go.
+#[tactic(auto, using(crate::proofs::Items::string_turns))]
 fn skip_strings(s: &[u8], at: usize, n: u64) -> Result<usize, Refusal>
     ensures { result ≡ strings n s.now at }
 {

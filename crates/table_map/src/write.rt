@@ -1,5 +1,5 @@
 // The event written, all or nothing, and its size (table_map_event.rs: MySerialize and BinlogStruct for TableMapEvent).
-ghost use Rattle.std.specs.Prelude.{◌≡◌, true, ◌+◌, ◌≤◌, length};
+ghost use Rattle.std.specs.Prelude.{◌≡◌, ◌+◌, ◌≤◌, length};
 ghost use Rattle.wire.specs.Number.{le_bytes};
 ghost use Rattle.wire.specs.Packed.{packed_bytes};
 ghost use Rattle.wire.specs.Stored.{answer_of, left_of};
@@ -76,7 +76,7 @@ pub fn write_event(
     parts.write(buf)
 }
 
-// The parts of an event that is written.
+// The parts of an event that is written. The two calls above keep them as parameters, as all who call them have it.
 #[derive(Clone, Copy)]
 struct Parts<'a> {
     id: u64,
@@ -140,8 +140,10 @@ impl<'a> Parts<'a> {
 
     // ---- these write from at on, where there is room, and hand back the place after what they wrote
 
+    #[tactic(auto, using(crate::proofs::Puts::puts))]
     fn put_head(self, buf: &mut [u8]) -> usize
-        requires { (is_event (lent self) ≡ true) × (length (event_head (lent self)) ≤ length buf.old) }
+        requires { (length self.database.now ≤ 255) × (length self.table.now ≤ 255)
+            × (12 + length self.database.now + length self.table.now ≤ length buf.old) }
         ensures { PutAt buf.old 0 (event_head (lent self.entry)) buf.new result }
     {
         let a = put_le(6, self.id, buf, 0);
@@ -150,6 +152,7 @@ impl<'a> Parts<'a> {
         put_name(self.table, buf, c)
     }
 
+    #[tactic(auto, using(crate::proofs::Puts::puts))]
     fn put_columns(self, buf: &mut [u8], at: usize) -> usize
         requires { at + length (behind_head (lent self)) ≤ length buf.old }
         ensures { PutAt buf.old at (behind_head (lent self.entry)) buf.new result }
@@ -185,6 +188,7 @@ fn put_bytes(bytes: &[u8], buf: &mut [u8], at: usize) -> usize
 }
 
 // A name behind its length, and a zero byte.
+#[tactic(auto, using(crate::proofs::Puts::puts))]
 fn put_name(name: &[u8], buf: &mut [u8], at: usize) -> usize
     requires { (length name.now ≤ 255) × (at + (length name.now + 2) ≤ length buf.old) }
     ensures { PutAt buf.old at (name_bytes name.now) buf.new result }

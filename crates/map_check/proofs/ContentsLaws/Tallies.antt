@@ -163,6 +163,12 @@ pub pairs_broken : (size low : ℕ) (value : List ℕ) (at : ℕ) (w : Refusal) 
 unfolding pairs_whole
 pairs_broken size low value at w e = rw (walk_steps_lem pair_item pair_moves value at, e)
 
+pub pair_steps : (s : List ℕ) (at : ℕ) (x : ℕ × ℕ) (next : ℕ) → step pair_item s at ≡ ok (item x next) → (at < next) × (next ≤ length s)
+pair_steps = item_moves pair_item pair_moves
+
+-- what the loop over them turns on
+pub ruleset pair_turns = (pairs_end, pairs_item, pairs_broken, pair_steps)
+
 -- and pairs that hold
 pub pairs_true : (size low : ℕ) (value : List ℕ) (at : ℕ) → pairs_whole size low value at ≡ true
     → (is_whole (walk_items pair_item value at).how ≡ true) × (pairs_hold size low (walk_items pair_item value at).items ≡ true)

@@ -16,7 +16,7 @@ use Rattle.table_map.proofs.Items.{Moves}
 use Rattle.map_check.specs.Contents.{key_item}
 use Rattle.map_check.specs.Fields.{stood}
 use Rattle.map_check.specs.Keys.{with_place, keys_from, keys_once}
-use Rattle.map_check.proofs.KeyLaws.KeyItems.{key_moves}
+use Rattle.map_check.proofs.KeyLaws.KeyItems.{key_moves, key_moved}
 use Rattle.map_check.specs.Passes.{Between, none}
 use Rattle.map_check.proofs.ContentsLaws.Between.{one_more, rises, parted, items_next, items_past, items_stop}
 
@@ -129,3 +129,6 @@ reached_next {paired} {value} {start} {later} {key} {earlier} {next} c h l =
       passed = one_more c.reached.passed l;
       left = rw (← c.reached.left, keys_next paired value later key next l, t);
     }
+
+-- what the two loops turn on
+pub ruleset key_turns = (reached_first, compared_none, repeats, compared_more, reached_next, ends_stop, key_moved)

@@ -20,12 +20,13 @@ use Rattle.table_map.specs.Lists.{end, item, step, Ended, whole, broken, ItemsWa
 use Rattle.table_map.specs.Fields.{field_item, field_step}
 use Rattle.table_map.proofs.Steps.{step_end}
 use Rattle.table_map.proofs.Items.{string_moves}
-use Rattle.table_map.proofs.Walks.{walk_steps_lem}
+use Rattle.table_map.proofs.Walks.{item_moves, walk_steps_lem}
 use Rattle.table_map.proofs.Optional.{field_stepped, field_ended, field_broken, field_moves}
 use Rattle.map_check.specs.Ranks.{table_place}
 use Rattle.map_check.specs.Fields.{first_of, fields_at, walk_fields}
 use Rattle.map_check.specs.Names.{list_of, string_at, column_name, or_ended, names_in, names_field}
 use Rattle.map_check.specs.Passes.{Between, none as no_item, more as one_item, ItemsAre}
+use Rattle.map_check.proofs.FieldLaws.FieldTurns.{cursor_moves}
 use Rattle.map_check.proofs.ContentsLaws.Tallies.{item_stepped, refusal_stepped}
 
 -- ---- a string, `left` strings before the one asked
@@ -53,6 +54,12 @@ pub looks_broken : (left asked : ℕ) (s : List ℕ) (at : ℕ) (w : Refusal) �
 unfolding string_at
 looks_broken zero asked s at w e = rw e
 looks_broken (suc i) asked s at w e = rw e
+
+pub string_steps : (s : List ℕ) (at : ℕ) (p : Part) (next : ℕ) → step string_item s at ≡ ok (item p next) → (at < next) × (next ≤ length s)
+string_steps = item_moves string_item string_moves
+
+-- what the loop over the list turns on
+pub ruleset string_looks = (looks_found, looks_on, looks_end, looks_broken, string_steps)
 
 -- ---- strings laid end to end: a step meets the first of them
 laid_stepped : (s : List ℕ) (at : ℕ) (p : Part) (next : ℕ) → string_item s at ≡ ok (p, next) → step string_item s at ≡ ok (item p next)
@@ -122,6 +129,9 @@ names_absent c s e = ap names_in (fields_turn c s) ∙ rw (field_ended c s e)
 pub names_refused : (c : FieldCursor) (s : List ℕ) (w : Refusal) → field_step c s ≡ refused w → names_in (walk_fields c s) ≡ refused w
 unfolding first_of
 names_refused c s w e = ap names_in (fields_turn c s) ∙ rw (field_broken c s w e)
+
+-- what the loop over the fields turns on
+pub ruleset names_looks = (names_met, names_later, names_absent, names_refused, cursor_moves)
 
 -- a refusal is that of the walk
 pub names_broken : (w : ItemsWalked (ℕ × Part)) (v : Refusal) → names_in w ≡ refused v → w.how ≡ broken v

@@ -9,9 +9,6 @@ use Rattle.table_map.specs.Lists.{pair_item}
 use Rattle.map_check.proofs.ContentsLaws.Tallies.{pairs_end, pairs_item, pairs_broken}
 use Rattle.map_check.proofs.contents.pairs_hold.Goals as goal
 
-pub loop-rank-init : goal.loop-rank-init
-loop-rank-init c = refl
-
 pub returns-then-rank-low : goal.returns-then-rank-low
 returns-then-rank-low c = rw (
   ← c.loop-rank.invariant,
@@ -38,16 +35,6 @@ returns-then-not-is_charset c = rw (
   sym c.is_charset.ensures ∙ c.if-not-is_charset.true,
 )
 
-pub overflow_add-low : goal.overflow_add-low
-overflow_add-low c = omega arith
-
-pub loop-rank-smaller : goal.loop-rank-smaller
-loop-rank-smaller c =
-    let w =
-    item_moves pair_item pair_moves _ _ _ _
-    (sym (rw c.in-Ok-Some.field-0-is at c.in-Ok-Some.ensures)) in
-    omega (arith, w.0, w.1)
-
 pub loop-rank-preserved : goal.loop-rank-preserved
 loop-rank-preserved c = rw (
   ← c.loop-rank.invariant,
@@ -57,13 +44,3 @@ loop-rank-preserved c = rw (
   lt-ltb _ _ c.if-above-rank.false,
   sym c.is_charset.ensures ∙ c.if-not-is_charset.false,
 )
-
-pub returns-in-Ok-None : goal.returns-in-Ok-None
-returns-in-Ok-None c =
-    sym (pairs_end _ _ _ _ (sym (rw c.in-Ok-None.field-0-is at c.in-Ok-None.ensures)))
-    ∙ c.loop-rank.invariant
-
-pub returns-in-Err : goal.returns-in-Err
-returns-in-Err c =
-    sym (pairs_broken _ _ _ _ _ (sym c.in-Err.ensures))
-    ∙ c.loop-rank.invariant

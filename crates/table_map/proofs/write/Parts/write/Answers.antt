@@ -2,7 +2,7 @@
 use Rattle.std.proofs.Common.{arith, sym, refl}
 use Rattle.std.proofs.lemmas.Result.{err_from_is_err_and}
 use Rattle.table_map.specs.Inner.Writes.{lent}
-use Rattle.table_map.proofs.Puts.{sized, not_sized, no_room_for, event_put, event_length, column_length, head_length, after_put, then}
+use Rattle.table_map.proofs.Puts.{taken, sized, not_sized, no_room_for, event_put, event_length, column_length, head_length, after_put, then}
 use Rattle.table_map.proofs.write.Parts.write.Goals as goal
 
 pub returns-in_err-size : goal.returns-in_err-size
@@ -20,7 +20,8 @@ pub put_head-behind-requires : goal.put_head-behind-requires
 put_head-behind-requires c =
     let p = lent c.args.self in
     let y = sized p _ (sym c.in_ok-size.ensures) in
-    (y.0, omega (arith, y.1, event_length p, head_length p))
+    let k = taken p y.0 in
+    (k.database, k.table, omega (arith, y.1, event_length p))
 
 pub put_columns-requires : goal.put_columns-requires
 put_columns-requires c =
