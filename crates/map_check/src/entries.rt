@@ -34,9 +34,7 @@ pub(crate) struct Passed<'a> {
 // Where the making of a record stands between two columns.
 #[derive(Clone, Copy)]
 pub(crate) struct Progress {
-    // of the next column
-    pub place: TablePlace,
-    // where its metadata starts
+    // where the next column's metadata starts
     pub metadata: usize,
     pub ranks: Ranks,
     pub characters: CharsetCursor,
@@ -110,7 +108,6 @@ impl<'a> Passed<'a> {
         ensures { Begins self.now.event.now self.now.facts result }
     {
         Progress {
-            place: TablePlace(0),
             metadata: 0,
             ranks: Ranks::default(),
             characters: first_charset(self.event, self.facts.characters),
@@ -118,14 +115,13 @@ impl<'a> Passed<'a> {
         }
     }
 
-    // The next column's entry, and where the making stands behind it.
-    fn next_entry(&self, progress: Progress) -> EntryTurn
-        requires { (progress.place.0 < length self.now.types.now) × (length self.now.types.now ≤ most_columns)
-            × Ready self.now.event.now self.now.facts progress }
-        ensures { Came self.now.dialect self.now.event.now self.now.facts self.now.types.now self.now.metadata.now progress result }
+    // The entry of the column at a place, where the making stands before it, and where it stands behind it.
+    fn next_entry(&self, place: TablePlace, progress: Progress) -> EntryTurn
+        requires { (place.0 < length self.now.types.now) × (length self.now.types.now ≤ most_columns)
+            × Ready self.now.event.now self.now.facts place.0 progress }
+        ensures { Came self.now.dialect self.now.event.now self.now.facts self.now.types.now self.now.metadata.now place.0 progress result }
     {
         let Progress {
-            place,
             metadata,
             ranks,
             characters,
@@ -155,7 +151,6 @@ impl<'a> Passed<'a> {
         EntryTurn {
             entry: self.entry_with(column, place, ranks, charset),
             next: Progress {
-                place: TablePlace(place.0 + 1),
                 metadata: metadata + metadata_bytes(kind),
                 ranks: ranks_after(self.dialect, ranks, column),
                 characters: character.next,
@@ -172,9 +167,9 @@ impl<'a> Passed<'a> {
             (declare_all self.now.types.now self.now.metadata.now) (table_place 0) no_ranks)) buf.old (entry_at 0) }
     {
         let mut progress = self.first_progress();
-        while progress.place.0 < self.types.len() {
-            let turn = self.next_entry(progress);
-            let at = record::entry_at(progress.place.0);
+        for j in 0..self.types.len() {
+            let turn = self.next_entry(TablePlace(j), progress);
+            let at = record::entry_at(j);
             let _ = record::write_entry(turn.entry, buf, at);
             progress = turn.next;
         }

@@ -93,14 +93,13 @@ unfolding charset_for has_charset
 found_charset d s x c k a b e f = rw (e, f) (counted_charset (is_character c.real) _ (charset_by s x.characters k.character) _)
 
 -- what the code of a turn has gathered
-pub record Gathered (d : Dialect) (s : List ℕ) (x : Facts) (types meta : List ℕ) (k : Progress) (c : Declared) (a b : CharsetTurn)
+pub record Gathered (d : Dialect) (s : List ℕ) (x : Facts) (types meta : List ℕ) (j : ℕ) (k : Progress) (c : Declared) (a b : CharsetTurn)
     (t : EntryTurn) : Type 0 where
-  pub column : c ≡ declared (get_or types k.place.0 0) (drop k.metadata meta)
+  pub column : c ≡ declared (get_or types j 0) (drop k.metadata meta)
   pub character : CharsetTurnedIf (has_charset d c.real) s x.characters k.ranks.character a
   pub choice : CharsetTurnedIf (is_enum_or_set c.real) s x.choices k.ranks.choice b
-  pub entry : t.entry ≡ entry_with s x c k.place k.ranks (cond (is_character c.real) a.charset b.charset)
-  pub place : t.next.place ≡ table_place (k.place.0 + 1)
-  pub metadata : t.next.metadata ≡ k.metadata + meta_bytes (get_or types k.place.0 0)
+  pub entry : t.entry ≡ entry_with s x c (table_place j) k.ranks (cond (is_character c.real) a.charset b.charset)
+  pub metadata : t.next.metadata ≡ k.metadata + meta_bytes (get_or types j 0)
   pub ranks : t.next.ranks ≡ ranks_after d k.ranks c
   pub characters : t.next.characters ≡ a.next
   pub choices : t.next.choices ≡ b.next
@@ -116,87 +115,78 @@ unfolding entries_from declare_all
 come_first d s x types meta j at k c h e = rw (drop-cons types j 0 h, drop-drop (meta_bytes (get_or types j 0)) at meta, e)
 
 -- they are the turn's entry, and those to come behind it
-come_behind : (d : Dialect) (s : List ℕ) (x : Facts) (types meta : List ℕ) (k : Progress) (c : Declared) (a b : CharsetTurn) (t : EntryTurn)
-    → k.place.0 < length types
-    → Gathered d s x types meta k c a b t → to_come d s x types meta k ≡ t.entry ∷ to_come d s x types meta t.next
-come_behind d s x types meta k c a b t h f =
-    let j = k.place.0 in
+come_behind : (d : Dialect) (s : List ℕ) (x : Facts) (types meta : List ℕ) (j : ℕ) (k : Progress) (c : Declared) (a b : CharsetTurn) (t : EntryTurn)
+    → j < length types
+    → Gathered d s x types meta j k c a b t → to_come d s x types meta j k ≡ t.entry ∷ to_come d s x types meta (j + 1) t.next
+come_behind d s x types meta j k c a b t h f =
     let n : j + 1 ≡ suc j = omega arith in
-    let e : t.entry ≡ entry_for s x c k.place k.ranks
+    let e : t.entry ≡ entry_for s x c (table_place j) k.ranks
     =
-    f.entry ∙ ap (entry_with s x c k.place k.ranks)
+    f.entry ∙ ap (entry_with s x c (table_place j) k.ranks)
     (found_charset d s x c k.ranks a.charset b.charset f.character.charset f.choice.charset) in
     come_first d s x types meta j k.metadata k.ranks c h f.column
-    ∙ rw (e, f.place, f.metadata, f.ranks, n)
+    ∙ rw (e, f.metadata, f.ranks, n)
 
-ready_behind : (d : Dialect) (s : List ℕ) (x : Facts) (types meta : List ℕ) (k : Progress) (c : Declared) (a b : CharsetTurn)
+ready_behind : (d : Dialect) (s : List ℕ) (x : Facts) (types meta : List ℕ) (j : ℕ) (k : Progress) (c : Declared) (a b : CharsetTurn)
     (t : EntryTurn)
-    → Gathered d s x types meta k c a b t → Ready s x k → Ready s x t.next
+    → Gathered d s x types meta j k c a b t → Ready s x j k → Ready s x (j + 1) t.next
 unfolding ranks_after
-ready_behind d s x types meta k c a b t f r =
-    let j = k.place.0 in
+ready_behind d s x types meta j k c a b t f r =
     record {
-      ranks = rw (f.place, f.ranks) (at_most_after d c r.ranks);
-      metadata = rw (f.place, f.metadata) (omega (arith, r.metadata, few_metadata (family_of (get_or types j 0))));
+      ranks = rw f.ranks (at_most_after d c r.ranks);
+      metadata = rw f.metadata (omega (arith, r.metadata, few_metadata (family_of (get_or types j 0))));
       characters = rw (f.ranks, f.characters) f.character.next;
       choices = rw (f.ranks, f.choices) f.choice.next;
     }
 
-pub came : (d : Dialect) (s : List ℕ) (x : Facts) (types meta : List ℕ) (k : Progress) (c : Declared) (a b : CharsetTurn) (t : EntryTurn)
-    → k.place.0 < length types → Ready s x k
-    → Gathered d s x types meta k c a b t → Came d s x types meta k t
-came d s x types meta k c a b t h r f = record {
-  entry = come_behind d s x types meta k c a b t h f;
-  place = ap (λ (p : TablePlace). p.0) f.place;
-  ready = ready_behind d s x types meta k c a b t f r;
+pub came : (d : Dialect) (s : List ℕ) (x : Facts) (types meta : List ℕ) (j : ℕ) (k : Progress) (c : Declared) (a b : CharsetTurn)
+    (t : EntryTurn)
+    → j < length types → Ready s x j k
+    → Gathered d s x types meta j k c a b t → Came d s x types meta j k t
+came d s x types meta j k c a b t h r f = record {
+  entry = come_behind d s x types meta j k c a b t h f;
+  ready = ready_behind d s x types meta j k c a b t f r;
 }
 
 -- ---- writing
 -- before the first column all are to come
-all_come : (d : Dialect) (s : List ℕ) (x : Facts) (types meta : List ℕ) (k : Progress) → Begins s x k
-    → to_come d s x types meta k ≡ entries_from d s x (declare_all types meta) (table_place 0) no_ranks
-all_come d s x types meta k h = rw (h.place, h.metadata, h.ranks)
-
-pub start_stored : (d : Dialect) (s : List ℕ) (x : Facts) (types meta : List ℕ) (k : Progress) (buf : List ℕ) → Begins s x k
-    → stored (entries_bytes (to_come d s x types meta k)) buf (entry_at k.place.0)
-    ≡ stored (entries_bytes (entries_from d s x (declare_all types meta) (table_place 0) no_ranks)) buf (entry_at 0)
-start_stored d s x types meta k buf h =
-    let n : entry_at k.place.0 ≡ entry_at 0 = omega (arith, ap (λ (p : TablePlace). p.0) h.place) in
-    rw (all_come d s x types meta k h, n)
+pub all_come : (d : Dialect) (s : List ℕ) (x : Facts) (types meta : List ℕ) (k : Progress) → Begins s x k
+    → to_come d s x types meta 0 k ≡ entries_from d s x (declare_all types meta) (table_place 0) no_ranks
+all_come d s x types meta k h = rw (h.metadata, h.ranks)
 
 -- behind the last none is
-none_come : (d : Dialect) (s : List ℕ) (x : Facts) (types meta : List ℕ) (k : Progress) → length types ≤ k.place.0
-    → to_come d s x types meta k ≡ []
+none_come : (d : Dialect) (s : List ℕ) (x : Facts) (types meta : List ℕ) (j : ℕ) (k : Progress) → length types ≤ j
+    → to_come d s x types meta j k ≡ []
 unfolding declare_all entries_from
-none_come d s x types meta k h = rw (drop_of_length-le types {i = k.place.0} h)
+none_come d s x types meta j k h = rw (drop_of_length-le types {i = j} h)
 
 -- a turn's entry is stored where the entries to come were, and what is left to come behind it
-pub turn_stored : (d : Dialect) (s : List ℕ) (x : Facts) (types meta : List ℕ) (k : Progress) (t : EntryTurn) (buf buf' z : List ℕ)
-    → Came d s x types meta k t
-    → k.place.0 < length types → entry_at (length types) ≤ length buf
-    → buf' ≡ left_of (store (entry_bytes t.entry) buf (entry_at k.place.0)) buf
-    → stored (entries_bytes (to_come d s x types meta k)) buf (entry_at k.place.0) ≡ z
-    → (length buf' ≡ length buf) × (stored (entries_bytes (to_come d s x types meta t.next)) buf' (entry_at t.next.place.0) ≡ z)
+pub turn_stored : (d : Dialect) (s : List ℕ) (x : Facts) (types meta : List ℕ) (j : ℕ) (k : Progress) (t : EntryTurn) (buf buf' z : List ℕ)
+    → Came d s x types meta j k t
+    → j < length types → entry_at (length types) ≤ length buf
+    → buf' ≡ left_of (store (entry_bytes t.entry) buf (entry_at j)) buf
+    → stored (entries_bytes (to_come d s x types meta j k)) buf (entry_at j) ≡ z
+    → (length buf' ≡ length buf) × (stored (entries_bytes (to_come d s x types meta (j + 1) t.next)) buf' (entry_at (j + 1)) ≡ z)
 unfolding entries_bytes
-turn_stored d s x types meta k t buf buf' z c h l e g =
-    let at = entry_at k.place.0 in
+turn_stored d s x types meta j k t buf buf' z c h l e g =
+    let at = entry_at j in
     let v = entry_bytes t.entry in
     let n : length v ≡ 6 = entry_length t.entry in
     let f = store_fits buf v at (omega arith) in
     let p : buf' ≡ stored v buf at = e ∙ rw f in
-    let m : entry_at t.next.place.0 ≡ at + length v = omega (arith, c.place) in
-    let w = entries_bytes (to_come d s x types meta t.next) in (
+    let m : entry_at (j + 1) ≡ at + length v = omega arith in
+    let w = entries_bytes (to_come d s x types meta (j + 1) t.next) in (
       ap length p ∙ length_stored buf at v (omega arith),
       rw (p, m) (stored_stored buf at v w (omega arith) ∙ ap (λ (es : List Entry). stored (entries_bytes es) buf at) (sym c.entry) ∙ g),
     )
 
 -- when none is to come, all is stored
-pub all_stored : (d : Dialect) (s : List ℕ) (x : Facts) (types meta : List ℕ) (k : Progress) (buf z : List ℕ) (at : ℕ)
-    → length types ≤ k.place.0
-    → stored (entries_bytes (to_come d s x types meta k)) buf at ≡ z → buf ≡ z
+pub all_stored : (d : Dialect) (s : List ℕ) (x : Facts) (types meta : List ℕ) (j : ℕ) (k : Progress) (buf z : List ℕ) (at : ℕ)
+    → length types ≤ j
+    → stored (entries_bytes (to_come d s x types meta j k)) buf at ≡ z → buf ≡ z
 unfolding entries_bytes
-all_stored d s x types meta k buf z at h g =
-    sym (stored_none buf at) ∙ ap (λ (es : List Entry). stored (entries_bytes es) buf at) (sym (none_come d s x types meta k h)) ∙ g
+all_stored d s x types meta j k buf z at h g =
+    sym (stored_none buf at) ∙ ap (λ (es : List Entry). stored (entries_bytes es) buf at) (sym (none_come d s x types meta j k h)) ∙ g
 
 -- the whole record: its head, and its entries
 pub record_written : (es : List Entry) (n : ℕ) (old x₁ x : List ℕ) → length es ≡ n → entry_at n ≤ length old

@@ -115,27 +115,25 @@ pub record Writable (s types : List ℕ) (x : Facts) : Type 0 where
   pub characters : ClassHolds s x.characters
   pub choices : ClassHolds s x.choices
 
--- what holds between two columns: ranks and offset are no more than the columns before can have made them, and the cursors stand at the
--- ranks
-pub record Ready (s : List ℕ) (x : Facts) (k : Progress) : Type 0 where
-  pub ranks : AtMost k.place.0 k.ranks
-  pub metadata : k.metadata ≤ 2 * k.place.0
+-- what holds between two columns, before that at place j: ranks and offset are no more than the columns before can have made them, and the
+-- cursors stand at the ranks
+pub record Ready (s : List ℕ) (x : Facts) (j : ℕ) (k : Progress) : Type 0 where
+  pub ranks : AtMost j k.ranks
+  pub metadata : k.metadata ≤ 2 * j
   pub characters : Stands s x.characters k.ranks.character.0 k.characters
   pub choices : Stands s x.choices k.ranks.choice.0 k.choices
 
 -- before the first column
 pub record Begins (s : List ℕ) (x : Facts) (k : Progress) : Type 0 where
-  pub place : k.place ≡ table_place 0
   pub metadata : k.metadata ≡ 0
   pub ranks : k.ranks ≡ no_ranks
-  pub ready : Ready s x k
+  pub ready : Ready s x 0 k
 
 -- the entries to come
-abbrev pub to_come : Dialect → List ℕ → Facts → List ℕ → List ℕ → Progress → List Entry
-to_come d s x types meta k = entries_from d s x (declare_all (drop k.place.0 types) (drop k.metadata meta)) k.place k.ranks
+abbrev pub to_come : Dialect → List ℕ → Facts → List ℕ → List ℕ → ℕ → Progress → List Entry
+to_come d s x types meta j k = entries_from d s x (declare_all (drop j types) (drop k.metadata meta)) (table_place j) k.ranks
 
 -- a turn gives the first of them, and leaves the others to come
-pub record Came (d : Dialect) (s : List ℕ) (x : Facts) (types meta : List ℕ) (k : Progress) (t : EntryTurn) : Type 0 where
-  pub entry : to_come d s x types meta k ≡ t.entry ∷ to_come d s x types meta t.next
-  pub place : t.next.place.0 ≡ k.place.0 + 1
-  pub ready : Ready s x t.next
+pub record Came (d : Dialect) (s : List ℕ) (x : Facts) (types meta : List ℕ) (j : ℕ) (k : Progress) (t : EntryTurn) : Type 0 where
+  pub entry : to_come d s x types meta j k ≡ t.entry ∷ to_come d s x types meta (j + 1) t.next
+  pub ready : Ready s x (j + 1) t.next

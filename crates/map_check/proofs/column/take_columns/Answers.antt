@@ -35,7 +35,7 @@ loop-j-preserved c =
 
 pub returns-then-not-is_empty : goal.returns-then-not-is_empty
 returns-then-not-is_empty c =
-    let l = eqb-false _ _ (sym c.if-not-is_empty.ensures) in
+    let l : length c.loop-j.rest.now ≡ 0 → ⊥ = eqb-false _ _ (sym c.if-not-is_empty.ensures) in
     let e : c.loop-j.j ≡ length c.args.types.now = omega (arith, c.loop-j-test.false, c.loop-j.auto.j-end) in
     rw (c.refuse.ensures, ← e) (sym (some_left c.args.dialect c.loop-j.ranks c.args.types.now c.loop-j.rest.now _ c.loop-j-test.false l) ∙ c.loop-j.invariant.1)
 

@@ -1,12 +1,8 @@
 -- `map_check::contents::pairs_hold` meets its contract. The loop's invariant: what is to come from here, above the last rank, is what was
 -- to come from the start. Assumes nothing.
-use mathlib.Core.Path.{sym, ◌∙◌, refl}
-use native.Mathlib.Omega.{arith}
+use mathlib.Core.Path.{sym, ◌∙◌}
 use borrow.Author.Tests.{le-leb, lt-leb, lt-ltb, le-ltb}
-use Rattle.table_map.proofs.Items.{pair_moves}
-use Rattle.table_map.proofs.Walks.{item_moves}
-use Rattle.table_map.specs.Lists.{pair_item}
-use Rattle.map_check.proofs.ContentsLaws.Tallies.{pairs_end, pairs_item, pairs_broken}
+use Rattle.map_check.proofs.ContentsLaws.Tallies.{pairs_item}
 use Rattle.map_check.proofs.contents.pairs_hold.Goals as goal
 
 pub returns-then-rank-low : goal.returns-then-rank-low

@@ -11,8 +11,6 @@ returns c =
     let e : c.default.result ≡ no_ranks = search rules in
     rw e
     (record {
-      place =
-          refl;
       metadata =
           refl;
       ranks =

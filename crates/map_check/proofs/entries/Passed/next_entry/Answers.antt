@@ -8,15 +8,15 @@ use Rattle.map_check.proofs.ColumnLaws.Counts.{at_most_wider}
 use Rattle.map_check.proofs.EntryLaws.Making.{few_metadata, came}
 use Rattle.map_check.proofs.entries.Passed.next_entry.Goals as goal
 
-pub overflow_add-result-2 : goal.overflow_add-result-2
-overflow_add-result-2 c =
+pub overflow_add-result : goal.overflow_add-result
+overflow_add-result c =
     omega (
       arith,
       c.requires.0,
       c.requires.1,
       c.requires.2.metadata,
       c.metadata_bytes.ensures,
-      few_metadata (family_of (get_or c.args.self.now.types.now c.args.progress.place.0 0)),
+      few_metadata (family_of (get_or c.args.self.now.types.now c.args.place.0 0)),
     )
 
 pub ranks_after-requires : goal.ranks_after-requires
@@ -32,7 +32,7 @@ pub returns : goal.returns
 returns c =
     let a =
     c.args in
-    came a.self.now.dialect a.self.now.event.now a.self.now.facts a.self.now.types.now a.self.now.metadata.now a.progress
+    came a.self.now.dialect a.self.now.event.now a.self.now.facts a.self.now.types.now a.self.now.metadata.now a.place.0 a.progress
     c.declare-column.result
     c.charset_if-character.result
     c.charset_if-choice.result _
@@ -49,7 +49,6 @@ returns c =
       entry =
           c.entry_with.ensures
           ∙ rw c.pick_charset-charset.ensures;
-      place = refl;
       metadata = rw c.metadata_bytes.ensures;
       ranks = c.ranks_after.ensures;
       characters = refl;

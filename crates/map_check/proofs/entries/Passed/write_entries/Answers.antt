@@ -2,68 +2,44 @@
 -- stored from the start. Assumes nothing.
 use mathlib.Core.Path.{refl, ap, ◌∙◌}
 use native.Mathlib.Omega.{arith}
+use Rattle.record.specs.Records.{entry_at, entries_bytes}
+use Rattle.wire.specs.Stored.{stored}
 use Rattle.record.proofs.Places.{place_few}
-use Rattle.map_check.specs.declared.rank.TablePlace.{TablePlace}
-use Rattle.map_check.proofs.EntryLaws.Making.{start_stored, turn_stored, all_stored}
+use Rattle.map_check.proofs.EntryLaws.Making.{all_come, turn_stored, all_stored}
 use Rattle.map_check.proofs.entries.Passed.write_entries.Goals as goal
 
 pub first_progress-progress-requires : goal.first_progress-progress-requires
 first_progress-progress-requires c = (c.requires.0.characters, c.requires.0.choices)
 
-pub loop-progress-init : goal.loop-progress-init
-loop-progress-init c = (
-  c.first_progress-progress.ensures.ready,
-  omega (arith, ap (λ (p : TablePlace). p.0) c.first_progress-progress.ensures.place),
-  refl,
-  start_stored c.args.self.now.dialect c.args.self.now.event.now
-      c.args.self.now.facts c.args.self.now.types.now
-      c.args.self.now.metadata.now c.first_progress-progress.result
-      c.args.buf.now c.first_progress-progress.ensures,
-)
+pub loop-j-init : goal.loop-j-init
+loop-j-init c =
+    let m = c.args.self.now in (
+      c.first_progress-progress.ensures.ready,
+      refl,
+      ap (λ es. stored (entries_bytes es) c.args.buf.now (entry_at 0))
+          (all_come m.dialect m.event.now m.facts m.types.now m.metadata.now _ c.first_progress-progress.ensures),
+    )
 
 pub next_entry-turn-requires : goal.next_entry-turn-requires
-next_entry-turn-requires c =
-    (c.loop-progress-test.true, c.requires.0.few, c.loop-progress.invariant.0)
+next_entry-turn-requires c = (c.loop-j-test.true, c.requires.0.few, c.loop-j.invariant.0)
 
-pub loop-progress-smaller : goal.loop-progress-smaller
-loop-progress-smaller c =
-    omega (
-      arith,
-      c.loop-progress-test.true,
-      c.next_entry-turn.ensures.place,
-    )
-
-pub loop-progress-preserved : goal.loop-progress-preserved
-loop-progress-preserved c =
-    let a =
-    c.args in
-    let q =
-    c.entry_at-at.ensures
-    ∙ place_few c.loop-progress.progress.place.0
-    (omega (
-      arith,
-      c.loop-progress-test.true,
-      c.requires.0.few,
-    )) in
+pub loop-j-preserved : goal.loop-j-preserved
+loop-j-preserved c =
+    let m = c.args.self.now in
+    let q = c.entry_at-at.ensures ∙ place_few c.loop-j.j (omega (arith, c.loop-j-test.true, c.requires.0.few)) in
     let w =
-    turn_stored a.self.now.dialect a.self.now.event.now a.self.now.facts a.self.now.types.now a.self.now.metadata.now c.loop-progress.progress c.next_entry-turn.result c.loop-progress.buf _ _
-    c.next_entry-turn.ensures c.loop-progress-test.true
-    (omega (
-      arith,
-      c.requires.1,
-      c.loop-progress.invariant.2,
-    )) (rw q at c.write_entry.ensures.buf_after) c.loop-progress.invariant.3 in (
-      c.next_entry-turn.ensures.ready,
-      omega (arith, c.loop-progress-test.true, c.next_entry-turn.ensures.place),
-      w.0 ∙ c.loop-progress.invariant.2,
-      w.1,
-    )
+    turn_stored m.dialect m.event.now m.facts m.types.now m.metadata.now c.loop-j.j c.loop-j.progress c.next_entry-turn.result c.loop-j.buf
+    _ _
+    c.next_entry-turn.ensures c.loop-j-test.true
+    (omega (arith, c.requires.1, c.loop-j.invariant.1))
+    (rw q at c.write_entry.ensures.buf_after) c.loop-j.invariant.2 in
+    (c.next_entry-turn.ensures.ready, w.0 ∙ c.loop-j.invariant.1, w.1)
 
 pub shape_of-buf : goal.shape_of-buf
-shape_of-buf c = c.loop-progress.invariant.2
+shape_of-buf c = c.loop-j.invariant.1
 
 pub returns : goal.returns
 returns c =
-    let a = c.args in
-    all_stored a.self.now.dialect a.self.now.event.now a.self.now.facts a.self.now.types.now a.self.now.metadata.now c.loop-progress.progress c.loop-progress.buf _ _ c.loop-progress-test.false
-    c.loop-progress.invariant.3
+    let m = c.args.self.now in
+    all_stored m.dialect m.event.now m.facts m.types.now m.metadata.now c.loop-j.j c.loop-j.progress c.loop-j.buf _ _ c.loop-j-test.false
+    c.loop-j.invariant.2
