@@ -43,10 +43,7 @@ fn is_counted(lent: Lent, len: usize, at: Arriving) -> bool
 fn is_within(lent: Lent, used: usize) -> bool
     ensures { let l = lent.entry in result ≡ leb used (image_room l.profile.now l.presence.now) }
 {
-    match image::image_room(lent.profile, lent.presence) {
-        Ok(room) => used as u64 <= room,
-        Err(_) => false,
-    }
+    image::image_room(lent.profile, lent.presence).is_ok_and(|room| used as u64 <= room)
 }
 
 impl<'a> Seat<'a> {
