@@ -8,10 +8,10 @@ use borrow.Author.Tests.{le-leb}
 use lib.ListN.{length, get_or, take, drop}
 use lib.Dec.{eqb}
 use Rattle.wire.specs.Bits.{bytes_for}
-use Rattle.wire.specs.Outcome.{ok}
+use Rattle.wire.specs.Outcome.{Outcome, ok, refused}
 use Rattle.wire.specs.Number.{le_value}
 use Rattle.wire.specs.Packed.{read_packed}
-use Rattle.wire.specs.Parts.{lent_part, within}
+use Rattle.wire.specs.Parts.{part, lent_part, within}
 use Rattle.wire.specs.declared.part.Part.{Part}
 use Rattle.wire.proofs.Outcomes.{after_is_ok, same_ok}
 use Rattle.wire.proofs.Parts.{within_ok}
@@ -19,6 +19,7 @@ use Rattle.wire.proofs.Forms.{read_moves}
 use Rattle.table_map.specs.declared.event.Event.{Event}
 use Rattle.table_map.specs.Parts.{short_part, long_part}
 use Rattle.table_map.specs.Events.{id_bytes, read_names, read_columns, read_event, part_in}
+use Rattle.table_map.specs.Inner.Events.{no_event, or_none}
 
 -- a name, and the place after it
 pub record Named (s : List ℕ) (at : ℕ) (p : Part) (next : ℕ) : Type 0 where
@@ -238,8 +239,12 @@ each_within s post_header e r =
       optional = omega arith;
     }
 
--- so to lend a part of what was read is to say its bytes
-pub lent_is_part : (f : Event → Part) (s : List ℕ) (post_header : ℕ) (e : Event) → ((x : Event) → Within s x → (f x).start + (f x).len ≤ length s)
-    → read_event s post_header ≡ ok e
-    → lent_part s (f e) ≡ part_in f s (read_event s post_header)
-lent_is_part f s post_header e ends r = rw (r, le-leb _ _ (ends e (each_within s post_header e r)))
+-- so to lend a part of what was read is to say its bytes: none where the event is refused
+pub lent_is_part : (f : Event → Part) → f no_event ≡ part 0 0 → (s : List ℕ) (post_header : ℕ)
+    → ((e : Event) → Within s e → (f e).start + (f e).len ≤ length s)
+    → lent_part s (f (or_none (read_event s post_header))) ≡ part_in f s (read_event s post_header)
+lent_is_part f none s post_header ends = go (read_event s post_header) refl
+  where
+    go : (o : Outcome Event) → read_event s post_header ≡ o → lent_part s (f (or_none o)) ≡ part_in f s o
+    go (ok e) r = rw (le-leb _ _ (ends e (each_within s post_header e r)))
+    go (refused r) _ = rw (none, le-leb 0 (length s) (omega arith))

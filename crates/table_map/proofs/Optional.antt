@@ -1,14 +1,15 @@
 -- Optional fields: how many columns have a signedness bit; what a field that was cut out is; what a step answers, by what it met; what a
 -- field that was read is; that fields move. Assumes nothing.
 use Rattle.std.specs.Prelude.{Some, count_by}
-use Prim.Native.Nat.{ℕ, ◌+◌, ◌≤◌, ◌<◌}
+use Prim.Native.Nat.{ℕ, suc, ◌+◌, ◌≤◌, ◌<◌}
 use mathlib.Core.Path.{◌≡◌, refl, sym, subst}
 use mathlib.Core.Logic.{◌⊎◌, ⊎_elim}
 use mathlib.Core.Bool.{Bool, true, false, cond}
 use mathlib.Core.List.{List, [], ◌∷◌}
 use native.Mathlib.Omega.{arith}
 use borrow.Author.Tests.{lt-leb, eqb-true}
-use lib.ListN.{length, get_or}
+use lib.ListN.{length, get_or, drop}
+use lib.Seq.{drop-cons}
 use Rattle.std.proofs.lemmas.List.Recursion.{is_count_by}
 use Rattle.wire.specs.Bits.{bytes_for}
 use Rattle.wire.specs.declared.refusal.Refusal.{Refusal}
@@ -51,6 +52,18 @@ signed_counted d = is_count_by (count_sign_bits d) (has_sign_bit d) refl (λ t t
     turn : (b : Bool) (n : ℕ) → cond b 1 0 + n ≡ cond b (1 + n) n
     turn true n = refl
     turn false n = omega arith
+
+-- a turn of the loop, and its end
+pub signed_turn : (d : Dialect) (types : List ℕ) (i : ℕ) → i < length types
+    → count_sign_bits d (drop i types) ≡ sign_bits d (get_or types i 0) + count_sign_bits d (drop (i + 1) types)
+unfolding count_sign_bits
+signed_turn d types i h =
+    let e : i + 1 ≡ suc i = omega arith in
+    rw (e, drop-cons types i 0 h)
+
+pub signed_none : (d : Dialect) → count_sign_bits d [] ≡ 0
+unfolding count_sign_bits
+signed_none d = refl
 
 -- ---- a field that was cut out: its type byte, and its value behind a length behind that
 pub cut_read : (s : List ℕ) (at : ℕ) (a : ℕ × Part) (next : ℕ) → cut_field s at ≡ ok (a, next)

@@ -1,8 +1,8 @@
 -- Writing parts one behind the other: a chain of writes is one write, and what the size says of it. Assumes nothing.
-use Prim.Native.Nat.{ℕ, ◌+◌, ◌%◌, ◌^◌, ◌≤◌, ◌<◌}
-use mathlib.Core.Path.{◌≡◌, sym, ap, subst, ◌∙◌}
+use Prim.Native.Nat.{ℕ, ◌+◌, ◌%◌, ◌^◌, ◌≤◌, ◌<◌, min}
+use mathlib.Core.Path.{◌≡◌, sym, ap, subst, ◌∙◌, refl}
 use mathlib.Core.List.{List, [], ◌∷◌, ◌++◌, append_assoc}
-use mathlib.Core.Bool.{true, false}
+use mathlib.Core.Bool.{Bool, true, false}
 use native.Mathlib.Omega.{arith}
 use borrow.Author.Tests.{lt-ltb, le-ltb, ltb-true, ltb-false, leb-true, eqb-true}
 use lib.ListN.{length, take, get_or, length-append}
@@ -20,41 +20,52 @@ use Rattle.wire.specs.Stored.{stored, store, answer_of, left_of}
 use Rattle.wire.proofs.Outcomes.{by_test, test_is_ok, ok_not_refused, same_ok, same_refused, both_true}
 use Rattle.wire.proofs.Bytes.{le_bytes_length}
 use Rattle.wire.proofs.Stores.{length_stored, stored_stored, store_fits, store_full}
-use Rattle.table_map.specs.Writes.{EventParts, name_bytes, event_bytes, is_event, write_event, event_size}
-use Rattle.table_map.specs.Inner.Writes.{event_head, behind_head, PutAt}
+use Rattle.wire.proofs.Forms.{tag_width, Shortest, itself, behind, shortest}
+use Rattle.table_map.specs.Writes.{EventParts, event_parts, name_bytes, event_bytes, is_event, write_event, event_size}
+use Rattle.table_map.specs.Inner.Writes.{event_head, column_bytes, PutAt}
 
 -- ---- lengths
+-- a packed integer has at most 9 bytes
+pub packed_narrow : (v : ℕ) → length (packed_bytes v) ≤ 9
+packed_narrow v = go (shortest v)
+  where
+    go : {bs : List ℕ} → Shortest v bs → length bs ≤ 9
+    go (itself b) = omega arith
+    go (behind first k least t g m) = omega (arith, le_bytes_length k v, (tag_width t).1)
+
 pub name_length : (name : List ℕ) → length (name_bytes name) ≡ length name + 2
 unfolding name_bytes
 name_length name = simp length-append (omega arith)
 
-pub head_length : (p : EventParts) → length (event_head p) ≡ 12 + length p.database + length p.table
-head_length p =
-    let a = length-append (le_bytes 6 p.id) (le_bytes 2 p.flags ++ (name_bytes p.database ++ name_bytes p.table)) in
-    let b = length-append (le_bytes 2 p.flags) (name_bytes p.database ++ name_bytes p.table) in
-    let d = length-append (name_bytes p.database) (name_bytes p.table) in
-    omega (arith, le_bytes_length 6 p.id, le_bytes_length 2 p.flags, name_length p.database, name_length p.table)
+pub head_length : (id flags : ℕ) (database table : List ℕ)
+    → length (event_head id flags database table) ≡ 12 + length database + length table
+head_length id flags database table =
+    let a = length-append (le_bytes 6 id) (le_bytes 2 flags ++ (name_bytes database ++ name_bytes table)) in
+    let b = length-append (le_bytes 2 flags) (name_bytes database ++ name_bytes table) in
+    let d = length-append (name_bytes database) (name_bytes table) in
+    omega (arith, le_bytes_length 6 id, le_bytes_length 2 flags, name_length database, name_length table)
 
-pub column_length : (p : EventParts) → length (behind_head p)
-    ≡ length (packed_bytes (length p.types))
-    + (length p.types + (length (packed_bytes (length p.metadata)) + (length p.metadata + (length p.bits + length p.optional))))
-column_length p =
-    let a = length-append (packed_bytes (length p.types)) (p.types ++ (packed_bytes (length p.metadata) ++ (p.metadata ++ (p.bits ++ p.optional)))) in
-    let b = length-append p.types (packed_bytes (length p.metadata) ++ (p.metadata ++ (p.bits ++ p.optional))) in
-    let d = length-append (packed_bytes (length p.metadata)) (p.metadata ++ (p.bits ++ p.optional)) in
-    let e = length-append p.metadata (p.bits ++ p.optional) in
-    let f = length-append p.bits p.optional in
+pub column_length : (types metadata bits optional : List ℕ) → length (column_bytes types metadata bits optional)
+    ≡ length (packed_bytes (length types))
+    + (length types + (length (packed_bytes (length metadata)) + (length metadata + (length bits + length optional))))
+column_length types metadata bits optional =
+    let a = length-append (packed_bytes (length types)) (types ++ (packed_bytes (length metadata) ++ (metadata ++ (bits ++ optional)))) in
+    let b = length-append types (packed_bytes (length metadata) ++ (metadata ++ (bits ++ optional))) in
+    let d = length-append (packed_bytes (length metadata)) (metadata ++ (bits ++ optional)) in
+    let e = length-append metadata (bits ++ optional) in
+    let f = length-append bits optional in
     omega arith
 
 -- the event is its head and its columns
-pub event_split : (p : EventParts) → event_head p ++ behind_head p ≡ event_bytes p
+pub event_split : (p : EventParts)
+    → event_head p.id p.flags p.database p.table ++ column_bytes p.types p.metadata p.bits p.optional ≡ event_bytes p
 unfolding event_bytes
 event_split p =
     let i = le_bytes 6 p.id in
     let f = le_bytes 2 p.flags in
     let d = name_bytes p.database in
     let t = name_bytes p.table in
-    let r = behind_head p in
+    let r = column_bytes p.types p.metadata p.bits p.optional in
     append_assoc i (f ++ (d ++ t)) r
     ∙ ap (λ (l : List ℕ). i ++ l) (append_assoc f (d ++ t) r ∙ ap (λ (l : List ℕ). f ++ l) (append_assoc d t r))
 
@@ -64,7 +75,10 @@ pub event_length : (p : EventParts) → length (event_bytes p)
     + (length p.types + (length (packed_bytes (length p.metadata))
     + (length p.metadata + (length p.bits + length p.optional)))))
 event_length p =
-    ap length (sym (event_split p)) ∙ length-append (event_head p) (behind_head p) ∙ omega (arith, head_length p, column_length p)
+    let h = event_head p.id p.flags p.database p.table in
+    let r = column_bytes p.types p.metadata p.bits p.optional in
+    ap length (sym (event_split p)) ∙ length-append h r
+    ∙ omega (arith, head_length p.id p.flags p.database p.table, column_length p.types p.metadata p.bits p.optional)
 
 -- the lengths that the size is counted from: with id and flags, and for each name a length byte and a zero byte, they make the whole
 abbrev pub lengths : EventParts → List ℕ
@@ -91,6 +105,19 @@ pub total_more : {ms ns : List ℕ} (i : ℕ) → ms ≡ ns → i < length ns
 total_more {ms} {ns} i e h = rw e (sum_by_more (λ (n : ℕ). n) ns i 0 h, sum_by_more_le (λ (n : ℕ). n) ns i 0 h)
 
 -- ---- writes
+pub put_stored : (d bs x : List ℕ) (at m next : ℕ) → length bs ≡ m → at + m ≤ length d → x ≡ left_of (store bs d at) d → next ≡ at + m
+    → PutAt d at bs x next
+put_stored d bs x at m next l h e n =
+    let s = store_fits d bs at (omega arith) in
+    record { room = omega arith; left = e ∙ rw s; next_is = omega arith }
+
+-- a number of k bytes, by a writer that takes at most 8
+pub put_number : (d x : List ℕ) (at k v next : ℕ) → k ≤ 8 → at + k ≤ length d → x ≡ left_of (store (le_bytes (min k 8) v) d at) d
+    → next ≡ at + k → PutAt d at (le_bytes k v) x next
+put_number d x at k v next w h e n =
+    let m : min k 8 ≡ k = omega arith in
+    put_stored d (le_bytes k v) x at k next (le_bytes_length k v) h (e ∙ ap (λ (j : ℕ). left_of (store (le_bytes j v) d at) d) m) n
+
 -- where there is room, none is refused
 pub put_fits : (d bs : List ℕ) (at : ℕ) {r : Outcome ℕ} → at + length bs ≤ length d → r ≡ answer_of (store bs d at) → IsOk r
 put_fits d bs at h e = rw (e, store_fits d bs at h) (search rules)
@@ -99,8 +126,7 @@ pub put_done : {d bs x : List ℕ} {at next : ℕ} {r : Outcome ℕ} → at + le
     → x ≡ left_of (store bs d at) d
     → r ≡ ok next → PutAt d at bs x next
 put_done {d} {bs} {x} {at} {next} {r} h e l n =
-    let s = store_fits d bs at h in
-    record { room = h; left = l ∙ rw s; next_is = same_ok (sym n ∙ e ∙ rw s) }
+    put_stored d bs x at (length bs) next refl h l (same_ok (sym n ∙ e ∙ rw (store_fits d bs at h)))
 
 -- where a write ended, and that the buffer has its length
 pub after_put : {d bs x : List ℕ} {at next : ℕ} → PutAt d at bs x next → (next ≡ at + length bs) × (length x ≡ length d)
@@ -154,6 +180,13 @@ taken p e =
       bits = eqb-true (length p.bits) (bytes_for (length p.types)) d.1;
     }
 
+-- flags, metadata and optional bytes are taken whatever they are
+pub any_rest : (id flags : ℕ) (database table types metadata bits optional : List ℕ) (b : Bool)
+    → is_event (event_parts id 0 database table types [] bits []) ≡ b
+    → is_event (event_parts id flags database table types metadata bits optional) ≡ b
+unfolding is_event
+any_rest id flags database table types metadata bits optional b e = e
+
 pub size_not_taken : (p : EventParts) → is_event p ≡ false → event_size p ≡ refuse 13 0
 unfolding event_size
 size_not_taken p e = rw e
@@ -194,7 +227,8 @@ no_room_for p d n h e =
     rw s.0 (store_full d (event_bytes p) 0 (omega arith))
 
 pub event_put : (p : EventParts) (d x : List ℕ) (n next : ℕ) → event_size p ≡ ok n
-    → PutAt d 0 (event_head p ++ behind_head p) x next
+    → PutAt d 0 (event_head p.id p.flags p.database p.table ++ column_bytes p.types p.metadata p.bits p.optional) x
+    next
     → write_event p d ≡ ok (next, x)
 unfolding write_event
 event_put p d x n next e q =

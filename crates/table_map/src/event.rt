@@ -1,6 +1,7 @@
 // The event's parts, as places in the lent bytes (table_map_event.rs: TableMapEvent).
 ghost use Rattle.std.specs.Prelude.{◌≡◌};
 ghost use Rattle.table_map.specs.Events.{id_bytes, read_names, read_columns, read_event, part_in};
+ghost use Rattle.table_map.specs.Inner.Events.{or_none};
 
 use crate::part::{long_part, short_part};
 use wire::{Part, Refusal, part_of, read_le, read_packed, within};
@@ -90,64 +91,65 @@ pub fn read_event(event: &[u8], post_header: u8) -> Result<Event, Refusal>
 }
 
 // ---- the parts of an event, uncopied: empty where it is refused
-// Each has its own match. One function over the six would have to be told by a closure which part it lends, which is no plainer.
+
+const NO_PART: Part = Part { start: 0, len: 0 };
+
+const NO_EVENT: Event = Event {
+    id: 0,
+    flags: 0,
+    database: NO_PART,
+    table: NO_PART,
+    types: NO_PART,
+    metadata: NO_PART,
+    bits: NO_PART,
+    optional: NO_PART,
+};
+
+// The event, and where it is refused one whose parts are empty.
+fn event_or_none(event: &[u8], post_header: u8) -> Event
+    ensures { result ≡ or_none (read_event event.now post_header) }
+{
+    read_event(event, post_header).unwrap_or(NO_EVENT)
+}
 
 // The name of the database.
 pub fn database_name(event: &[u8], post_header: u8) -> &[u8]
     ensures { result.now ≡ part_in (λ e. e.database) event.now (read_event event.now post_header) }
 {
-    match read_event(event, post_header) {
-        Ok(e) => part_of(event, e.database),
-        Err(_) => &event[..0],
-    }
+    part_of(event, event_or_none(event, post_header).database)
 }
 
 // The name of the table.
 pub fn table_name(event: &[u8], post_header: u8) -> &[u8]
     ensures { result.now ≡ part_in (λ e. e.table) event.now (read_event event.now post_header) }
 {
-    match read_event(event, post_header) {
-        Ok(e) => part_of(event, e.table),
-        Err(_) => &event[..0],
-    }
+    part_of(event, event_or_none(event, post_header).table)
 }
 
 // A type byte for each column.
 pub fn column_types(event: &[u8], post_header: u8) -> &[u8]
     ensures { result.now ≡ part_in (λ e. e.types) event.now (read_event event.now post_header) }
 {
-    match read_event(event, post_header) {
-        Ok(e) => part_of(event, e.types),
-        Err(_) => &event[..0],
-    }
+    part_of(event, event_or_none(event, post_header).types)
 }
 
 // The metadata of all columns.
 pub fn column_metadata(event: &[u8], post_header: u8) -> &[u8]
     ensures { result.now ≡ part_in (λ e. e.metadata) event.now (read_event event.now post_header) }
 {
-    match read_event(event, post_header) {
-        Ok(e) => part_of(event, e.metadata),
-        Err(_) => &event[..0],
-    }
+    part_of(event, event_or_none(event, post_header).metadata)
 }
 
 // A bit for each column, the lowest of each byte first: whether it can be NULL.
 pub fn nullable_bits(event: &[u8], post_header: u8) -> &[u8]
     ensures { result.now ≡ part_in (λ e. e.bits) event.now (read_event event.now post_header) }
 {
-    match read_event(event, post_header) {
-        Ok(e) => part_of(event, e.bits),
-        Err(_) => &event[..0],
-    }
+    part_of(event, event_or_none(event, post_header).bits)
 }
 
 // The optional fields.
 pub fn optional_metadata(event: &[u8], post_header: u8) -> &[u8]
     ensures { result.now ≡ part_in (λ e. e.optional) event.now (read_event event.now post_header) }
 {
-    match read_event(event, post_header) {
-        Ok(e) => part_of(event, e.optional),
-        Err(_) => &event[..0],
-    }
+    part_of(event, event_or_none(event, post_header).optional)
 }

@@ -4,7 +4,7 @@ ghost use Rattle.wire.specs.Number.{le_bytes};
 ghost use Rattle.wire.specs.Packed.{packed_bytes};
 ghost use Rattle.wire.specs.Stored.{answer_of, left_of};
 ghost use Rattle.table_map.specs.Writes.{event_parts, name_bytes, is_event, write_event, event_size};
-ghost use Rattle.table_map.specs.Inner.Writes.{lent, event_head, behind_head, PutAt};
+ghost use Rattle.table_map.specs.Inner.Writes.{lent, head_of, columns_of, PutAt};
 
 use wire::refusal::{NO_ROOM, NOT_TAKEN};
 use wire::{Refusal, bytes_for, packed_size, refuse, write_bytes, write_le, write_packed};
@@ -144,7 +144,7 @@ impl<'a> Parts<'a> {
     fn put_head(self, buf: &mut [u8]) -> usize
         requires { (length self.database.now ≤ 255) × (length self.table.now ≤ 255)
             × (12 + length self.database.now + length self.table.now ≤ length buf.old) }
-        ensures { PutAt buf.old 0 (event_head (lent self.entry)) buf.new result }
+        ensures { PutAt buf.old 0 (head_of (lent self.entry)) buf.new result }
     {
         let a = put_le(6, self.id, buf, 0);
         let b = put_le(2, u64::from(self.flags), buf, a);
@@ -154,8 +154,8 @@ impl<'a> Parts<'a> {
 
     #[tactic(auto, using(crate::proofs::Puts::puts))]
     fn put_columns(self, buf: &mut [u8], at: usize) -> usize
-        requires { at + length (behind_head (lent self)) ≤ length buf.old }
-        ensures { PutAt buf.old at (behind_head (lent self.entry)) buf.new result }
+        requires { at + length (columns_of (lent self)) ≤ length buf.old }
+        ensures { PutAt buf.old at (columns_of (lent self.entry)) buf.new result }
     {
         let a = put_packed(self.types.len() as u64, buf, at);
         let b = put_bytes(self.types, buf, a);

@@ -3,7 +3,7 @@ use Rattle.std.specs.Prelude.{None, Option, Some}
 use Rattle.std.specs.Option.{option_eq}
 use Prim.Native.Nat.{ℕ, suc, ◌+◌, ◌≤◌, ◌<◌}
 use mathlib.Core.Path.{◌≡◌, refl, sym, ap, ◌∙◌}
-use mathlib.Core.Bool.{Bool, true, false, cond, ◌&&◌}
+use mathlib.Core.Bool.{Bool, true, false, cond, ◌&&◌, and_assoc}
 use mathlib.Core.List.{List}
 use native.Mathlib.Omega.{arith}
 use borrow.Author.Tests.{eqb-true}
@@ -96,38 +96,38 @@ unfolding held_from
 held_broken rule p m count value at w e = rw (list_broken rule p m value at w e)
 
 -- a loop that met `count` of them: what is to come from here is what was to come from the start, by any test that its calls compute
-pub record Counted {A : Type 0} (rule : Rule A) (post : A → Bool → Type 0) (value : List ℕ) (at count : ℕ) : Type 0 where
+pub record HeldSoFar {A : Type 0} (rule : Rule A) (post : A → Bool → Type 0) (value : List ℕ) (at count : ℕ) : Type 0 where
   pub few : count ≤ at
   pub to_come : (p : A → Bool) → Computes post p → held_from rule p count value at ≡ items_held rule p value
 
-pub none_counted : {A : Type 0} {rule : Rule A} {post : A → Bool → Type 0} {value : List ℕ} → Counted rule post value 0 0
-none_counted = record { few = omega arith; to_come = λ p f. refl }
+pub none_held : {A : Type 0} {rule : Rule A} {post : A → Bool → Type 0} {value : List ℕ} → HeldSoFar rule post value 0 0
+none_held = record { few = omega arith; to_come = λ p f. refl }
 
-pub one_counted : {A : Type 0} {rule : Rule A} {post : A → Bool → Type 0} {value : List ℕ} {at count : ℕ} {a : A} {next : ℕ}
-    → Moves rule → Counted rule post value at count → step rule value at ≡ ok (item a next) → post a true
-    → Counted rule post value next (count + 1)
-one_counted {A} {rule} {post} {value} {at} {count} {a} {next} m x e h =
+pub one_held : {A : Type 0} {rule : Rule A} {post : A → Bool → Type 0} {value : List ℕ} {at count : ℕ} {a : A} {next : ℕ}
+    → Moves rule → HeldSoFar rule post value at count → step rule value at ≡ ok (item a next) → post a true
+    → HeldSoFar rule post value next (count + 1)
+one_held {A} {rule} {post} {value} {at} {count} {a} {next} m x e h =
     let w = item_moves rule m value at a next e in
     record {
       few = omega (arith, x.few, w.0);
       to_come = λ p f. rw (← x.to_come p f, held_item rule p m count value at a next e, ← f a true h);
     }
 
-pub all_counted : {A : Type 0} {rule : Rule A} {post : A → Bool → Type 0} {value : List ℕ} {at count : ℕ}
-    → Moves rule → Counted rule post value at count → step rule value at ≡ ok end
+pub all_held : {A : Type 0} {rule : Rule A} {post : A → Bool → Type 0} {value : List ℕ} {at count : ℕ}
+    → Moves rule → HeldSoFar rule post value at count → step rule value at ≡ ok end
     → (p : A → Bool) → Computes post p → Some count ≡ items_held rule p value
-all_counted {A} {rule} {post} {value} {at} {count} m x e p f = sym (held_end rule p m count value at e) ∙ x.to_come p f
+all_held {A} {rule} {post} {value} {at} {count} m x e p f = sym (held_end rule p m count value at e) ∙ x.to_come p f
 
-pub one_fails : {A : Type 0} {rule : Rule A} {post : A → Bool → Type 0} {value : List ℕ} {at count : ℕ} {a : A} {next : ℕ}
-    → Moves rule → Counted rule post value at count → step rule value at ≡ ok (item a next) → post a false
+pub one_not_held : {A : Type 0} {rule : Rule A} {post : A → Bool → Type 0} {value : List ℕ} {at count : ℕ} {a : A} {next : ℕ}
+    → Moves rule → HeldSoFar rule post value at count → step rule value at ≡ ok (item a next) → post a false
     → (p : A → Bool) → Computes post p → None ≡ items_held rule p value
-one_fails {A} {rule} {post} {value} {at} {count} {a} {next} m x e h p f =
+one_not_held {A} {rule} {post} {value} {at} {count} {a} {next} m x e h p f =
     rw (← x.to_come p f, held_item rule p m count value at a next e, ← f a false h)
 
-pub none_read : {A : Type 0} {rule : Rule A} {post : A → Bool → Type 0} {value : List ℕ} {at count : ℕ} {w : Refusal}
-    → Moves rule → Counted rule post value at count → step rule value at ≡ refused w
+pub none_to_read : {A : Type 0} {rule : Rule A} {post : A → Bool → Type 0} {value : List ℕ} {at count : ℕ} {w : Refusal}
+    → Moves rule → HeldSoFar rule post value at count → step rule value at ≡ refused w
     → (p : A → Bool) → Computes post p → None ≡ items_held rule p value
-none_read {A} {rule} {post} {value} {at} {count} {w} m x e p f = sym (held_broken rule p m count value at w e) ∙ x.to_come p f
+none_to_read {A} {rule} {post} {value} {at} {count} {w} m x e p f = sym (held_broken rule p m count value at w e) ∙ x.to_come p f
 
 -- so many that hold are exactly so many
 pub held_exactly : {A : Type 0} (rule : Rule A) (p : A → Bool) (n : ℕ) (value : List ℕ)
@@ -140,6 +140,67 @@ held_exactly rule p n value =
     both : (b : Bool) (k : ℕ) → option_eq eqb (cond b (Some k) None) (Some n) ≡ (b && eqb k n)
     both true k = refl
     both false k = refl
+
+-- ---- the rest of such a value, from a place on, where `before` items were met
+pub tally : {A : Type 0} → Rule A → (A → Bool) → ℕ → ℕ → List ℕ → ℕ → Bool
+tally rule p n before value at = list_holds rule p value at && eqb (before + length (walk_items rule value at).items) n
+
+-- from the start, it is the whole value
+pub tally_all : {A : Type 0} (rule : Rule A) (p : A → Bool) (n : ℕ) (value : List ℕ) → tally rule p n 0 value 0 ≡ exactly rule p n value
+unfolding tally exactly
+tally_all rule p n value =
+    let z : 0 + length (walk_items rule value 0).items ≡ length (walk_items rule value 0).items = omega arith in
+    rw z
+
+pub tally_end : {A : Type 0} (rule : Rule A) (p : A → Bool) → Moves rule → (n before : ℕ) (value : List ℕ) (at : ℕ)
+    → step rule value at ≡ ok end
+    → tally rule p n before value at ≡ eqb before n
+unfolding tally
+tally_end rule p m n before value at e =
+    let z : before + 0 ≡ before = omega arith in
+    rw (list_end rule p m value at e, walk_steps_lem rule m value at, e, z)
+
+pub tally_item : {A : Type 0} (rule : Rule A) (p : A → Bool) → Moves rule → (n before : ℕ) (value : List ℕ) (at : ℕ) (a : A) (next : ℕ)
+    → step rule value at ≡ ok (item a next) → tally rule p n before value at ≡ (p a && tally rule p n (before + 1) value next)
+unfolding tally
+tally_item rule p m n before value at a next e =
+    let k : before + suc (length (walk_items rule value next).items) ≡ before + 1 + length (walk_items rule value next).items =
+    omega arith in
+    rw (list_item rule p m value at a next e, walk_steps_lem rule m value at, e, k) (and_assoc (p a) (list_holds rule p value next) _)
+
+pub tally_broken : {A : Type 0} (rule : Rule A) (p : A → Bool) → Moves rule → (n before : ℕ) (value : List ℕ) (at : ℕ) (w : Refusal)
+    → step rule value at ≡ refused w → tally rule p n before value at ≡ false
+unfolding tally
+tally_broken rule p m n before value at w e = rw (list_broken rule p m value at w e)
+
+-- ---- a loop over such a value, which met `count` items: what is to come from here is what was to come from the start
+pub record Met {A : Type 0} (rule : Rule A) (p : A → Bool) (n : ℕ) (value : List ℕ) (at count : ℕ) : Type 0 where
+  pub few : count ≤ at
+  pub to_come : tally rule p n count value at ≡ exactly rule p n value
+
+pub none_met : {A : Type 0} {rule : Rule A} {p : A → Bool} {n : ℕ} {value : List ℕ} → Met rule p n value 0 0
+none_met {A} {rule} {p} {n} {value} = record { few = omega arith; to_come = tally_all rule p n value }
+
+pub more_met : {A : Type 0} {rule : Rule A} {p : A → Bool} {n : ℕ} {value : List ℕ} {at count : ℕ} {a : A} {next : ℕ}
+    → Moves rule → Met rule p n value at count → step rule value at ≡ ok (item a next) → p a ≡ true → Met rule p n value next (count + 1)
+more_met {A} {rule} {p} {n} {value} {at} {count} {a} {next} m x e h =
+    let w = item_moves rule m value at a next e in
+    record {
+      few = omega (arith, x.few, w.0);
+      to_come = rw (← x.to_come, tally_item rule p m n count value at a next e, h);
+    }
+
+pub no_more : {A : Type 0} {rule : Rule A} {p : A → Bool} {n : ℕ} {value : List ℕ} {at count : ℕ}
+    → Moves rule → Met rule p n value at count → step rule value at ≡ ok end → eqb count n ≡ exactly rule p n value
+no_more {A} {rule} {p} {n} {value} {at} {count} m x e = sym (tally_end rule p m n count value at e) ∙ x.to_come
+
+pub one_fails : {A : Type 0} {rule : Rule A} {p : A → Bool} {n : ℕ} {value : List ℕ} {at count : ℕ} {a : A} {next : ℕ}
+    → Moves rule → Met rule p n value at count → step rule value at ≡ ok (item a next) → p a ≡ false → false ≡ exactly rule p n value
+one_fails {A} {rule} {p} {n} {value} {at} {count} {a} {next} m x e h = rw (← x.to_come, tally_item rule p m n count value at a next e, h)
+
+pub none_read : {A : Type 0} {rule : Rule A} {p : A → Bool} {n : ℕ} {value : List ℕ} {at count : ℕ} {w : Refusal}
+    → Moves rule → Met rule p n value at count → step rule value at ≡ refused w → false ≡ exactly rule p n value
+none_read {A} {rule} {p} {n} {value} {at} {count} {w} m x e = sym (tally_broken rule p m n count value at w e) ∙ x.to_come
 
 -- ---- pairs (rank, charset)
 pub pairs_end : (size low : ℕ) (value : List ℕ) (at : ℕ) → step pair_item value at ≡ ok end → pairs_whole size low value at ≡ true

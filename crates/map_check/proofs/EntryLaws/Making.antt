@@ -150,9 +150,14 @@ came d s x types meta j k c a b t h r f = record {
 
 -- ---- writing
 -- before the first column all are to come
-pub all_come : (d : Dialect) (s : List ℕ) (x : Facts) (types meta : List ℕ) (k : Progress) → Begins s x k
+all_come : (d : Dialect) (s : List ℕ) (x : Facts) (types meta : List ℕ) (k : Progress) → Begins s x k
     → to_come d s x types meta 0 k ≡ entries_from d s x (declare_all types meta) (table_place 0) no_ranks
 all_come d s x types meta k h = rw (h.metadata, h.ranks)
+
+pub start_stored : (d : Dialect) (s : List ℕ) (x : Facts) (types meta : List ℕ) (k : Progress) (buf : List ℕ) → Begins s x k
+    → stored (entries_bytes (to_come d s x types meta 0 k)) buf (entry_at 0)
+    ≡ stored (entries_bytes (entries_from d s x (declare_all types meta) (table_place 0) no_ranks)) buf (entry_at 0)
+start_stored d s x types meta k buf h = rw (all_come d s x types meta k h)
 
 -- behind the last none is
 none_come : (d : Dialect) (s : List ℕ) (x : Facts) (types meta : List ℕ) (j : ℕ) (k : Progress) → length types ≤ j

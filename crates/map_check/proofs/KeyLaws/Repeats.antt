@@ -10,7 +10,7 @@ use lib.ListN.{length}
 use lib.Dec.{eqb}
 use Rattle.wire.specs.declared.refusal.Refusal.{Refusal}
 use Rattle.wire.specs.Outcome.{ok, refused, refuse}
-use Rattle.wire.proofs.Outcomes.{after_is_ok, same_ok}
+use Rattle.wire.proofs.Outcomes.{after_is_ok, ok_not_refused, same_ok}
 use Rattle.table_map.specs.Lists.{Rule}
 use Rattle.table_map.proofs.Items.{Moves}
 use Rattle.map_check.specs.Contents.{key_item}
@@ -63,6 +63,10 @@ ends : {paired : Bool} {value : List ℕ} {start later : ℕ} → Reached paired
 unfolding keys_once
 ends {paired} {value} {start} {later} r e = rw (← r.left, e)
 
+pub ends_past : {paired : Bool} {value : List ℕ} {start later : ℕ} → Reached paired value start later → length value ≤ later
+    → ok tt ≡ keys_once start [] (keys_from paired value 0)
+ends_past {paired} {value} {start} {later} r h = ends r (keys_past paired value later h)
+
 pub ends_stop : {paired : Bool} {value : List ℕ} {start later : ℕ} {w : Refusal} → Reached paired value start later
     → key_item paired value later ≡ refused w
     → ok tt ≡ keys_once start [] (keys_from paired value 0)
@@ -78,6 +82,12 @@ pub record Compared (paired : Bool) (value : List ℕ) (start later key earlier 
 pub compared_none : {paired : Bool} {value : List ℕ} {start later : ℕ} (key : ℕ) → Reached paired value start later
     → Compared paired value start later key 0
 compared_none key r = record { reached = r; rest = r.before; passed = r.passed; same = refl }
+
+-- an item before `later` was read already
+pub reads_again : {paired : Bool} {value : List ℕ} {start later key earlier : ℕ} {w : Refusal}
+    → Compared paired value start later key earlier
+    → earlier < later → key_item paired value earlier ≡ refused w → ⊥
+reads_again c h e = ok_not_refused (sym (parted c.passed h).read ∙ e)
 
 -- its key, and those behind it
 meets : {paired : Bool} {value : List ℕ} {start later key earlier other behind : ℕ} (c : Compared paired value start later key earlier)

@@ -12,15 +12,19 @@ lent p =
     event_parts p.id p.flags p.database.now p.table.now p.types.now p.metadata.now p.bits.now p.optional.now
 
 -- what the inner writers write: the head, and the columns with what is behind them
-abbrev pub event_head : EventParts → List ℕ
-event_head p = le_bytes 6 p.id ++ (le_bytes 2 p.flags ++ (name_bytes p.database ++ name_bytes p.table))
+abbrev pub event_head : ℕ → ℕ → List ℕ → List ℕ → List ℕ
+event_head id flags database table = le_bytes 6 id ++ (le_bytes 2 flags ++ (name_bytes database ++ name_bytes table))
 
 abbrev pub column_bytes : List ℕ → List ℕ → List ℕ → List ℕ → List ℕ
 column_bytes types metadata bits optional =
     packed_bytes (length types) ++ (types ++ (packed_bytes (length metadata) ++ (metadata ++ (bits ++ optional))))
 
-abbrev pub behind_head : EventParts → List ℕ
-behind_head p = column_bytes p.types p.metadata p.bits p.optional
+-- the same of an event's parts
+abbrev pub head_of : EventParts → List ℕ
+head_of p = event_head p.id p.flags p.database p.table
+
+abbrev pub columns_of : EventParts → List ℕ
+columns_of p = column_bytes p.types p.metadata p.bits p.optional
 
 -- x is d with bs in it from `at` on, and `next` the place after them
 pub record PutAt (d : List ℕ) (at : ℕ) (bs x : List ℕ) (next : ℕ) : Type 0 where

@@ -1,13 +1,13 @@
 -- `map_check::contents::items_held` meets its contract. Assumes nothing.
 use Rattle.std.proofs.Common.{sym, arith}
 use Rattle.table_map.proofs.Walks.{item_moves}
-use Rattle.map_check.proofs.ContentsLaws.Tallies.{one_counted, all_counted, one_fails, none_read}
+use Rattle.map_check.proofs.ContentsLaws.Tallies.{one_held, all_held, one_not_held, none_to_read}
 use Rattle.map_check.proofs.contents.items_held.Goals as goal
 
 pub returns-then-not-holds : goal.returns-then-not-holds
 returns-then-not-holds g c p f =
     let e = rw c.in-Ok-Some.field-0-is at c.in-Ok-Some.ensures in
-    one_fails c.requires.moves c.loop-item.invariant (sym e) c.if-not-holds.ensures p f
+    one_not_held c.requires.moves c.loop-item.invariant (sym e) c.if-not-holds.ensures p f
 
 pub overflow_add-count : goal.overflow_add-count
 overflow_add-count g c =
@@ -24,12 +24,12 @@ loop-item-smaller g c =
 pub loop-item-preserved : goal.loop-item-preserved
 loop-item-preserved g c =
     let e = rw c.in-Ok-Some.field-0-is at c.in-Ok-Some.ensures in
-    one_counted c.requires.moves c.loop-item.invariant (sym e) c.if-not-holds.ensures
+    one_held c.requires.moves c.loop-item.invariant (sym e) c.if-not-holds.ensures
 
 pub returns-in-Ok-None : goal.returns-in-Ok-None
 returns-in-Ok-None g c p f =
     let e = rw c.in-Ok-None.field-0-is at c.in-Ok-None.ensures in
-    all_counted c.requires.moves c.loop-item.invariant (sym e) p f
+    all_held c.requires.moves c.loop-item.invariant (sym e) p f
 
 pub returns-in-Err : goal.returns-in-Err
-returns-in-Err g c p f = none_read c.requires.moves c.loop-item.invariant (sym c.in-Err.ensures) p f
+returns-in-Err g c p f = none_to_read c.requires.moves c.loop-item.invariant (sym c.in-Err.ensures) p f

@@ -1,9 +1,10 @@
 -- `table_map::event::column_metadata` meets its contract. Assumes nothing.
-use mathlib.Core.Path.{sym, ◌∙◌}
+use mathlib.Core.Path.{refl, ◌∙◌}
 use Rattle.table_map.specs.declared.event.Event.{Event}
 use Rattle.table_map.proofs.Chains.{lent_is_part}
 use Rattle.table_map.proofs.event.column_metadata.Goals as goal
 
-pub returns-in-Ok : goal.returns-in-Ok
-returns-in-Ok c =
-    c.part_of.ensures ∙ lent_is_part (λ (e : Event). e.metadata) _ _ _ (λ e w. w.metadata) (sym c.in-Ok.ensures)
+pub returns : goal.returns
+returns c = let a = c.args in
+    c.part_of.ensures ∙ rw c.event_or_none.ensures
+    (lent_is_part (λ (e : Event). e.metadata) refl a.event.now a.post_header (λ e w. w.metadata))

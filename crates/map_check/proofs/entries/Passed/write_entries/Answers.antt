@@ -1,11 +1,9 @@
 -- `map_check::entries::Passed::write_entries` meets its contract. The loop's invariant: what is to be stored from here on is what was to be
 -- stored from the start. Assumes nothing.
-use mathlib.Core.Path.{refl, ap, ◌∙◌}
+use mathlib.Core.Path.{refl, ◌∙◌}
 use native.Mathlib.Omega.{arith}
-use Rattle.record.specs.Records.{entry_at, entries_bytes}
-use Rattle.wire.specs.Stored.{stored}
 use Rattle.record.proofs.Places.{place_few}
-use Rattle.map_check.proofs.EntryLaws.Making.{all_come, turn_stored, all_stored}
+use Rattle.map_check.proofs.EntryLaws.Making.{start_stored, turn_stored, all_stored}
 use Rattle.map_check.proofs.entries.Passed.write_entries.Goals as goal
 
 pub first_progress-progress-requires : goal.first_progress-progress-requires
@@ -16,8 +14,7 @@ loop-j-init c =
     let m = c.args.self.now in (
       c.first_progress-progress.ensures.ready,
       refl,
-      ap (λ es. stored (entries_bytes es) c.args.buf.now (entry_at 0))
-          (all_come m.dialect m.event.now m.facts m.types.now m.metadata.now _ c.first_progress-progress.ensures),
+      start_stored m.dialect m.event.now m.facts m.types.now m.metadata.now _ _ c.first_progress-progress.ensures,
     )
 
 pub next_entry-turn-requires : goal.next_entry-turn-requires

@@ -27,7 +27,7 @@ pub put_columns-requires : goal.put_columns-requires
 put_columns-requires c =
     let p = lent c.args.self in
     let y = sized p _ (sym c.in_ok-size.ensures) in
-    omega (arith, y.1, event_length p, column_length p, head_length p, after_put c.put_head-behind.ensures)
+    omega (arith, y.1, event_length p, column_length p.types p.metadata p.bits p.optional, head_length p.id p.flags p.database p.table, after_put c.put_head-behind.ensures)
 
 pub returns : goal.returns
 returns c =
