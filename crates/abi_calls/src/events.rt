@@ -1,6 +1,6 @@
 // The calls that read rows events.
 use crate::told::{LEFT, tell};
-use std::rt::Runtime;
+use std::io;
 
 // Two rows of the columns 0 and 12, with extra data.
 const WRITTEN: [u8; 24] = *b"\x02\x01\x00\x00\x00\x00\x01\x00\x05\x00\x07\x08\x09\x0e\x01\x10\
@@ -10,52 +10,55 @@ const WRITTEN: [u8; 24] = *b"\x02\x01\x00\x00\x00\x00\x01\x00\x05\x00\x07\x08\x0
 const UPDATED: [u8; 20] = *b"\x02\x01\x00\x00\x00\x00\x03\x00\x0e\x01\x00\x00\x10\
     \xfe\xfe\xff\xff\xff\xfe\x02";
 
-fn rows(rt: &impl Runtime, code: u64, record: &[u8], table: u64, event: &[u8]) -> bool {
+fn rows(rt: &impl Print, code: u64, record: &[u8], table: u64, event: &[u8]) -> io::Result<()> {
     let mut out = [LEFT; 10];
     let status = feed_abi::feed_rows(code, record, table, event, &mut out);
-    tell(rt, b"feed_rows", status, &out)
+    tell(rt, "feed_rows", status, &out)
 }
 
-fn written_image(rt: &impl Runtime, record: &[u8], event: &[u8], offset: usize) -> bool {
+fn written_image(rt: &impl Print, record: &[u8], event: &[u8], offset: usize) -> io::Result<()> {
     let mut out = [LEFT; 6];
     let status = feed_abi::feed_image(record, event, 14, 2, 0, 0, 0, offset, 0, &mut out);
-    tell(rt, b"feed_image", status, &out)
+    tell(rt, "feed_image", status, &out)
 }
 
 fn updated_image(
-    rt: &impl Runtime,
+    rt: &impl Print,
     record: &[u8],
     event: &[u8],
     offset: usize,
     second: u64,
-) -> bool {
+) -> io::Result<()> {
     let mut out = [LEFT; 6];
     let status = feed_abi::feed_image(record, event, 9, 2, 1, 11, 2, offset, second, &mut out);
-    tell(rt, b"feed_image", status, &out)
+    tell(rt, "feed_image", status, &out)
 }
 
-fn written_images(rt: &impl Runtime, record: &[u8], event: &[u8]) -> bool {
-    written_image(rt, record, event, 16) && written_image(rt, record, event, 22)
+fn written_images(rt: &impl Print, record: &[u8], event: &[u8]) -> io::Result<()> {
+    written_image(rt, record, event, 16)?;
+    written_image(rt, record, event, 22)
 }
 
-fn updated_images(rt: &impl Runtime, record: &[u8], event: &[u8]) -> bool {
-    updated_image(rt, record, event, 13, 0)
-        && updated_image(rt, record, event, 18, 1)
-        && updated_image(rt, record, event, 20, 0)
-        && updated_image(rt, record, event, 19, 1)
+fn updated_images(rt: &impl Print, record: &[u8], event: &[u8]) -> io::Result<()> {
+    updated_image(rt, record, event, 13, 0)?;
+    updated_image(rt, record, event, 18, 1)?;
+    updated_image(rt, record, event, 20, 0)?;
+    updated_image(rt, record, event, 19, 1)
 }
 
-fn written(rt: &impl Runtime, record: &[u8], event: &[u8]) -> bool {
-    rows(rt, 30, record, 258, event)
-        && rows(rt, 30, record, 259, event)
-        && rows(rt, 31, record, 258, event)
-        && written_images(rt, record, event)
+fn written(rt: &impl Print, record: &[u8], event: &[u8]) -> io::Result<()> {
+    rows(rt, 30, record, 258, event)?;
+    rows(rt, 30, record, 259, event)?;
+    rows(rt, 31, record, 258, event)?;
+    written_images(rt, record, event)
 }
 
-fn updated(rt: &impl Runtime, record: &[u8], event: &[u8]) -> bool {
-    rows(rt, 24, record, 258, event) && updated_images(rt, record, event)
+fn updated(rt: &impl Print, record: &[u8], event: &[u8]) -> io::Result<()> {
+    rows(rt, 24, record, 258, event)?;
+    updated_images(rt, record, event)
 }
 
-pub(crate) fn event_calls(rt: &impl Runtime, record: &[u8]) -> bool {
-    written(rt, record, &WRITTEN) && updated(rt, record, &UPDATED)
+pub(crate) fn event_calls(rt: &impl Print, record: &[u8]) -> io::Result<()> {
+    written(rt, record, &WRITTEN)?;
+    updated(rt, record, &UPDATED)
 }

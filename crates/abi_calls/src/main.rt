@@ -9,16 +9,14 @@ mod maps;
 mod rows;
 mod system;
 mod told;
-mod words;
 
 use arrivals::arrival_calls;
 use events::event_calls;
 use maps::{RECORD, check, map_calls};
 use rows::{row_calls, write_calls};
+use std::io;
 use std::rt::Runtime;
-use system::{tell_status, word_count};
-use told::is_put;
-use words::is_word;
+use system::{fail, is_word, tell_status, word_count};
 
 // A map with a column for each sort of value, and with lists of each kind among its optional fields. No two
 // dialects read it alike: the bit of its YEAR and the charset of its geometry go to other columns.
@@ -30,7 +28,12 @@ const MAP: [u8; 144] = *b"\x02\x01\x00\x00\x00\x00\x05\x00\x04shop\x00\x06orders
     \x05\x08\x03\x01x\x02yz\x01w\x06\x07\x02\x01a\x03bcd\
     \x07\x01\x01\x09\x04\x00\x00\x0a\x14\x0a\x01\x08\x0c\x02\xff\xf8";
 
-const FAILED: u64 = 2;
+// Whether all was printed, or not.
+#[derive(Clone, Copy)]
+enum Status {
+    Printed = 0,
+    Failed = 2,
+}
 
 // How the program is used.
 const USAGE: &str = "usage: abi_calls\n\
@@ -39,38 +42,43 @@ const USAGE: &str = "usage: abi_calls\n\
     Status: 0 if all of it was printed, else 2.\n";
 
 // The calls that read and write under the record of the map.
-fn put_record_calls(rt: &impl Runtime, record: &mut [u8]) -> bool {
-    check(rt, &MAP, 1, record)
-        && row_calls(rt, record)
-        && write_calls(rt, record)
-        && event_calls(rt, record)
+fn put_record_calls(rt: &impl Print, record: &mut [u8]) -> io::Result<()> {
+    check(rt, &MAP, 1, record)?;
+    row_calls(rt, record)?;
+    write_calls(rt, record)?;
+    event_calls(rt, record)
 }
 
-fn put_calls(rt: &impl Runtime) -> bool {
+fn put_calls(rt: &impl Print) -> io::Result<()> {
     let mut record = [0u8; RECORD];
-    map_calls(rt, &MAP) && put_record_calls(rt, &mut record) && arrival_calls(rt)
+    map_calls(rt, &MAP)?;
+    put_record_calls(rt, &mut record)?;
+    arrival_calls(rt)
 }
 
-// The status of a run whose output was printed, all of it or not.
-fn status_if(is_printed: bool) -> u64 {
-    if is_printed {
-        return 0;
+// The status of what was printed, all of it or not. What failed is said.
+fn status_of(rt: &impl Runtime, printed: io::Result<()>) -> Status {
+    match printed {
+        Ok(()) => Status::Printed,
+        Err(error) => {
+            fail(rt, "abi_calls: standard output cannot be written", error);
+            Status::Failed
+        }
     }
-    FAILED
 }
 
 // Does what the words from this one on ask for.
-fn run(rt: &impl Runtime, first: usize) -> u64 {
+fn run(rt: &impl Runtime, first: usize) -> Status {
     let count = word_count(rt);
     if count <= first {
-        return status_if(put_calls(rt));
+        return status_of(rt, put_calls(rt));
     }
     if count - first == 1 && is_word(rt, first, b"--help") {
-        return status_if(is_put(rt, rt.print(USAGE)));
+        return status_of(rt, rt.print(USAGE));
     }
     let _ = rt.eprint("abi_calls: no word is taken\n");
     let _ = rt.eprint(USAGE);
-    FAILED
+    Status::Failed
 }
 
 fn main(rt: HostRuntime) {
@@ -79,5 +87,5 @@ fn main(rt: HostRuntime) {
         return;
     }
     let status = run(&rt, 2);
-    tell_status(&rt, status);
+    tell_status(&rt, status as u8);
 }
