@@ -1,5 +1,5 @@
 // The whole record: whether it is valid, what it says of its columns, and how it begins. `profile` is its bytes.
-ghost use Rattle.std.specs.Prelude.{◌≡◌, get_or};
+ghost use Rattle.std.specs.Prelude.{◌≡◌};
 ghost use Rattle.wire.specs.Stored.{store, answer_of, left_of};
 ghost use Rattle.record.specs.Records.{kind_for, count_of, entry_place, entry_in, entries_hold, head_holds, read_record};
 ghost use Rattle.record.specs.Records.{head_bytes};
@@ -21,13 +21,6 @@ const ENTRY: usize = 6;
 
 // The longest record.
 pub const MOST_BYTES: usize = HEAD + ENTRY * MOST_COLUMNS;
-
-// The byte at a place, 0 past the end.
-fn byte_at(s: &[u8], at: usize) -> u8
-    ensures { result ≡ get_or s.now at 0 }
-{
-    s.get(at).copied().unwrap_or(0)
-}
 
 // How many columns the record says it has.
 #[tactic(auto, unfolding(crate::specs::Records::count_of))]
@@ -58,14 +51,14 @@ pub fn entry_at(column: usize) -> usize
 pub fn entry_in(profile: &[u8], column: usize) -> Entry
     ensures { result ≡ entry_in profile.now column }
 {
-    let at = entry_at(column).min(profile.len());
-    let bytes = &profile[at..];
+    let bytes = wire::read_le(profile, entry_at(column), ENTRY).to_le_bytes();
+    let [real, flags, m0, m1, low, high, ..] = bytes;
     Entry {
-        real: byte_at(bytes, 0),
-        flags: byte_at(bytes, 1),
-        m0: byte_at(bytes, 2),
-        m1: byte_at(bytes, 3),
-        charset: wire::read_le(bytes, 4, 2) as u16,
+        real,
+        flags,
+        m0,
+        m1,
+        charset: u16::from_le_bytes([low, high]),
     }
 }
 
