@@ -98,6 +98,16 @@ first_stop n j s h e =
     let k : n - j ≡ suc (n - (j + 1)) = omega arith in
     ap (λ (m : ℕ). first_from m s j) k ∙ first_here (n - (j + 1)) s j e
 
+pub first_step : (n j : ℕ) (s : List ℕ) → j < n → bit_lsb0 s j ≡ false → first_from (n - j) s j ≡ first_from (n - (j + 1)) s (j + 1)
+first_step n j s h e =
+    let k : n - j ≡ suc (n - (j + 1)) = omega arith in
+    ap (λ (m : ℕ). first_from m s j) k ∙ first_on (n - (j + 1)) s j e ∙ ap (first_from (n - (j + 1)) s) (sym (add-one j))
+
+pub first_done : (n j : ℕ) (s : List ℕ) → n ≤ j → first_from (n - j) s j ≡ j
+first_done n j s h =
+    let k : n - j ≡ 0 = omega arith in
+    ap (λ (m : ℕ). first_from m s j) k ∙ first_end s j
+
 -- bits that are not set are passed
 first_past : (m j : ℕ) (s : List ℕ) (f : ℕ) → j ≤ f → f ≤ j + m → ((k : ℕ) → j ≤ k → k < f → bit_lsb0 s k ≡ false)
     → first_from m s j ≡ first_from (j + m - f) s f

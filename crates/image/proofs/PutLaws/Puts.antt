@@ -103,15 +103,7 @@ module _
   unfolding put_over
   put_end u = rw (slots_none h e nulls u)
 
-  -- z being whether the value is NULL, and t the null bit
-  module _ (u : f ≡ n → ⊥) {z t : Bool} (i : z ≡ is_null (datum_of [] v)) (b : t ≡ bit_lsb0 nulls s.rank) where
-    null_is : {y : Bool} → z ≡ y → is_null (datum_of lent v) ≡ y
-    null_is k = null_anywhere lent [] v ∙ sym i ∙ k
-
-    bit_is : {y : Bool} → not (beq z t) ≡ false → z ≡ y → bit_lsb0 nulls s.rank ≡ y
-    bit_is e k = sym b ∙ sym (alike z t e) ∙ k
-
-    -- NULL for a column whose bit says a value, or a value for one whose bit says NULL
+  module _ (u : f ≡ n → ⊥) where
     unlike : (a c : Bool) → is_null (datum_of lent v) ≡ a → bit_lsb0 nulls s.rank ≡ c → not (beq a c) ≡ true → put ≡ refuse 13 f
     unfolding put_over slot_bytes
     unlike true true i b d = cc
@@ -119,26 +111,13 @@ module _
     unlike false true i b d = rw (slots_some h e nulls u, i, b)
     unlike false false i b d = cc
 
-    pub put_unlike : not (beq z t) ≡ true → put ≡ refuse 13 f
-    put_unlike d = unlike z t (null_is refl) (sym b) d
-
-    -- a being what a writer of w answered, and x the buffer that it left
-    put_wrote : (w : Outcome (ℕ × List ℕ)) → put ≡ behind (f + 1) w → (a : Outcome ℕ) (x : List ℕ) → a ≡ answer_of w → x ≡ left_of w buf
-        → Puts buf put (after a (λ m. ok (cursor (f + 1) m))) x
-    put_wrote w p a x q y = (
-      sym (ap answer_of p ∙ behind_answer (f + 1) w ∙ ap (λ (o : Outcome ℕ). after o (λ m. ok (cursor (f + 1) m))) (sym q)),
-      y ∙ sym (ap (λ (o : Outcome (Cursor × List ℕ)). left_of o buf) p ∙ behind_left (f + 1) buf w),
-    )
-
     -- NULL takes no bytes, but the offset must be in the buffer
     null_goes : is_null (datum_of lent v) ≡ true → bit_lsb0 nulls s.rank ≡ true → put ≡ behind (f + 1) (store [] buf s.cursor.offset)
     unfolding put_over slot_bytes
     null_goes i b = rw (slots_some h e nulls u, i, b)
 
-    pub put_null : not (beq z t) ≡ false → z ≡ true
-        → (a : Outcome ℕ) (x : List ℕ) → a ≡ answer_of (store [] buf s.cursor.offset) → x ≡ left_of (store [] buf s.cursor.offset) buf
-        → Puts buf put (after a (λ m. ok (cursor (f + 1) m))) x
-    put_null d k = put_wrote _ (null_goes (null_is k) (bit_is d k))
+    pub put_null_full : is_null (datum_of lent v) ≡ true → bit_lsb0 nulls s.rank ≡ true → length buf < s.cursor.offset → put ≡ refuse 8 0
+    put_null_full i b l = null_goes i b ∙ ap (behind (f + 1)) (store_full buf [] s.cursor.offset (omega arith))
 
     -- the value as the record's column stores it
     value_goes : is_null (datum_of lent v) ≡ false → bit_lsb0 nulls s.rank ≡ false → {k : Column} → k ≡ column_of (entry_in r f)
@@ -149,11 +128,36 @@ module _
         (sym (after_after (stored_bytes (shape_at r f) f lent v) (λ b. store b buf s.cursor.offset) (λ x. ok (cursor (f + 1) x.0, x.1)))
         ∙ ap (λ (c : Column). behind (f + 1) (after (stored_bytes (shape_of c) f lent v) (λ b. store b buf s.cursor.offset))) (sym g))
 
-    pub put_value : not (beq z t) ≡ false → z ≡ false → {k : Column} → k ≡ column_of (entry_in r f)
-        → (a : Outcome ℕ) (x : List ℕ) → a ≡ answer_of (write_value (shape_of k) f lent v buf s.cursor.offset)
-        → x ≡ left_of (write_value (shape_of k) f lent v buf s.cursor.offset) buf
+    -- a being what a writer of w answered, and x the buffer that it left
+    put_wrote : (w : Outcome (ℕ × List ℕ)) → put ≡ behind (f + 1) w → (a : Outcome ℕ) (x : List ℕ) → a ≡ answer_of w → x ≡ left_of w buf
         → Puts buf put (after a (λ m. ok (cursor (f + 1) m))) x
-    put_value d k g = put_wrote _ (value_goes (null_is k) (bit_is d k) g)
+    put_wrote w p a x q y = (
+      sym (ap answer_of p ∙ behind_answer (f + 1) w ∙ ap (λ (o : Outcome ℕ). after o (λ m. ok (cursor (f + 1) m))) (sym q)),
+      y ∙ sym (ap (λ (o : Outcome (Cursor × List ℕ)). left_of o buf) p ∙ behind_left (f + 1) buf w),
+    )
+
+    -- z being whether the value is NULL, and t the null bit
+    module _ {z t : Bool} (i : z ≡ is_null (datum_of [] v)) (b : t ≡ bit_lsb0 nulls s.rank) where
+      null_is : {y : Bool} → z ≡ y → is_null (datum_of lent v) ≡ y
+      null_is k = null_anywhere lent [] v ∙ sym i ∙ k
+
+      bit_is : {y : Bool} → not (beq z t) ≡ false → z ≡ y → bit_lsb0 nulls s.rank ≡ y
+      bit_is e k = sym b ∙ sym (alike z t e) ∙ k
+
+      -- NULL for a column whose bit says a value, or a value for one whose bit says NULL
+      pub put_unlike : not (beq z t) ≡ true → put ≡ refuse 13 f
+      put_unlike d = unlike z t (null_is refl) (sym b) d
+
+      pub put_null : not (beq z t) ≡ false → z ≡ true
+          → (a : Outcome ℕ) (x : List ℕ) → a ≡ answer_of (store [] buf s.cursor.offset) → x ≡ left_of (store [] buf s.cursor.offset) buf
+          → Puts buf put (after a (λ m. ok (cursor (f + 1) m))) x
+      put_null d k = put_wrote _ (null_goes (null_is k) (bit_is d k))
+
+      pub put_value : not (beq z t) ≡ false → z ≡ false → {k : Column} → k ≡ column_of (entry_in r f)
+          → (a : Outcome ℕ) (x : List ℕ) → a ≡ answer_of (write_value (shape_of k) f lent v buf s.cursor.offset)
+          → x ≡ left_of (write_value (shape_of k) f lent v buf s.cursor.offset) buf
+          → Puts buf put (after a (λ m. ok (cursor (f + 1) m))) x
+      put_value d k g = put_wrote _ (value_goes (null_is k) (bit_is d k) g)
 
 -- a step from a column above the record's
 pub put_above : (r p nulls : List ℕ) (c : Cursor) (lent : List ℕ) (v : Value) (buf : List ℕ) {h : Head} → head_nulls r p nulls ≡ ok h

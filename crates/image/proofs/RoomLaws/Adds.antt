@@ -7,7 +7,8 @@ use native.Mathlib.Nat.{zero-add, sub-zero}
 use native.Mathlib.Numerals.{add-one}
 use native.Mathlib.Omega.{arith}
 use lib.ListN.{length}
-use Rattle.wire.specs.Outcome.{ok}
+use Rattle.wire.specs.declared.refusal.Refusal.{Refusal}
+use Rattle.wire.specs.Outcome.{ok, refused}
 use Rattle.wire.specs.Bits.{bytes_for, bit_lsb0}
 use Rattle.value.specs.declared.shape.Shape.TheVariants.{Counted}
 use Rattle.value.specs.Shapes.{most_of}
@@ -142,6 +143,10 @@ module _ (r p : List ℕ) {h : Head} (e : head_of r p ≡ ok h) where
   pub room_read : (bytes : ℕ) → bytes ≡ image_room r p → ok bytes ≡ read_room r p
   unfolding read_room
   room_read bytes q = rw (e, q)
+
+pub room_refused : (r p : List ℕ) {w : Refusal} → head_of r p ≡ refused w → refused w ≡ read_room r p
+unfolding read_room
+room_refused r p e = rw e
 
 pub adding_next : (r p : List ℕ) (n j bytes x : ℕ) → Adding r p n j bytes → j < n → x ≡ column_room r p j → Adding r p n (j + 1) (bytes + x)
 adding_next r p n j bytes x a l e =
