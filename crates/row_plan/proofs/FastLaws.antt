@@ -11,7 +11,7 @@ use borrow.Author.Tests.{le-leb, lt-leb, le-ltb, lt-ltb, eq-eqb, ne_eqb}
 use lib.Dec.{ltb}
 use lib.ListN.{length, get_or, take, drop}
 use lib.Seq.{take-take, drop-cons}
-use Rattle.std.specs.Prelude.{Option}
+use Rattle.std.specs.Prelude.{Option, None}
 use Rattle.wire.specs.Number.{le_value, be_value}
 use Rattle.wire.specs.Outcome.{ok}
 use Rattle.temporal.specs.declared.storage.Storage.{Storage}
@@ -25,6 +25,7 @@ use Rattle.temporal.specs.Reading.{temporal_size, whole_in, units_in, temporal_f
 use Rattle.temporal.proofs.Ranges.{Clock, Day, clock_none, clock_of, day_none}
 use Rattle.temporal.proofs.Steps.{whole_big, whole_little, units_big, units_little}
 use Rattle.temporal.proofs.Units.{widths}
+use Rattle.value.specs.declared.shape.Shape.{Shape}
 use Rattle.value.specs.declared.shape.Shape.TheVariants.{Unsigned, Signed, YearByte, Timed}
 use Rattle.value.specs.declared.datum.Value.{Value}
 use Rattle.value.specs.declared.datum.Value.TheVariants.{Year}
@@ -37,10 +38,14 @@ use Rattle.value.proofs.Readers.{got, narrow}
 use Rattle.row_plan.specs.Runs.{value_numbers}
 use Rattle.row_plan.proofs.NumberLaws.{unsigned_got, signed_got, timed_told}
 use Rattle.wire.specs.Signed.{signed_of, twos_of}
-use Rattle.row_plan.specs.Inner.Numbers.{numbered, one_of}
+use Rattle.row_plan.specs.Inner.Numbers.{numbered, one_listed}
 use Rattle.row_plan.specs.Inner.Fast.{Reads, Took}
 use Rattle.wire.proofs.Inverse.{le_one}
 use Rattle.row_plan.proofs.EightLaws.{be_below, le_below, front, whole4, behind4, whole5, behind5, kept3}
+
+-- ---- left
+pub took_none : (sh : Shape) (eight slot : List ℕ) → Took sh eight slot slot None
+took_none sh eight slot = refl
 
 -- ---- by another name of its op
 pub at_op : {op o : ℕ} (eight slot exit : List ℕ) (n : Option ℕ) → op ≡ o → Took (shape_for o) eight slot exit n
@@ -53,14 +58,14 @@ front_of : (k : ℕ) (s : List ℕ) (at : ℕ) {eight : List ℕ} → k ≤ 8 �
 front_of k s at l e = rw e (take-take k 8 (drop at s) l)
 
 module _ {eight exit : List ℕ} where
-  pub took_unsigned : (k x : ℕ) → k ≤ 8 → x ≡ le_value (take k eight) → exit ≡ one_of 3 x → Reads (Unsigned k) eight k exit
+  pub took_unsigned : (k x : ℕ) → k ≤ 8 → x ≡ le_value (take k eight) → exit ≡ one_listed 3 x → Reads (Unsigned k) eight k exit
   took_unsigned k x l e d = record {
     few = l;
     reads = λ s b at h q by p.
         rw d (sym (unsigned_got k by p s at x (omega arith) (e ∙ ap le_value (front_of k s at l q))));
   }
 
-  pub took_signed : (k x : ℕ) → k ≤ 8 → x ≡ twos_of (2 ^ 64) (signed_of (256 ^ k) (le_value (take k eight))) → exit ≡ one_of 2 x
+  pub took_signed : (k x : ℕ) → k ≤ 8 → x ≡ twos_of (2 ^ 64) (signed_of (256 ^ k) (le_value (take k eight))) → exit ≡ one_listed 2 x
       → Reads (Signed k) eight k exit
   took_signed k x l e d = record {
     few = l;
@@ -68,7 +73,7 @@ module _ {eight exit : List ℕ} where
         rw d (sym (signed_got k by p s at x (omega arith) (e ∙ ap (λ (b : List ℕ). twos_of (2 ^ 64) (signed_of (256 ^ k) (le_value b))) (front_of k s at l q))));
   }
 
-  pub took_year : (x y : ℕ) → x ≡ get_or eight 0 0 → y ≡ year_of x → exit ≡ one_of 7 y → Reads YearByte eight 1 exit
+  pub took_year : (x y : ℕ) → x ≡ get_or eight 0 0 → y ≡ year_of x → exit ≡ one_listed 7 y → Reads YearByte eight 1 exit
   unfolding is_taken need decode fault placed value_numbers
   took_year x y e ey d = record {
     few = omega arith;

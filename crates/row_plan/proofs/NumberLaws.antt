@@ -27,7 +27,7 @@ use Rattle.value.proofs.Laws.{took}
 use Rattle.value.proofs.Readers.{got, ends_early_lem, timed}
 use Rattle.image.proofs.EndLaws.Ends.{value_within}
 use Rattle.row_plan.specs.Runs.{value_numbers}
-use Rattle.row_plan.specs.Inner.Numbers.{numbered, one_of, integer_in, start_in}
+use Rattle.row_plan.specs.Inner.Numbers.{numbered, one_listed, integer_in, start_in}
 
 -- ---- by another name of its op or its shape a value has the same numbers
 pub at_op : (by p : ℕ) (s : List ℕ) (at : ℕ) {op o : ℕ} → op ≡ o
@@ -39,19 +39,29 @@ pub at_shape : (by p : ℕ) (s : List ℕ) (at : ℕ) {x y : Shape} → x ≡ y
 at_shape by p s at e = rw e
 
 -- ---- integers: their numbers hang on no place
+pub unsigned_short : (k by p : ℕ) (s : List ℕ) (at : ℕ) → 0 < k → length s < at + k
+    → refuse 9 p ≡ numbered by (read_value (Unsigned k) p s at)
+unfolding is_taken need
+unsigned_short k by p s at z h = ap (numbered by) (ends_early_lem (Unsigned k) p s at refl (omega arith))
+
+pub signed_short : (k by p : ℕ) (s : List ℕ) (at : ℕ) → 0 < k → length s < at + k
+    → refuse 9 p ≡ numbered by (read_value (Signed k) p s at)
+unfolding is_taken need
+signed_short k by p s at z h = ap (numbered by) (ends_early_lem (Signed k) p s at refl (omega arith))
+
 pub unsigned_got : (k by p : ℕ) (s : List ℕ) (at x : ℕ) → at + k ≤ length s → x ≡ le_value (take k (drop at s))
-    → ok (one_of 3 x, at + k) ≡ numbered by (read_value (Unsigned k) p s at)
+    → ok (one_listed 3 x, at + k) ≡ numbered by (read_value (Unsigned k) p s at)
 unfolding is_taken need decode fault placed value_numbers
 unsigned_got k by p s at x h e =
     ap (numbered by) (got (Unsigned k) p s at k (Uint x) (at + k) refl refl (omega arith) refl (ap Uint e) refl)
 
 pub signed_got : (k by p : ℕ) (s : List ℕ) (at x : ℕ) → at + k ≤ length s
     → x ≡ twos_of (2 ^ 64) (signed_of (256 ^ k) (le_value (take k (drop at s))))
-    → ok (one_of 2 x, at + k) ≡ numbered by (read_value (Signed k) p s at)
+    → ok (one_listed 2 x, at + k) ≡ numbered by (read_value (Signed k) p s at)
 unfolding is_taken need decode fault placed value_numbers
 signed_got k by p s at x h e =
     let v = Int (signed_of (256 ^ k) (le_value (take k (drop at s)))) in
-    ap (λ (n : ℕ). ok (one_of 2 n, at + k)) e
+    ap (λ (n : ℕ). ok (one_listed 2 n, at + k)) e
     ∙ ap (numbered by) (got (Signed k) p s at k v (at + k) refl refl (omega arith) refl refl refl)
 
 -- what is made of an integer that was read
@@ -69,20 +79,20 @@ by_room f k p s at r there short = go (leb (at + k) (length s)) refl
     go false e = short (leb-false (at + k) (length s) e)
 
 pub unsigned_read : (k by p : ℕ) (s : List ℕ) (at : ℕ) {o : Outcome (ℕ × ℕ)} → 0 < k → o ≡ integer_in k s at p
-    → made (one_of 3) o ≡ numbered by (read_value (Unsigned k) p s at)
+    → made (one_listed 3) o ≡ numbered by (read_value (Unsigned k) p s at)
 unfolding is_taken need
 unsigned_read k by p s at z e =
-    ap (made (one_of 3)) e
-    ∙ by_room (one_of 3) k p s at _ (λ h. unsigned_got k by p s at _ h refl)
-    (λ h. ap (numbered by) (ends_early_lem (Unsigned k) p s at refl (omega arith)))
+    ap (made (one_listed 3)) e
+    ∙ by_room (one_listed 3) k p s at _ (λ h. unsigned_got k by p s at _ h refl)
+    (unsigned_short k by p s at z)
 
 pub signed_read : (k by p : ℕ) (s : List ℕ) (at : ℕ) {o : Outcome (ℕ × ℕ)} → 0 < k → o ≡ integer_in k s at p
-    → made (λ x. one_of 2 (twos_of (2 ^ 64) (signed_of (256 ^ k) x))) o ≡ numbered by (read_value (Signed k) p s at)
+    → made (λ x. one_listed 2 (twos_of (2 ^ 64) (signed_of (256 ^ k) x))) o ≡ numbered by (read_value (Signed k) p s at)
 unfolding is_taken need
 signed_read k by p s at z e =
-    ap (made (λ x. one_of 2 (twos_of (2 ^ 64) (signed_of (256 ^ k) x)))) e
-    ∙ by_room (λ x. one_of 2 (twos_of (2 ^ 64) (signed_of (256 ^ k) x))) k p s at _ (λ h. signed_got k by p s at _ h refl)
-    (λ h. ap (numbered by) (ends_early_lem (Signed k) p s at refl (omega arith)))
+    ap (made (λ x. one_listed 2 (twos_of (2 ^ 64) (signed_of (256 ^ k) x)))) e
+    ∙ by_room (λ x. one_listed 2 (twos_of (2 ^ 64) (signed_of (256 ^ k) x))) k p s at _ (λ h. signed_got k by p s at _ h refl)
+    (signed_short k by p s at z)
 
 -- ---- a temporal, read as its own crate says
 abbrev valued : Outcome (Temporal × ℕ) → Outcome (Value × ℕ)

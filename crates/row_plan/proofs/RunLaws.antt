@@ -2,13 +2,13 @@
 use Prim.Native.Nat.{ℕ, suc, ◌+◌, ◌-◌, ◌*◌, ◌/◌, ◌≤◌, ◌<◌, ◌^◌, min}
 use mathlib.Core.Path.{◌≡◌, refl, sym, ap, ◌∙◌}
 use mathlib.Core.Bool.{Bool, true, false, cond, ◌&&◌}
-use mathlib.Core.List.{List}
+use mathlib.Core.List.{List, [], ◌∷◌, ◌++◌}
 use mathlib.Core.Logic.{dite}
 use native.Mathlib.Decide.{dec_le}
 use native.Mathlib.Nat.{add-zero}
 use native.Mathlib.Omega.{arith}
 use borrow.Author.Tests.{eq-eqb, ne_eqb, le-leb, lt-leb, le-ltb, lt-ltb, ltb-false}
-use lib.ListN.{length, get_or, take, drop, length-drop, length-take}
+use lib.ListN.{length, set, get_or, take, drop, length-drop, length-take}
 use lib.Dec.{ltb, eqb}
 use Rattle.std.specs.Prelude.{Option, Some, None}
 use Rattle.wire.specs.declared.refusal.Refusal.{Refusal}
@@ -17,7 +17,7 @@ use Rattle.wire.specs.Number.{Bytes, le_value}
 use Rattle.wire.specs.Bits.{bytes_for, bit_lsb0}
 use Rattle.wire.specs.Stored.{stored}
 use Rattle.wire.proofs.Outcomes.{ok_not_refused, same_ok, same_refused}
-use Rattle.wire.proofs.Stores.{length_stored, part_stored}
+use Rattle.wire.proofs.Stores.{length_stored, stored_one, stored_stored, part_stored}
 use Rattle.value.proofs.Readers.{part_length}
 use borrow.Rule.Slice.PartMut.{put_mid}
 use Rattle.value.specs.declared.datum.Value.{Value}
@@ -29,10 +29,32 @@ use Rattle.image.proofs.EndLaws.Ends.{value_within}
 use Rattle.row_plan.specs.declared.row.RowCursor.{RowCursor}
 use Rattle.row_plan.specs.Plan.{item_count, item_at, row_cursor, RowStepped, null, value, row_next, plan_step}
 use Rattle.row_plan.specs.Runs.{value_numbers, turned, is_over, RowRan, ran, run_on, run_from}
-use Rattle.row_plan.specs.Inner.Numbers.{numbered, one_of, item_numbers}
+use Rattle.row_plan.specs.Inner.Numbers.{numbered, one_listed, item_numbers}
 use Rattle.row_plan.specs.Inner.Fast.{Took, ReadsItem, TookItem}
 use Rattle.row_plan.specs.Inner.Paused.{Stands, Running, row_gate}
 use Rattle.row_plan.proofs.Goes.{goes, slots_here}
+
+-- ---- eight numbers stored one after the other
+next_stored : (d : List ℕ) (at : ℕ) (w : List ℕ) (x : ℕ) → at + length w < length d
+    → set (stored w d at) (at + length w) x ≡ stored (w ++ (x ∷ [])) d at
+next_stored d at w x h =
+    let l = length_stored d at w (omega arith) in
+    stored_one (stored w d at) (at + length w) x (omega arith) ∙ stored_stored d at w (x ∷ []) (omega arith)
+
+pub eight : (d : List ℕ) (at s a b c e f g h : ℕ) → at + 8 ≤ length d
+    → set (set (set (set (set (set (set (set d at s) (at + 1) a) (at + 2) b) (at + 3) c) (at + 4) e) (at + 5) f) (at + 6) g) (at + 7) h
+    ≡ stored (s ∷ (a ∷ (b ∷ (c ∷ (e ∷ (f ∷ (g ∷ (h ∷ [])))))))) d at
+eight d at s a b c e f g h l =
+    rw (
+      stored_one d at s (omega arith),
+      next_stored d at (s ∷ []) a (omega arith),
+      next_stored d at (s ∷ (a ∷ [])) b (omega arith),
+      next_stored d at (s ∷ (a ∷ (b ∷ []))) c (omega arith),
+      next_stored d at (s ∷ (a ∷ (b ∷ (c ∷ [])))) e (omega arith),
+      next_stored d at (s ∷ (a ∷ (b ∷ (c ∷ (e ∷ []))))) f (omega arith),
+      next_stored d at (s ∷ (a ∷ (b ∷ (c ∷ (e ∷ (f ∷ [])))))) g (omega arith),
+      next_stored d at (s ∷ (a ∷ (b ∷ (c ∷ (e ∷ (f ∷ (g ∷ []))))))) h (omega arith),
+    )
 
 -- ---- the numbers of one value written over the part of a buffer that is theirs
 pub slot_put : (d : List ℕ) (to : ℕ) {x ns : List ℕ} → x ≡ ns → length x ≡ length (take (to + 8 - to) (drop to d)) → to + 8 ≤ length d
@@ -278,13 +300,16 @@ module _ (plan images : List ℕ) (items room had : ℕ) (d₀ : List ℕ) (here
       ∙ ap (λ (k : ℕ). run_from k plan images (row_cursor here.start item offset) values d) (sym m) ∙ r.goes
 
 -- ---- an item read fast
-pub took_null : (plan image : List ℕ) (item offset : ℕ) {numbers : List ℕ} → bit_lsb0 image item ≡ true → numbers ≡ one_of 1 0
+pub took_null : (plan image : List ℕ) (item offset : ℕ) {numbers : List ℕ} → bit_lsb0 image item ≡ true → numbers ≡ one_listed 1 0
     → ReadsItem plan image item offset 0 numbers
 unfolding value_numbers
 took_null plan image item offset e s = record {
   few = omega arith;
   reads = λ by. rw (s, add-zero) (item_null plan image by item offset e);
 }
+
+pub took_left : (plan image : List ℕ) (item offset : ℕ) (room exit : List ℕ) → exit ≡ room → TookItem plan image item offset room exit None
+took_left plan image item offset room exit e = e
 
 pub took_read : (plan image : List ℕ) (item offset op : ℕ) (room exit : List ℕ) {slot eight : List ℕ} (n : Option ℕ) → Bytes image
     → offset + 8 ≤ length image → eight ≡ take 8 (drop offset image) → bit_lsb0 image item ≡ false → op ≡ get_or plan (3 * item) 0
@@ -328,8 +353,8 @@ take_begin plan images items room had d here b t h x y z =
     let m : here.item + b - here.item ≡ b = omega arith in
     record { run = run_begin plan images items room had d here t h; space = rw m y; bytes = rw m z; most = x }
 
-pub take_fits : (offset limit item len n : ℕ) → offset + 8 * (limit - item) ≤ len → item < limit → n ≤ 8 → len < 2 ^ 64
-    → offset + n < 2 ^ 64
+pub take_fits : (offset limit item len n : ℕ) → offset + 8 * (limit - item) ≤ len → item < limit → n ≤ 9 → len < 2 ^ 64
+    → offset + (n - 1) < 2 ^ 64
 take_fits offset limit item len n h l f b = omega arith
 
 module _ (plan images : List ℕ) (items room had : ℕ) (d₀ : List ℕ) (here : RowCursor) (t : Stands plan images items here) (d : List ℕ)

@@ -15,6 +15,8 @@ use Rattle.wire.proofs.Outcomes.{after_after}
 use Rattle.wire.proofs.Stores.{store_full}
 use Rattle.value.specs.declared.datum.Value.{Value}
 use Rattle.value.specs.declared.datum.Value.TheVariants.{Null, Int, Uint, Float, Double, Year, Bytes}
+use Rattle.temporal.specs.declared.parts.Temporal.{Temporal}
+use Rattle.value_parts.specs.Parts.{sort_of}
 use Rattle.value.specs.Ops.{shape_for}
 use Rattle.value.specs.Reading.{datum_of}
 use Rattle.value.specs.Storing.{stored_bytes, write_value}
@@ -28,7 +30,33 @@ use Rattle.row_plan.specs.Plan.{item_count, item_at, plan_slots}
 use Rattle.row_plan.specs.Puts.{item_cursor, plan_put}
 use Rattle.row_plan.proofs.Goes.{slots_at_lem, slots_over}
 
--- ---- which values are NULL
+-- ---- which values are NULL, by their sort
+pub null_sort : (lent : List ℕ) (v : Value) → sort_of v ≡ 1 → is_null (datum_of lent v) ≡ true
+unfolding is_null datum_of sort_of
+null_sort lent Null e = refl
+null_sort lent (Int z) e = absurd (omega arith)
+null_sort lent (Uint n) e = absurd (omega arith)
+null_sort lent (Float n) e = absurd (omega arith)
+null_sort lent (Double n) e = absurd (omega arith)
+null_sort lent (Year n) e = absurd (omega arith)
+null_sort lent (Value.Temporal (Temporal.Seconds s)) e = absurd (omega arith)
+null_sort lent (Value.Temporal (Temporal.Date d)) e = absurd (omega arith)
+null_sort lent (Value.Temporal (Temporal.Datetime m)) e = absurd (omega arith)
+null_sort lent (Value.Temporal (Temporal.Time t)) e = absurd (omega arith)
+null_sort lent (Bytes p) e = absurd (omega arith)
+
+pub other_sort : (lent : List ℕ) (v : Value) → (sort_of v ≡ 1 → ⊥) → is_null (datum_of lent v) ≡ false
+unfolding is_null datum_of sort_of
+other_sort lent Null n = absurd (n refl)
+other_sort lent (Int z) n = refl
+other_sort lent (Uint m) n = refl
+other_sort lent (Float m) n = refl
+other_sort lent (Double m) n = refl
+other_sort lent (Year m) n = refl
+other_sort lent (Value.Temporal t) n = refl
+other_sort lent (Bytes p) n = refl
+
+-- ---- and by themselves
 pub null_is : (lent : List ℕ) (v : Value) → v ≡ Null → is_null (datum_of lent v) ≡ true
 unfolding is_null datum_of
 null_is lent v e = rw e

@@ -1,21 +1,21 @@
 // Integers and temporals read fast, out of the eight bytes that stand from a value's start on: each reader judges the parts and then fills the
 // value's slot of numbers itself. What it does not take it leaves, with the slot as it was: a value out of its range, and every other op. Then
-// the value is read as everywhere, which tells the refusal. Each way to store a value has an arm of its own, so that all widths in it are
-// constants: a reader that makes its width of the digits is compiled once for all, and tests it again.
+// the value is read as everywhere, which tells the refusal. Each op has an arm of its own, so that all widths in it are constants.
 ghost use Rattle.std.specs.Prelude.{◌≡◌, ◌-◌, ◌*◌, ◌/◌, ◌≤◌, ◌<◌, ◌^◌, take};
 ghost use Rattle.wire.specs.Number.{le_value};
 ghost use Rattle.temporal.specs.declared.storage.Storage.TheVariants.{Newdate, Timestamp2, Datetime2, Time2};
-ghost use Rattle.temporal.specs.Fraction.{unit_of};
+ghost use Rattle.temporal.specs.Fraction.{fraction_bytes, unit_of};
 ghost use Rattle.temporal.specs.Ranges.{in_clock};
 ghost use Rattle.value.specs.declared.shape.Shape.TheVariants.{Unsigned, Signed, YearByte, Timed};
 ghost use Rattle.value.specs.Years.{year_of};
 ghost use Rattle.value.specs.Ops.{shape_for};
-ghost use Rattle.row_plan.specs.Inner.Fast.{Took, TookTimed};
+ghost use Rattle.row_plan.specs.Inner.Fast.{Took};
 
 use crate::numbers::{IntegerWidth, Numbers, one};
 use value_parts::sort::{DATE, DATETIME, INT, SECONDS, TIME, UINT, YEAR};
 
 // The number of the first of the eight bytes, the least significant first.
+#[tactic(auto, using(wire::proofs::Eight::le_eight))]
 fn low(width: IntegerWidth, bytes: &[u8; 8]) -> u64
     ensures { (result ≡ le_value (take width.bytes bytes.now)) × (result < 256 ^ width.bytes) }
 {
@@ -86,15 +86,22 @@ struct FractionWidth {
 }
 
 impl FractionWidth {
-    const NONE: FractionWidth = FractionWidth { bytes: 0 };
-
-    const ONE: FractionWidth = FractionWidth { bytes: 1 };
-
-    const TWO: FractionWidth = FractionWidth { bytes: 2 };
-
-    const THREE: FractionWidth = FractionWidth { bytes: 3 };
+    // Of a column that declares so many digits.
+    #[tactic(auto, using(wire::proofs::Rules::tests), unfolding(temporal::specs::Fraction::fraction_bytes))]
+    fn of_digits(digits: u8) -> FractionWidth
+        ensures { result.bytes ≡ fraction_bytes digits }
+    {
+        let bytes = match digits {
+            0 => 0,
+            1..=2 => 1,
+            3..=4 => 2,
+            _ => 3,
+        };
+        FractionWidth { bytes }
+    }
 
     // The microseconds of a fraction that is the first of the three bytes of n.
+    #[tactic(auto, unfolding(temporal::specs::Fraction::unit_of))]
     fn micros(self, n: u64) -> u64
         requires { n < 256 ^ 3 }
         ensures { result ≡ n / 256 ^ (3 - self.bytes) * unit_of self.bytes }
@@ -127,9 +134,10 @@ fn is_clock(top: u64, h: u64, m: u64, s: u64, u: u64) -> bool
     h <= top && m <= 59 && s <= 59 && u <= 999_999
 }
 
-fn take_seconds(width: FractionWidth, bytes: &[u8; 8], slot: &mut Numbers) -> Option<usize>
-    ensures { TookTimed Timestamp2 width.bytes bytes.now slot.old slot.new result }
+fn take_seconds(digits: u8, bytes: &[u8; 8], slot: &mut Numbers) -> Option<usize>
+    ensures { Took (Timed (Timestamp2 digits)) bytes.now slot.old slot.new result }
 {
+    let width = FractionWidth::of_digits(digits);
     let x = u64::from_be_bytes(*bytes);
     let usec = width.micros(x / 0x100 % 0x100_0000);
     if 999_999 < usec {
@@ -144,9 +152,10 @@ const DATETIME_OFS: u64 = 1 << 39;
 
 const TIME_OFS: u64 = 1 << 47;
 
-fn take_datetime(width: FractionWidth, bytes: &[u8; 8], slot: &mut Numbers) -> Option<usize>
-    ensures { TookTimed Datetime2 width.bytes bytes.now slot.old slot.new result }
+fn take_datetime(digits: u8, bytes: &[u8; 8], slot: &mut Numbers) -> Option<usize>
+    ensures { Took (Timed (Datetime2 digits)) bytes.now slot.old slot.new result }
 {
+    let width = FractionWidth::of_digits(digits);
     let x = u64::from_be_bytes(*bytes);
     let whole = x / 0x100_0000;
     if whole < DATETIME_OFS {
@@ -180,9 +189,10 @@ fn take_datetime(width: FractionWidth, bytes: &[u8; 8], slot: &mut Numbers) -> O
 }
 
 // Whole part and fraction are one number of six bytes, less its offset: what is behind the fraction counts as zero.
-fn take_time(width: FractionWidth, bytes: &[u8; 8], slot: &mut Numbers) -> Option<usize>
-    ensures { TookTimed Time2 width.bytes bytes.now slot.old slot.new result }
+fn take_time(digits: u8, bytes: &[u8; 8], slot: &mut Numbers) -> Option<usize>
+    ensures { Took (Timed (Time2 digits)) bytes.now slot.old slot.new result }
 {
+    let width = FractionWidth::of_digits(digits);
     let packed = width.kept(u64::from_be_bytes(*bytes) / 0x1_0000);
     let off = packed.abs_diff(TIME_OFS);
     let n = off / 0x100_0000;
@@ -207,6 +217,7 @@ fn take_time(width: FractionWidth, bytes: &[u8; 8], slot: &mut Numbers) -> Optio
 
 // The value of an op: how many bytes it takes, unless it is left. Ops stay numbers: they are the bytes of a plan, which C lends. Each has an arm
 // of its own: for an arm of two ops the compiler makes tests one after the other in place of a jump, which costs a temporal a twelfth.
+#[tactic(auto, using(crate::proofs::FastLaws::at_op), unfolding(value::specs::Ops::shape_for))]
 pub(crate) fn take_op(op: u8, bytes: &[u8; 8], slot: &mut Numbers) -> Option<usize>
     ensures { Took (shape_for op) bytes.now slot.old slot.new result }
 {
@@ -223,27 +234,27 @@ pub(crate) fn take_op(op: u8, bytes: &[u8; 8], slot: &mut Numbers) -> Option<usi
         17 => take_signed(IntegerWidth::EIGHT, bytes, slot),
         20 => take_year(bytes, slot),
         24 => take_date(bytes, slot),
-        25 => take_seconds(FractionWidth::NONE, bytes, slot),
-        26 => take_seconds(FractionWidth::ONE, bytes, slot),
-        27 => take_seconds(FractionWidth::ONE, bytes, slot),
-        28 => take_seconds(FractionWidth::TWO, bytes, slot),
-        29 => take_seconds(FractionWidth::TWO, bytes, slot),
-        30 => take_seconds(FractionWidth::THREE, bytes, slot),
-        31 => take_seconds(FractionWidth::THREE, bytes, slot),
-        32 => take_datetime(FractionWidth::NONE, bytes, slot),
-        33 => take_datetime(FractionWidth::ONE, bytes, slot),
-        34 => take_datetime(FractionWidth::ONE, bytes, slot),
-        35 => take_datetime(FractionWidth::TWO, bytes, slot),
-        36 => take_datetime(FractionWidth::TWO, bytes, slot),
-        37 => take_datetime(FractionWidth::THREE, bytes, slot),
-        38 => take_datetime(FractionWidth::THREE, bytes, slot),
-        39 => take_time(FractionWidth::NONE, bytes, slot),
-        40 => take_time(FractionWidth::ONE, bytes, slot),
-        41 => take_time(FractionWidth::ONE, bytes, slot),
-        42 => take_time(FractionWidth::TWO, bytes, slot),
-        43 => take_time(FractionWidth::TWO, bytes, slot),
-        44 => take_time(FractionWidth::THREE, bytes, slot),
-        45 => take_time(FractionWidth::THREE, bytes, slot),
+        25 => take_seconds(0, bytes, slot),
+        26 => take_seconds(1, bytes, slot),
+        27 => take_seconds(2, bytes, slot),
+        28 => take_seconds(3, bytes, slot),
+        29 => take_seconds(4, bytes, slot),
+        30 => take_seconds(5, bytes, slot),
+        31 => take_seconds(6, bytes, slot),
+        32 => take_datetime(0, bytes, slot),
+        33 => take_datetime(1, bytes, slot),
+        34 => take_datetime(2, bytes, slot),
+        35 => take_datetime(3, bytes, slot),
+        36 => take_datetime(4, bytes, slot),
+        37 => take_datetime(5, bytes, slot),
+        38 => take_datetime(6, bytes, slot),
+        39 => take_time(0, bytes, slot),
+        40 => take_time(1, bytes, slot),
+        41 => take_time(2, bytes, slot),
+        42 => take_time(3, bytes, slot),
+        43 => take_time(4, bytes, slot),
+        44 => take_time(5, bytes, slot),
+        45 => take_time(6, bytes, slot),
         _ => None,
     }
 }

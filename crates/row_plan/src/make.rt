@@ -13,6 +13,7 @@ use wire::refusal::NO_ROOM;
 pub(crate) const ITEM_BYTES: usize = 3;
 
 // One item, where there is room for it.
+#[tactic(auto, using(wire::proofs::Stores::part_stored), unfolding(wire::specs::Number::le_bytes))]
 fn put_item(op: u8, column: usize, plan: &mut [u8], at: usize)
     requires { at + 3 ≤ length plan.old }
     ensures { plan.new ≡ stored (op ∷ le_bytes 2 column) plan.old at }
@@ -22,6 +23,7 @@ fn put_item(op: u8, column: usize, plan: &mut [u8], at: usize)
 }
 
 // The plan stored at the start of a buffer that has room for it.
+#[tactic(auto, using(crate::proofs::Puts::begin, crate::proofs::Puts::skip, crate::proofs::Puts::has_room, crate::proofs::Puts::put, crate::proofs::Puts::done), unfolding(image::specs::Present::shape_at))]
 fn put_plan(profile: &[u8], presence: &[u8], columns: usize, plan: &mut [u8])
     requires { (columns ≡ count_of profile.now) × (3 * length (present profile.now presence.now) ≤ length plan.old) }
     ensures { plan.new ≡ stored (plan_of profile.now presence.now) plan.old 0 }
@@ -39,6 +41,7 @@ fn put_plan(profile: &[u8], presence: &[u8], columns: usize, plan: &mut [u8])
 
 // Makes the plan of a record and presence bits at the start of a lent buffer: refusals 11 and 12, then 8. It answers how many bytes the plan
 // has, and how many items, one for each present column.
+#[tactic(auto, using(crate::proofs::Makes::make_refused, crate::proofs::Makes::make_full, crate::proofs::Makes::make_done, crate::proofs::Makes::columns_are, crate::proofs::Makes::items_are, crate::proofs::Makes::few_items))]
 pub fn make_plan(
     profile: &[u8],
     presence: &[u8],

@@ -7,7 +7,7 @@ ghost use Rattle.value.specs.declared.shape.Shape.TheVariants.{Unsigned, Signed}
 ghost use Rattle.value.specs.Ops.{shape_for};
 ghost use Rattle.value.specs.Reading.{read_value};
 ghost use Rattle.row_plan.specs.Runs.{value_numbers};
-ghost use Rattle.row_plan.specs.Inner.Numbers.{one_of, integer_in, numbered, start_in};
+ghost use Rattle.row_plan.specs.Inner.Numbers.{one_listed, integer_in, numbered, start_in};
 
 use temporal::Temporal;
 use value::Value;
@@ -51,7 +51,7 @@ impl IntegerWidth {
 
 // The numbers of a value that has one part, or none: then n is 0.
 pub(crate) fn one(sort: u64, n: u64) -> Numbers
-    ensures { result ≡ one_of sort n }
+    ensures { result ≡ one_listed sort n }
 {
     [sort, n, 0, 0, 0, 0, 0, 0]
 }
@@ -150,6 +150,7 @@ fn number_timed(read: Result<(Temporal, usize), Refusal>) -> Result<(Numbers, us
 }
 
 // The numbers of a value of an image that starts at `by` among the images.
+#[tactic(auto, unfolding(crate::specs::Runs::value_numbers))]
 fn value_numbers(value: Value, by: usize) -> Numbers
     requires { by + start_in value < 2 ^ 64 }
     ensures { result ≡ value_numbers by value }
@@ -194,6 +195,7 @@ fn number_value(
 
 // A value of any op, of an image that starts at `by` among the images: integers and temporals by their readers, all others as everywhere. Ops
 // stay numbers: they are the bytes of a plan, which C lends.
+#[tactic(auto, using(crate::proofs::NumberLaws::at_op), unfolding(value::specs::Ops::shape_for))]
 pub(crate) fn number_op(
     op: u8,
     s: &[u8],

@@ -19,6 +19,7 @@ pub struct ItemCursor {
 impl ItemCursor {
     // Stores one value, or nothing for NULL, at this cursor, for its item of the plan, and answers where the next goes. Any plan and any
     // cursor obey the same rule.
+    #[tactic(auto, using(wire::proofs::Rules::tests), unfolding(crate::specs::Puts::plan_put))]
     pub fn put(
         self,
         plan: &[u8],

@@ -17,6 +17,7 @@ pub struct RowCursor {
 }
 
 // The column of the item at a place of the plan: the call of a reader of any width costs 40 instructions here.
+#[tactic(auto, using(crate::proofs::Goes::two))]
 pub(crate) fn column_at(plan: &[u8], at: usize) -> usize
     requires { at + 3 ≤ length plan.now }
     ensures { result ≡ le_value (take 2 (drop (at + 1) plan.now)) }
@@ -26,6 +27,7 @@ pub(crate) fn column_at(plan: &[u8], at: usize) -> usize
 
 impl RowCursor {
     // The next item of the plan from this cursor on. Any plan and any cursor obey the same rule.
+    #[tactic(auto, using(wire::proofs::Rules::tests, crate::proofs::Goes::rest_is), unfolding(crate::specs::Plan::plan_step))]
     pub fn step(self, plan: &[u8], images: &[u8]) -> Result<Step<RowCursor>, Refusal>
         ensures { result ≡ plan_step plan.now images.now self }
     {

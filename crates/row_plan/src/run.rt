@@ -44,6 +44,7 @@ fn put(numbers: Numbers, room: &mut [u64])
 }
 
 // Whether an item is NULL. Its bit is there, so that no item tests that again.
+#[tactic(auto, unfolding(wire::specs::Bits::bit_lsb0))]
 fn is_null(image: &[u8], item: usize) -> bool
     requires { item / 8 < length image.now }
     ensures { result ≡ bit_lsb0 image.now item }
@@ -52,6 +53,7 @@ fn is_null(image: &[u8], item: usize) -> bool
 }
 
 // The numbers of one item, in an image that starts at `by`.
+#[tactic(auto, using(crate::proofs::RunLaws::item_null, crate::proofs::RunLaws::item_read), unfolding(crate::specs::Runs::value_numbers))]
 fn number_item(
     plan: &[u8],
     image: &[u8],
@@ -72,6 +74,7 @@ fn number_item(
 }
 
 // The value of one item: how many bytes it takes, NULL none, unless it is left.
+#[tactic(auto, using(crate::proofs::RunLaws::took_null, crate::proofs::RunLaws::took_read))]
 fn take_item(
     plan: &[u8],
     image: &[u8],
@@ -231,6 +234,7 @@ fn is_over(c: RowCursor, images: &[u8]) -> bool
 }
 
 // The tests before the values of an image: refusals 14 and 9.
+#[tactic(auto, using(wire::proofs::Rules::tests), unfolding(crate::specs::Inner::Paused::row_gate))]
 fn test_image(c: RowCursor, items: usize, images: &[u8]) -> Result<(), Refusal>
     ensures { result ≡ row_gate items (length images.now - c.start) c }
 {
@@ -261,6 +265,7 @@ impl RowCursor {
     // Stores as many values as out holds, each as its sort and seven parts, from this cursor on, through images laid end to end. It stops
     // at the room, at the end of the images, or before a value that is refused; it refuses only if that is the first. It answers how many
     // values were stored, and the cursor of the next.
+    #[tactic(auto, using(crate::proofs::ReadLaws::read_stands, crate::proofs::ReadLaws::read_enter, crate::proofs::ReadLaws::told_full))]
     pub fn read(
         self,
         plan: &[u8],

@@ -2,10 +2,7 @@
 use Rattle.std.specs.Prelude.{ℕ, ◌+◌, ◌≤◌, ◌≡◌, List, length, take, drop, Option, Some, None}
 use Rattle.wire.specs.Number.{Bytes}
 use Rattle.wire.specs.Outcome.{ok}
-use Rattle.temporal.specs.declared.storage.Storage.{Storage}
-use Rattle.temporal.specs.Fraction.{fraction_bytes}
 use Rattle.value.specs.declared.shape.Shape.{Shape}
-use Rattle.value.specs.declared.shape.Shape.TheVariants.{Timed}
 use Rattle.value.specs.Reading.{read_value}
 use Rattle.row_plan.specs.Inner.Numbers.{numbered, item_numbers}
 
@@ -19,10 +16,6 @@ pub record Reads (sh : Shape) (eight : List ℕ) (n : ℕ) (numbers : List ℕ) 
 abbrev pub Took : Shape → List ℕ → List ℕ → List ℕ → Option ℕ → Type 0
 Took sh eight slot exit (Some n) = Reads sh eight n exit
 Took sh eight slot exit None = exit ≡ slot
-
--- the same of a temporal whose fraction has w bytes, however many digits its column declares
-abbrev pub TookTimed : (ℕ → Storage) → ℕ → List ℕ → List ℕ → List ℕ → Option ℕ → Type 0
-TookTimed kind w eight slot exit n = (m0 : ℕ) → w ≡ fraction_bytes m0 → Took (Timed (kind m0)) eight slot exit n
 
 -- the same of an item of a plan, from an offset of an image on
 pub record ReadsItem (plan image : List ℕ) (item offset n : ℕ) (numbers : List ℕ) : Type 0 where

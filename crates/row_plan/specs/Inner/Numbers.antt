@@ -10,8 +10,8 @@ use Rattle.value.specs.Reading.{read_value}
 use Rattle.row_plan.specs.Runs.{value_numbers}
 
 -- the numbers of a value that has one part
-abbrev pub one_of : ℕ → ℕ → List ℕ
-one_of sort n = sort ∷ (n ∷ (0 ∷ (0 ∷ (0 ∷ (0 ∷ (0 ∷ (0 ∷ [])))))))
+abbrev pub one_listed : ℕ → ℕ → List ℕ
+one_listed sort n = sort ∷ (n ∷ (0 ∷ (0 ∷ (0 ∷ (0 ∷ (0 ∷ (0 ∷ [])))))))
 
 -- the number of k bytes and the place after them, or refusal 9 at `place`
 abbrev pub integer_in : ℕ → List ℕ → ℕ → ℕ → Outcome (ℕ × ℕ)

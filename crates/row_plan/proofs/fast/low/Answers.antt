@@ -1,12 +1,9 @@
 -- `row_plan::fast::low` meets its contract. Assumes nothing.
-use Prim.Native.Nat.{ℕ, ◌<◌, ◌^◌}
-use mathlib.Core.Path.{sym, ap, subst, ◌∙◌}
+use mathlib.Core.Path.{sym, ap, ◌∙◌}
 use native.Mathlib.Omega.{arith}
-use lib.ListN.{take}
 use lib.Seq.{take_all}
 use Rattle.wire.specs.Number.{le_value}
 use Rattle.wire.proofs.Eight.{le_eight}
-use Rattle.value.proofs.Readers.{narrow}
 use Rattle.row_plan.proofs.EightLaws.{low1, low2, low3, low4}
 use Rattle.row_plan.proofs.fast.low.Goals as goal
 
@@ -34,10 +31,3 @@ pub returns-in-8 : goal.returns-in-8
 returns-in-8 c = let a = c.args in
     let e = c.from_le_bytes-x.ensures ∙ le_eight a.bytes.now c.told-bytes ∙ ap le_value (sym (take_all 8 a.bytes.now (omega (arith, c.told-bytes)))) in
     rw c.in-8.is (e, c.from_le_bytes-x.type_inv)
-
-pub returns-in_default : goal.returns-in_default
-returns-in_default c = let a = c.args in
-    let n = narrow a.width.bytes a.width.few in (
-      c.read_le.ensures.value ∙ ap (λ (j : ℕ). le_value (take j a.bytes.now)) n,
-      subst (λ (j : ℕ). c.read_le.result < 256 ^ j) n c.read_le.ensures.upper_bound,
-    )

@@ -7,6 +7,6 @@ use Rattle.row_plan.proofs.FastLaws.{took_seconds}
 use Rattle.row_plan.proofs.fast.take_seconds.Goals as goal
 
 pub returns : goal.returns
-returns c = λ m0 e.
-    took_seconds m0 c.args.width.bytes (e, c.args.width.few) _ (c.from_be_bytes-x.ensures ∙ be_eight _ (search rules)) _ c.micros-usec.ensures
+returns c = let w = c.of_digits-width in
+    took_seconds c.args.digits w.result.bytes (w.ensures, w.result.few) _ (c.from_be_bytes-x.ensures ∙ be_eight _ (search rules)) _ c.micros-usec.ensures
     (omega (arith, c.if-usec-gt999999.false)) refl

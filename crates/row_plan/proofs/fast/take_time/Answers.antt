@@ -9,7 +9,7 @@ use Rattle.row_plan.proofs.FastLaws.{took_time}
 use Rattle.row_plan.proofs.fast.take_time.Goals as goal
 
 pub returns : goal.returns
-returns c = λ m0 e.
-    took_time m0 c.args.width.bytes (e, c.args.width.few) _ (c.from_be_bytes.ensures ∙ be_eight _ (search rules)) _ _ _ _ _ c.kept-packed.ensures
+returns c = let w = c.of_digits-width in
+    took_time c.args.digits w.result.bytes (w.ensures, w.result.few) _ (c.from_be_bytes.ensures ∙ be_eight _ (search rules)) _ _ _ _ _ c.kept-packed.ensures
     c.abs_diff-off.ensures refl c.micros-usec.ensures (sym c.is_clock.ensures ∙ c.if-not-is_clock.false)
     (c.from.ensures ∙ as_number (ltb c.kept-packed.result (2 ^ 47))) refl

@@ -1,24 +1,15 @@
 use mathlib.Core.Path.{sym, ap, ◌∙◌}
-use native.Mathlib.Omega.{arith}
 use Rattle.value.specs.Columns.{shape_of}
 use Rattle.value.specs.Ops.{op_of}
 use Rattle.record.specs.Entries.{column_of}
 use Rattle.image.specs.Present.{shape_at}
-use Rattle.row_plan.proofs.Puts.{begin, skip, has_room, put, done}
+use Rattle.row_plan.proofs.Puts.{skip, put}
 use Rattle.row_plan.proofs.make.put_plan.Goals as goal
-
-pub loop-column-init : goal.loop-column-init
-loop-column-init c = begin _ _ _ _ c.requires.0 c.requires.1
 
 pub loop-column-preserved-then-not-bit_lsb0 : goal.loop-column-preserved-then-not-bit_lsb0
 loop-column-preserved-then-not-bit_lsb0 c = let a = c.args in
     skip a.profile.now a.presence.now a.columns _ _ c.loop-column.at c.loop-column.column c.loop-column.invariant c.loop-column-test.true
     (sym c.bit_lsb0.ensures ∙ c.if-not-bit_lsb0.true)
-
-pub put_item-requires : goal.put_item-requires
-put_item-requires c = let a = c.args in
-    has_room a.profile.now a.presence.now a.columns _ _ c.loop-column.at c.loop-column.column c.loop-column.invariant c.loop-column-test.true
-    (sym c.bit_lsb0.ensures ∙ c.if-not-bit_lsb0.false)
 
 pub loop-column-preserved : goal.loop-column-preserved
 unfolding shape_at
@@ -27,7 +18,3 @@ loop-column-preserved c = let a = c.args in
     (sym c.bit_lsb0.ensures ∙ c.if-not-bit_lsb0.false)
     (c.op_of.ensures ∙ ap op_of (c.shape_of.ensures ∙ ap shape_of (c.column_of-stored.ensures ∙ ap column_of c.entry_in.ensures)))
     c.put_item.ensures
-
-pub returns : goal.returns
-returns c = let a = c.args in
-    done a.profile.now a.presence.now a.columns _ _ c.loop-column.at _ c.loop-column.invariant (omega (arith, c.loop-column-test.false))

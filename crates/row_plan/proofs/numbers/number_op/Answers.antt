@@ -8,66 +8,6 @@ use Rattle.value.proofs.Ops.{at_timestamp, at_datetime, at_time}
 use Rattle.row_plan.proofs.NumberLaws.{at_op, at_shape, timed_told}
 use Rattle.row_plan.proofs.numbers.number_op.Goals as goal
 
-pub returns-in-2 : goal.returns-in-2
-unfolding shape_for
-returns-in-2 c =
-    let a = c.args in
-    c.number_unsigned.ensures a.by ∙ sym (at_op a.by a.place a.s.now a.at c.in-2.is)
-
-pub returns-in-3 : goal.returns-in-3
-unfolding shape_for
-returns-in-3 c =
-    let a = c.args in
-    c.number_unsigned-in-3.ensures a.by ∙ sym (at_op a.by a.place a.s.now a.at c.in-3.is)
-
-pub returns-in-4 : goal.returns-in-4
-unfolding shape_for
-returns-in-4 c =
-    let a = c.args in
-    c.number_unsigned-in-4.ensures a.by ∙ sym (at_op a.by a.place a.s.now a.at c.in-4.is)
-
-pub returns-in-5 : goal.returns-in-5
-unfolding shape_for
-returns-in-5 c =
-    let a = c.args in
-    c.number_unsigned-in-5.ensures a.by ∙ sym (at_op a.by a.place a.s.now a.at c.in-5.is)
-
-pub returns-in-9 : goal.returns-in-9
-unfolding shape_for
-returns-in-9 c =
-    let a = c.args in
-    c.number_unsigned-in-9.ensures a.by ∙ sym (at_op a.by a.place a.s.now a.at c.in-9.is)
-
-pub returns-in-10 : goal.returns-in-10
-unfolding shape_for
-returns-in-10 c =
-    let a = c.args in
-    c.number_signed.ensures a.by ∙ sym (at_op a.by a.place a.s.now a.at c.in-10.is)
-
-pub returns-in-11 : goal.returns-in-11
-unfolding shape_for
-returns-in-11 c =
-    let a = c.args in
-    c.number_signed-in-11.ensures a.by ∙ sym (at_op a.by a.place a.s.now a.at c.in-11.is)
-
-pub returns-in-12 : goal.returns-in-12
-unfolding shape_for
-returns-in-12 c =
-    let a = c.args in
-    c.number_signed-in-12.ensures a.by ∙ sym (at_op a.by a.place a.s.now a.at c.in-12.is)
-
-pub returns-in-13 : goal.returns-in-13
-unfolding shape_for
-returns-in-13 c =
-    let a = c.args in
-    c.number_signed-in-13.ensures a.by ∙ sym (at_op a.by a.place a.s.now a.at c.in-13.is)
-
-pub returns-in-17 : goal.returns-in-17
-unfolding shape_for
-returns-in-17 c =
-    let a = c.args in
-    c.number_signed-in-17.ensures a.by ∙ sym (at_op a.by a.place a.s.now a.at c.in-17.is)
-
 pub returns-in-24 : goal.returns-in-24
 unfolding shape_for
 returns-in-24 c =

@@ -1,11 +1,7 @@
 -- `row_plan::numbers::number_value` meets its contract. Assumes nothing.
-use Prim.Native.Nat.{ℕ}
-use mathlib.Core.Path.{sym, ap, ◌∙◌}
-use mathlib.Core.List.{List}
+use mathlib.Core.Path.{sym}
 use native.Mathlib.Omega.{arith}
-use Rattle.wire.specs.Outcome.{ok}
 use Rattle.value.specs.Ops.{shape_for}
-use Rattle.row_plan.specs.Inner.Numbers.{numbered}
 use Rattle.row_plan.proofs.NumberLaws.{value_inside}
 use Rattle.row_plan.proofs.numbers.number_value.Goals as goal
 
@@ -14,9 +10,3 @@ value_numbers-requires c =
     let a = c.args in
     let i = value_inside (shape_for a.op) a.place a.s.now a.at _ (omega arith) (sym c.in_ok-value.ensures) in
     omega (arith, i.start)
-
-pub returns : goal.returns
-returns c =
-    let a = c.args in
-    ap (λ (ns : List ℕ). ok (ns, c.in_ok-value.next)) c.value_numbers.ensures
-    ∙ ap (numbered a.by) c.in_ok-value.ensures

@@ -2,25 +2,13 @@ use Prim.Native.Nat.{ℕ}
 use mathlib.Core.Path.{refl, sym, ap, ◌∙◌}
 use mathlib.Core.List.{List}
 use native.Mathlib.Omega.{arith}
-use Rattle.wire.specs.Outcome.{Outcome, refused}
+use Rattle.wire.specs.Outcome.{Outcome}
 use Rattle.wire.specs.Stored.{answer_of, left_of}
 use Rattle.row_plan.specs.declared.row.RowCursor.{RowCursor}
 use Rattle.row_plan.specs.Inner.Paused.{run_past}
-use Rattle.row_plan.proofs.ReadLaws.{read_begin, read_full, read_over, read_refused, read_end, read_stands, read_enter}
-use Rattle.row_plan.proofs.ReadLaws.{told_ran, told_stopped, left_stopped, told_full}
+use Rattle.row_plan.proofs.ReadLaws.{read_full, read_over, read_refused, read_end, read_enter}
+use Rattle.row_plan.proofs.ReadLaws.{told_ran, told_stopped, left_stopped}
 use Rattle.row_plan.proofs.row.RowCursor.read.Goals as goal
-
-pub returns-then-out-lt-VALUE_NUMBERS : goal.returns-then-out-lt-VALUE_NUMBERS
-returns-then-out-lt-VALUE_NUMBERS c =
-    let a = c.args in
-    let m = told_full a.plan.now a.images.now a.self a.out.now c.if-out-lt-VALUE_NUMBERS.true in
-    record { result_value = ap refused c.refuse.ensures ∙ sym (ap answer_of m); out_after = sym (ap (λ (x : Outcome ((ℕ × RowCursor) × List ℕ)). left_of x a.out.now) m) }
-
-pub loop-values-init : goal.loop-values-init
-loop-values-init c = let a = c.args in read_begin a.plan.now a.images.now _ a.out.now a.self
-
-pub shape_of-out-then-is_over : goal.shape_of-out-then-is_over
-shape_of-out-then-is_over c = c.loop-values.invariant.same
 
 pub returns-then-is_over : goal.returns-then-is_over
 returns-then-is_over c =
@@ -30,9 +18,6 @@ returns-then-is_over c =
     c.loop-values-test.true c.turned-here.ensures o in
     let m = told_ran a.plan.now a.images.now a.self a.out.now _ refl (omega arith) _ _ _ g in
     record { result_value = sym (ap answer_of m); out_after = sym (ap (λ (x : Outcome ((ℕ × RowCursor) × List ℕ)). left_of x a.out.now) m) }
-
-pub shape_of-out-in-Err : goal.shape_of-out-in-Err
-shape_of-out-in-Err c = c.loop-values.invariant.same
 
 pub returns-in-Err : goal.returns-in-Err
 returns-in-Err c =
@@ -59,19 +44,6 @@ returns-then-here-items c =
     let m = told_ran a.plan.now a.images.now a.self a.out.now _ refl (omega arith) _ _ _ g in
     record { result_value = sym (ap answer_of m); out_after = sym (ap (λ (x : Outcome ((ℕ × RowCursor) × List ℕ)). left_of x a.out.now) m) }
 
-pub run_image-paused-requires : goal.run_image-paused-requires
-run_image-paused-requires c =
-    let a = c.args
-    in
-    let o = sym c.is_over.ensures
-    ∙ c.if-is_over.false in
-    record {
-      stands = read_stands a.plan.now a.images.now _ a.out.now a.self c.loop-values.out c.loop-values.at c.loop-values.values c.loop-values.invariant
-          c.loop-values-test.true
-          c.turned-here.ensures o (sym c.in_default.ensures) _ refl c.if-here-items.false;
-      had_lt_room = (c.loop-values-test.true, omega (arith, c.loop-values.invariant.same));
-    }
-
 pub returns-in-Err-stop : goal.returns-in-Err-stop
 returns-in-Err-stop c =
     let a = c.args in
@@ -83,20 +55,6 @@ returns-in-Err-stop c =
       result_value = c.stopped-in-Err-stop.ensures ∙ told_stopped a.plan.now a.images.now a.self a.out.now _ refl
           (omega arith) _ _ _ _ g;
       out_after = left_stopped a.plan.now a.images.now a.self a.out.now _ refl (omega arith) _ _ _ _ g;
-    }
-
-pub loop-values-preserved : goal.loop-values-preserved
-loop-values-preserved c =
-    let a = c.args in
-    let o = sym c.is_over.ensures ∙ c.if-is_over.false in
-    let p = sym (ap (run_past _ a.plan.now a.images.now _ _ _) c.in_default-stop.is)
-    ∙ c.run_image-paused.ensures.result_after in
-    record {
-      most = c.run_image-paused.ensures.further.most;
-      same = c.run_image-paused.auto.out ∙ c.loop-values.invariant.same;
-      goes = p
-          ∙ read_enter a.plan.now a.images.now _ a.out.now a.self c.loop-values.out c.loop-values.at c.loop-values.values c.loop-values.invariant
-          c.loop-values-test.true c.turned-here.ensures o (sym c.in_default.ensures) c.if-here-items.false;
     }
 
 pub returns : goal.returns

@@ -1,30 +1,8 @@
-use mathlib.Core.Path.{sym, ap, ◌∙◌}
+use mathlib.Core.Path.{sym, ◌∙◌}
 use native.Mathlib.Omega.{arith}
 use Rattle.std.proofs.lemmas.Result.{err_from_is_err_and}
-use Rattle.wire.specs.Outcome.{refused}
-use Rattle.row_plan.proofs.Goes.{row_none, row_short, row_past, row_end, row_null, row_read, rest_is}
+use Rattle.row_plan.proofs.Goes.{row_null, row_read, rest_is}
 use Rattle.row_plan.proofs.row.RowCursor.step.Goals as goal
-
-pub returns-then-items-item : goal.returns-then-items-item
-returns-then-items-item c = let a = c.args in ap refused c.refuse.ensures
-    ∙ sym (row_none a.plan.now a.images.now a.self (omega arith))
-
-pub returns-then-image-bytes_for : goal.returns-then-image-bytes_for
-returns-then-image-bytes_for c = let a = c.args in let s = a.self in
-    let i = rest_is a.images.now s.start _ c.min.ensures in ap refused c.refuse-then-image-bytes_for.ensures
-    ∙ sym (row_short a.plan.now a.images.now s i (omega arith) (omega (arith, c.bytes_for.ensures)))
-
-pub returns-then-image-offset : goal.returns-then-image-offset
-returns-then-image-offset c = let a = c.args in let s = a.self in
-    let i = rest_is a.images.now s.start _ c.min.ensures in
-    ap refused c.refuse-then-image-offset.ensures ∙ sym (row_past a.plan.now a.images.now s i (omega arith) (omega
-    (arith, c.bytes_for.ensures)) (omega arith))
-
-pub returns-then-item-items : goal.returns-then-item-items
-returns-then-item-items c = let a = c.args in let s = a.self in
-    let i = rest_is a.images.now s.start _ c.min.ensures in
-    sym (row_end a.plan.now a.images.now s i (omega arith) (omega (arith, c.bytes_for.ensures))
-    (omega arith) c.if-item-items.true)
 
 pub returns-then-bit_lsb0 : goal.returns-then-bit_lsb0
 returns-then-bit_lsb0 c = let a = c.args in
