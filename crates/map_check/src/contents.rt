@@ -48,6 +48,7 @@ fn items_held<I: ListItem, F: Fn(I) -> bool>(value: &[u8], holds: F) -> Option<u
 {
     let mut at: usize = 0;
     let mut count: usize = 0;
+    // a walk: the place is moved by what is read, and a refusal is no end
     loop {
         match next_item(value, at) {
             Ok(Some((item, next))) => {
@@ -92,6 +93,7 @@ fn pairs_hold(value: &[u8], start: usize, size: Rank) -> bool
     let above = size.0 as u64;
     let mut at = start;
     let mut low: u64 = 0;
+    // a walk, as above; each pair is judged by the one before it, so it is not one of items_held
     loop {
         match next_item::<(u64, u64)>(value, at) {
             Ok(Some(((rank, charset), next))) => {
@@ -128,24 +130,18 @@ fn default_holds(value: &[u8], size: Rank) -> bool
 pub(crate) fn contents_full(sizes: Ranks, columns: TablePlace, kind: u8, value: &[u8]) -> bool
     ensures { result ≡ contents_full sizes columns.0 kind value.now }
 {
-    let character = sizes.character;
-    let choice = sizes.choice;
-    let set = sizes.set;
-    let enumeration = sizes.enumeration;
-    let geometry = sizes.geometry;
-    let vector = sizes.vector;
     match kind {
-        DEFAULT_CHARSET => default_holds(value, character),
-        COLUMN_CHARSET => integers_hold(value, Meaning::Charset, character),
+        DEFAULT_CHARSET => default_holds(value, sizes.character),
+        COLUMN_CHARSET => integers_hold(value, Meaning::Charset, sizes.character),
         COLUMN_NAME => strings_hold(value, columns),
-        SET_STR_VALUE => groups_hold(value, set),
-        ENUM_STR_VALUE => groups_hold(value, enumeration),
-        GEOMETRY_TYPE => integers_hold(value, Meaning::GeometryType, geometry),
+        SET_STR_VALUE => groups_hold(value, sizes.set),
+        ENUM_STR_VALUE => groups_hold(value, sizes.enumeration),
+        GEOMETRY_TYPE => integers_hold(value, Meaning::GeometryType, sizes.geometry),
         SIMPLE_PRIMARY_KEY => keys_below(value, false, columns),
         PRIMARY_KEY_WITH_PREFIX => keys_below(value, true, columns),
-        ENUM_AND_SET_DEFAULT_CHARSET => default_holds(value, choice),
-        ENUM_AND_SET_COLUMN_CHARSET => integers_hold(value, Meaning::Charset, choice),
-        VECTOR_DIMENSIONALITY => integers_hold(value, Meaning::Dimension, vector),
+        ENUM_AND_SET_DEFAULT_CHARSET => default_holds(value, sizes.choice),
+        ENUM_AND_SET_COLUMN_CHARSET => integers_hold(value, Meaning::Charset, sizes.choice),
+        VECTOR_DIMENSIONALITY => integers_hold(value, Meaning::Dimension, sizes.vector),
         _ => true,
     }
 }

@@ -51,24 +51,25 @@ fn stands_given(
 fn kept_of(bits: Part, places: [Option<Part>; 14]) -> KeptFields
     ensures { result ≡ kept_by bits (λ k. get_or places k None) }
 {
+    let of = |kind: u8| places[usize::from(kind)];
     let characters = Charsets {
-        default: places[DEFAULT_CHARSET as usize],
-        list: places[COLUMN_CHARSET as usize],
+        default: of(DEFAULT_CHARSET),
+        list: of(COLUMN_CHARSET),
     };
     let choices = Charsets {
-        default: places[ENUM_AND_SET_DEFAULT_CHARSET as usize],
-        list: places[ENUM_AND_SET_COLUMN_CHARSET as usize],
+        default: of(ENUM_AND_SET_DEFAULT_CHARSET),
+        list: of(ENUM_AND_SET_COLUMN_CHARSET),
     };
     let facts = Facts {
         bits,
-        signs: places[SIGNEDNESS as usize],
-        visibility: places[COLUMN_VISIBILITY as usize],
+        signs: of(SIGNEDNESS),
+        visibility: of(COLUMN_VISIBILITY),
         characters,
         choices,
     };
     KeptFields {
-        simple: places[SIMPLE_PRIMARY_KEY as usize],
-        prefixed: places[PRIMARY_KEY_WITH_PREFIX as usize],
+        simple: of(SIMPLE_PRIMARY_KEY),
+        prefixed: of(PRIMARY_KEY_WITH_PREFIX),
         facts,
     }
 }

@@ -28,6 +28,7 @@ pub(crate) fn keys_below(value: &[u8], paired: bool, columns: TablePlace) -> boo
 {
     let above = columns.0 as u64;
     let mut at: usize = 0;
+    // a walk: the place is moved by what is read
     while at < value.len() {
         let Ok((key, next)) = key_at(value, paired, at) else {
             return false;

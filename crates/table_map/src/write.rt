@@ -166,6 +166,8 @@ impl<'a> Parts<'a> {
     }
 }
 
+// ---- one for each of wire's writers, where there is room: none is refused, and each hands back the place after what it wrote
+
 fn put_le(k: usize, v: u64, buf: &mut [u8], at: usize) -> usize
     requires { (k ≤ 8) × (at + k ≤ length buf.old) }
     ensures { PutAt buf.old at (le_bytes k v) buf.new result }
