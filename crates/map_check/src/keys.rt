@@ -50,20 +50,23 @@ fn keys_once(value: &[u8], paired: bool, start: usize) -> Result<(), Refusal>
     requires { start + length value.now < 2 ^ 64 }
     ensures { result ≡ keys_once start [] (keys_from paired value.now 0) }
 {
+    let mut answer = Ok(());
     let mut later: usize = 0;
-    while let Ok((key, next)) = key_at(value, paired, later) {
+    // Nested loops over the items, left by a label at the first repetition: document 01 names this form.
+    'later: while let Ok((key, next)) = key_at(value, paired, later) {
         let mut earlier: usize = 0;
         while earlier < later {
             // not refused: it was read before, as the later item
             let (other, behind) = key_at(value, paired, earlier)?;
             if other == key {
-                return Err(refuse(BAD_FIELD, start + later));
+                answer = Err(refuse(BAD_FIELD, start + later));
+                break 'later;
             }
             earlier = behind;
         }
         later = next;
     }
-    Ok(())
+    answer
 }
 
 // The keys of a field, if it stands.

@@ -3,5 +3,6 @@ use mathlib.Core.Path.{sym}
 use Rattle.map_check.proofs.KeyLaws.Repeats.{reached_next}
 use Rattle.map_check.proofs.keys.keys_once.Goals as goal
 
-pub loop-key-preserved : goal.loop-key-preserved
-loop-key-preserved c = reached_next c.loop-earlier.invariant c.loop-earlier-test.false (sym c.in-Ok.ensures)
+pub later-preserved : goal.later-preserved
+later-preserved c =
+    (c.loop-earlier.invariant.0, reached_next c.loop-earlier.invariant.1 c.loop-earlier-test.false (sym c.in-Ok.ensures))
