@@ -59,6 +59,7 @@ fn end_of(left: usize) -> u8
     if left == 0 { b'\n' } else { b' ' }
 }
 
+#[tactic(auto, using(crate::proofs::Lines::none_left, crate::proofs::Lines::line_end))]
 fn put_line(numbers: &[u64], out: &mut [u8], at: usize) -> usize
     requires { at + length (line numbers.now) ≤ length out.old }
     ensures value { result ≡ at + length (line numbers.now) }
@@ -72,6 +73,7 @@ fn put_line(numbers: &[u64], out: &mut [u8], at: usize) -> usize
     next
 }
 
+#[tactic(auto, using(crate::proofs::Lines::refusal_short, crate::proofs::Lines::both, io::proofs::Counting::prefix_len_of_le), unfolding(crate::specs::Text::refused_line))]
 fn put_refusal(refusal: Refusal, out: &mut [u8]) -> Text
     requires { 64 ≤ length out.old }
     ensures value { result ≡ record { len = length (refused_line refusal); is_refusal = true } }
@@ -87,6 +89,7 @@ fn put_refusal(refusal: Refusal, out: &mut [u8]) -> Text
     }
 }
 
+#[tactic(auto, using(crate::proofs::Lines::column_short), unfolding(crate::specs::Text::column_line))]
 fn put_column(place: usize, entry: Entry, out: &mut [u8], at: usize) -> usize
     requires place_bound { place < 10000 }
     requires at_in_bounds { at + 32 ≤ length out.old }
@@ -106,6 +109,7 @@ fn put_column(place: usize, entry: Entry, out: &mut [u8], at: usize) -> usize
 }
 
 // A line for each of the first n columns of a record.
+#[tactic(auto, using(crate::proofs::Lines::none_left, crate::proofs::Lines::columns_end))]
 fn put_columns(profile: &[u8], n: usize, out: &mut [u8]) -> Text
     requires n_bound { n < 10000 }
     requires n_in_bounds { 32 * n ≤ length out.old }

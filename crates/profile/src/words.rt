@@ -16,6 +16,7 @@ pub(crate) enum Asked {
     Unknown,
 }
 
+// By `==` and not by a match, which leaves a goal for each byte that may differ.
 #[tactic(auto, using(crate::proofs::Sames::compared), unfolding(crate::specs::Words::asked_by))]
 fn asked_by(word: &[u8]) -> Asked
     ensures { result ≡ asked_by word.now }

@@ -1,19 +1,14 @@
 -- `output::put_columns`: to put a column's line is to put the first of those that are left. Assumes nothing.
 use Prim.Native.Nat.{ℕ, ◌+◌, ◌-◌}
-use mathlib.Core.Path.{ap, ◌∙◌, refl, sym}
-use mathlib.Core.Bool.{false}
+use mathlib.Core.Path.{ap, ◌∙◌, sym}
 use mathlib.Core.List.{List}
 use native.Mathlib.Omega.{arith}
-use native.Mathlib.Nat.{sub-zero, zero-add}
 use lib.ListN.{length}
 use Rattle.wire.specs.Stored.{stored}
 use Rattle.record.specs.Records.{entry_in, entries_in}
 use Rattle.profile.specs.Text.{column_line, column_lines}
 use Rattle.profile.proofs.Lines.{behind_it, none_left, columns_step, columns_end}
 use Rattle.profile.proofs.output.put_columns.Goals as goal
-
-pub loop-j-init : goal.loop-j-init
-loop-j-init c = (omega arith, refl, omega arith, rw sub-zero (zero-add _, refl))
 
 pub loop-j-preserved : goal.loop-j-preserved
 loop-j-preserved c =
@@ -34,13 +29,6 @@ loop-j-preserved c =
         b.1 ∙ ap (λ (t : List ℕ). stored t l.out l.len) (sym s) ∙ l.invariant.3.1,
       ),
     )
-
-pub returns-clause-value : goal.returns-clause-value
-returns-clause-value c =
-    let l = c.loop-j in
-    let e = columns_end c.args.profile.now c.args.n l.j (omega arith) in
-    let p = none_left _ _ _ _ (rw e at l.invariant.3) in
-    ap (λ (k : ℕ). record { len = k; is_refusal = false }) p.0
 
 pub returns-clause-out_after : goal.returns-clause-out_after
 returns-clause-out_after c =

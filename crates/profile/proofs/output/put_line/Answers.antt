@@ -37,12 +37,6 @@ loop-i-preserved c =
       ),
     )
 
-pub returns-clause-value : goal.returns-clause-value
-returns-clause-value c =
-    let e = line_end c.args.numbers.now c.loop-i.i (omega arith) in
-    let p = none_left _ _ _ _ (rw e at c.loop-i.invariant.2) in
-    p.0
-
 pub returns-clause-out_after : goal.returns-clause-out_after
 returns-clause-out_after c =
     let e = line_end c.args.numbers.now c.loop-i.i (omega arith) in

@@ -1,5 +1,5 @@
 -- To put the line of the numbers that are left is to put the whole line.
-use Prim.Native.Nat.{◌+◌, ◌-◌, ◌≤◌}
+use Prim.Native.Nat.{◌+◌, ◌≤◌}
 use mathlib.Core.Path.{◌≡◌}
 use lib.ListN.{length, drop}
 use Rattle.wire.specs.Stored.{stored}
