@@ -305,19 +305,19 @@ pub took_null : (plan image : List ℕ) (item offset : ℕ) {numbers : List ℕ}
 unfolding value_numbers
 took_null plan image item offset e s = record {
   few = omega arith;
-  reads = λ by. rw (s, add-zero) (item_null plan image by item offset e);
+  reads = λ b by. rw (s, add-zero) (item_null plan image by item offset e);
 }
 
 pub took_left : (plan image : List ℕ) (item offset : ℕ) (room exit : List ℕ) → exit ≡ room → TookItem plan image item offset room exit None
 took_left plan image item offset room exit e = e
 
-pub took_read : (plan image : List ℕ) (item offset op : ℕ) (room exit : List ℕ) {slot eight : List ℕ} (n : Option ℕ) → Bytes image
+pub took_read : (plan image : List ℕ) (item offset op : ℕ) (room exit : List ℕ) {slot eight : List ℕ} (n : Option ℕ)
     → offset + 8 ≤ length image → eight ≡ take 8 (drop offset image) → bit_lsb0 image item ≡ false → op ≡ get_or plan (3 * item) 0
     → slot ≡ room → Took (shape_for op) eight slot exit n → TookItem plan image item offset room exit n
-took_read plan image item offset op room exit (Some n) b h q e o r t =
+took_read plan image item offset op room exit (Some n) h q e o r t =
     let j = le_value (take 2 (drop (3 * item + 1) plan)) in
-    record { few = t.few; reads = λ by. item_read plan image by item offset op j e o refl ∙ t.reads image b offset h q by j }
-took_read plan image item offset op room exit None b h q e o r t = t ∙ r
+    record { few = t.few; reads = λ b by. item_read plan image by item offset op j e o refl ∙ t.reads image b offset h q by j }
+took_read plan image item offset op room exit None h q e o r t = t ∙ r
 
 -- ---- the loop that reads fast, up to a limit: for each item before it eight bytes and room for a value are there
 pub record Taking (plan images : List ℕ) (items room had : ℕ) (d₀ : List ℕ) (here : RowCursor) (d : List ℕ)
@@ -360,12 +360,12 @@ take_fits offset limit item len n h l f b = omega arith
 module _ (plan images : List ℕ) (items room had : ℕ) (d₀ : List ℕ) (here : RowCursor) (t : Stands plan images items here) (d : List ℕ)
     (item offset values limit : ℕ) (r : Taking plan images items room had d₀ here d item offset values limit) (l : item < limit)
     {im : List ℕ} (is : im ≡ drop here.start images) where
-  pub take_turn : (n : ℕ) (ns d' : List ℕ) → ReadsItem plan im item offset n ns
+  pub take_turn : (n : ℕ) (ns d' : List ℕ) → Bytes im → ReadsItem plan im item offset n ns
       → d' ≡ stored ns d (8 * values) → length d' ≡ length d
       → Taking plan images items room had d₀ here d' (item + 1) (offset + n) (values + 1) limit
-  take_turn n ns d' k u e = record {
+  take_turn n ns d' b k u e = record {
     run = run_turn plan images items room had d₀ here t d item offset values r.run (omega (arith, r.space)) (omega (arith, r.most)) is ns
-        (offset + n) d' (k.reads here.start) u e;
+        (offset + n) d' (k.reads b here.start) u e;
     space = omega (arith, r.space);
     bytes = omega (arith, r.bytes, k.few);
     most = r.most;

@@ -30,6 +30,8 @@ fn low(width: IntegerWidth, bytes: &[u8; 8]) -> u64
     }
 }
 
+// ---- the readers. The eight bytes and the slot stay two parameters: the one is read, the other filled.
+
 fn take_unsigned(width: IntegerWidth, bytes: &[u8; 8], slot: &mut Numbers) -> Option<usize>
     ensures { Took (Unsigned width.bytes) bytes.now slot.old slot.new result }
 {
@@ -44,7 +46,7 @@ fn take_signed(width: IntegerWidth, bytes: &[u8; 8], slot: &mut Numbers) -> Opti
     Some(width.bytes)
 }
 
-// The year that a byte says: `value` has the same for its own readers.
+// The year that a byte says: `value` has the same for its own readers, and does not lend it.
 fn year_of(byte: u8) -> u64
     ensures { result ≡ year_of byte }
 {
@@ -78,7 +80,7 @@ fn take_date(bytes: &[u8; 8], slot: &mut Numbers) -> Option<usize>
     Some(3)
 }
 
-// How many bytes a fraction has.
+// How many bytes a fraction has. `temporal` has such a width for its own readers, and one more test of a clock, and lends neither.
 #[derive(Clone, Copy)]
 struct FractionWidth {
     bytes: usize,

@@ -3,6 +3,7 @@
 #![tactic(auto)]
 
 mod fast;
+mod item;
 mod make;
 mod numbers;
 mod put;

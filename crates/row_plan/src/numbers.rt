@@ -56,6 +56,9 @@ pub(crate) fn one(sort: u64, n: u64) -> Numbers
     [sort, n, 0, 0, 0, 0, 0, 0]
 }
 
+// ---- the readers. s, at and place stay three parameters, as in those of `value`: a struct of them would be made at each call, and say no
+// more.
+
 // The number that is stored of an integer, and the place after it.
 fn integer(width: IntegerWidth, s: &[u8], at: usize, place: usize) -> Result<(u64, usize), Refusal>
     ensures { result ≡ integer_in width.bytes s.now at place }

@@ -1,17 +1,13 @@
 // Many values read by a plan at once, as numbers: for C, and for whoever reads in batches.
 ghost use Rattle.std.specs.Prelude.{◌≡◌, ◌+◌, ◌-◌, ◌*◌, ◌/◌, ◌≤◌, ◌<◌, ◌^◌, length};
-ghost use Rattle.wire.specs.Bits.{bit_lsb0};
 ghost use Rattle.wire.specs.Stored.{stored, answer_of, left_of};
 ghost use Rattle.row_plan.specs.Runs.{turned, is_over, run_from, read_run};
-ghost use Rattle.row_plan.specs.Inner.Numbers.{item_numbers};
-ghost use Rattle.row_plan.specs.Inner.Fast.{TookItem};
 ghost use Rattle.row_plan.specs.Inner.Paused.{row_gate, paused_run, Further, Stands, Running, stop_answer};
 
-use crate::fast::take_op;
+use crate::item::Item;
 use crate::make::ITEM_BYTES;
-use crate::numbers::{Numbers, VALUE_NUMBERS, number_op, one};
-use crate::row::{RowCursor, column_at};
-use value_parts::sort::NULL;
+use crate::numbers::{Numbers, VALUE_NUMBERS};
+use crate::row::RowCursor;
 use wire::Refusal;
 use wire::refusal::{IMAGE_SHORT, NO_COLUMN, NO_ROOM};
 
@@ -43,62 +39,6 @@ fn put(numbers: Numbers, room: &mut [u64])
     *slot = numbers;
 }
 
-// Whether an item is NULL. Its bit is there, so that no item tests that again.
-#[tactic(auto, unfolding(wire::specs::Bits::bit_lsb0))]
-fn is_null(image: &[u8], item: usize) -> bool
-    requires { item / 8 < length image.now }
-    ensures { result ≡ bit_lsb0 image.now item }
-{
-    (image[item / 8] >> (item % 8)) % 2 == 1
-}
-
-// The numbers of one item, in an image that starts at `by`.
-#[tactic(auto, using(crate::proofs::RunLaws::item_null, crate::proofs::RunLaws::item_read), unfolding(crate::specs::Runs::value_numbers))]
-fn number_item(
-    plan: &[u8],
-    image: &[u8],
-    by: usize,
-    item: usize,
-    offset: usize,
-) -> Result<(Numbers, usize), Refusal>
-    requires item_in_bounds { (3 * item + 3 ≤ length plan.now) × (item / 8 < length image.now) }
-    requires offset_in_bounds { offset ≤ length image.now }
-    requires image_bound { by + length image.now < 2 ^ 64 }
-    ensures { result ≡ item_numbers plan.now image.now by item offset }
-{
-    if is_null(image, item) {
-        return Ok((one(NULL, 0), offset));
-    }
-    let at = ITEM_BYTES * item;
-    number_op(plan[at], image, offset, column_at(plan, at), by)
-}
-
-// The value of one item: how many bytes it takes, NULL none, unless it is left.
-#[tactic(auto, using(crate::proofs::RunLaws::took_null, crate::proofs::RunLaws::took_read))]
-fn take_item(
-    plan: &[u8],
-    image: &[u8],
-    item: usize,
-    offset: usize,
-    room: &mut [u64],
-) -> Option<usize>
-    requires item_in_bounds { (3 * item + 3 ≤ length plan.now) × (item / 8 < length image.now) }
-    requires offset_in_bounds { (offset + 8 ≤ length image.now) × (length room.old ≡ 8) }
-    ensures { TookItem plan.now image.now item offset room.old room.new result }
-{
-    let Some(slot) = room.as_mut_array() else {
-        unreachable!()
-    };
-    if is_null(image, item) {
-        *slot = one(NULL, 0);
-        return Some(0);
-    }
-    let Some(bytes) = image[offset..offset + 8].as_array() else {
-        unreachable!()
-    };
-    take_op(plan[ITEM_BYTES * item], bytes, slot)
-}
-
 // From an item of an image on, as far as values are read fast: to a value that is left, to the image's end, to that of the room, or to
 // where eight bytes for each value might not be there. So no value tests what is left of the images.
 fn take_items(
@@ -124,8 +64,12 @@ fn take_items(
     // What a value takes moves the offset. A `for` over the items was tried: with it a value of bytes costs a twentieth more.
     while item < limit {
         let to = VALUE_NUMBERS * values;
-        let taken = take_item(plan, image, item, offset, &mut out[to..to + VALUE_NUMBERS]);
-        let Some(n) = taken else {
+        let it = Item {
+            plan,
+            image,
+            index: item,
+        };
+        let Some(n) = it.take(offset, &mut out[to..to + VALUE_NUMBERS]) else {
             return Reached {
                 values,
                 item,
@@ -183,7 +127,12 @@ fn run_image(
         if far.item == items || far.values == room {
             continue;
         }
-        let (numbers, next) = match number_item(plan, image, start, far.item, far.offset) {
+        let it = Item {
+            plan,
+            image,
+            index: far.item,
+        };
+        let (numbers, next) = match it.numbers(start, far.offset) {
             Ok(read) => read,
             Err(why) => {
                 return Paused {
@@ -282,7 +231,8 @@ impl RowCursor {
         let items = plan.len() / ITEM_BYTES;
         let room = out.len() / VALUE_NUMBERS;
         let mut at = self;
-        let mut values: usize = 0;
+        let mut values = 0;
+        // Image after image: each turn goes on from where the last one came to.
         while values < room {
             let here = turned(at, plan, images);
             if is_over(here, images) {

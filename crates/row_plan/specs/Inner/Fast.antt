@@ -20,7 +20,7 @@ Took sh eight slot exit None = exit ≡ slot
 -- the same of an item of a plan, from an offset of an image on
 pub record ReadsItem (plan image : List ℕ) (item offset n : ℕ) (numbers : List ℕ) : Type 0 where
   pub few : n ≤ 8
-  pub reads : (by : ℕ) → item_numbers plan image by item offset ≡ ok (numbers, offset + n)
+  pub reads : Bytes image → (by : ℕ) → item_numbers plan image by item offset ≡ ok (numbers, offset + n)
 
 abbrev pub TookItem : List ℕ → List ℕ → ℕ → ℕ → List ℕ → List ℕ → Option ℕ → Type 0
 TookItem plan image item offset slot exit (Some n) = ReadsItem plan image item offset n exit

@@ -11,7 +11,7 @@ returns-in-Err c = let a = c.args in
     let j = along_join a.plan.now a.images.now a.items a.room a.had a.out.now a.here c.loop-values.out c.loop-values.at c.loop-values.values
     c.loop-values.invariant _ _ _ _ c.take_items-far.ensures in
     let is = rest_is a.images.now a.here.start a.here.start (omega (arith, t.nulls, t.item)) in
-    let e = sym c.number_item.ensures ∙ c.in-Err.is in record {
+    let e = sym c.numbers.ensures ∙ c.in-Err.is in record {
       result_after = run_stop a.plan.now a.images.now a.items a.room a.had a.out.now a.here t _ _ _ _ j.run (omega (
         arith,
         j.run.most,
@@ -30,7 +30,7 @@ loop-values-preserved c = let a = c.args in
     let j = along_join a.plan.now a.images.now a.items a.room a.had a.out.now a.here c.loop-values.out c.loop-values.at c.loop-values.values
     c.loop-values.invariant _ _ _ _ c.take_items-far.ensures in
     let is = rest_is a.images.now a.here.start a.here.start (omega (arith, t.nulls, t.item)) in
-    let e = sym c.number_item.ensures ∙ c.in-Ok.is in
+    let e = sym c.numbers.ensures ∙ c.in-Ok.is in
     let u = slot_put c.take_items-far.new.out _ c.put.ensures c.put.auto.room (omega (
       arith,
       j.run.same,
