@@ -66,29 +66,24 @@ pub(crate) fn step_inner(
     }
     let behind = column + 1;
     let rank = at.rank + 1;
+    let next = |offset| InnerCursor {
+        cursor: Cursor {
+            column: behind,
+            offset,
+        },
+        rank,
+    };
     if wire::bit_lsb0(image, at.rank) {
         return Ok(Step::Null {
             column,
-            next: InnerCursor {
-                cursor: Cursor {
-                    column: behind,
-                    offset,
-                },
-                rank,
-            },
+            next: next(offset),
         });
     }
     let (value, offset) = value::read_value(column_in(profile, column), image, offset, column)?;
     Ok(Step::Value {
         column,
         value,
-        next: InnerCursor {
-            cursor: Cursor {
-                column: behind,
-                offset,
-            },
-            rank,
-        },
+        next: next(offset),
     })
 }
 

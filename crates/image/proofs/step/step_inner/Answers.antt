@@ -1,5 +1,8 @@
 -- `image::step::step_inner` meets its contract. Assumes nothing.
-use mathlib.Core.Path.{sym, ◌∙◌}
+use Prim.Native.Nat.{◌+◌}
+use mathlib.Core.Path.{◌≡◌, sym, ◌∙◌}
+use Rattle.std.proofs.Common.{rules}
+use Rattle.image.specs.Split.{cursor}
 use Rattle.std.proofs.lemmas.Result.{err_from_is_err_and}
 use Rattle.wire.specs.Outcome.{ok, refused}
 use Rattle.image.proofs.StepLaws.Steps.{step_read}
@@ -14,5 +17,7 @@ returns-in_err-value-clause-result_value c =
 
 pub returns-clause-result_value : goal.returns-clause-result_value
 returns-clause-result_value c =
-    sym (step_read c.requires c.first_set-column.ensures _ _ c.if-column-columns.false (sym c.bit_lsb0.ensures ∙ c.if-bit_lsb0.false)
-    c.column_in.ensures (ok (c.in_ok-value.value, c.in_ok-value.offset)) c.in_ok-value.ensures)
+    let q : c.next-2.result.cursor ≡ cursor (c.first_set-column.result + 1) c.in_ok-value.offset = search rules in
+    rw q
+    (sym (step_read c.requires c.first_set-column.ensures _ _ c.if-column-columns.false (sym c.bit_lsb0.ensures ∙ c.if-bit_lsb0.false)
+    c.column_in.ensures (ok (c.in_ok-value.value, c.in_ok-value.offset)) c.in_ok-value.ensures))
