@@ -11,8 +11,8 @@ use value::{Column, Value};
 use wire::Refusal;
 use wire::refusal::{IMAGE_SHORT, NO_COLUMN};
 
-// What stands at a cursor: NULL or a value, with its column and the next cursor; or the end, with the bytes used. Walks of one kind share it,
-// each with cursors of its own: under a record, inside a loop that knows its null bits, and by a plan.
+// What stands at a cursor: NULL or a value, with its column and the next cursor; or the end, with the bytes used. C is the cursor: of a walk
+// under a record, of a loop over one, which knows its rank, or of a walk by a plan.
 #[derive(Clone, Copy, Debug, PartialEq, Eq)]
 pub enum Step<C> {
     Null {

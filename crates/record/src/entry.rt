@@ -18,7 +18,7 @@ pub struct Entry {
     pub charset: u16,
 }
 
-// The column, as its values are stored.
+// The column, as its values are stored. A function and no From, since it leaves out the charset and most flags.
 pub fn column_of(entry: Entry) -> Column
     ensures { result ≡ column_of entry }
 {
