@@ -33,7 +33,8 @@ impl fmt::Display for Hex<'_> {
     }
 }
 
-// A call that answers by numbers alone.
+// A call that answers by numbers alone. The files beside have a function for each call, though some differ in the call alone: one that
+// takes the call as a closure is no shorter.
 pub(crate) fn tell(rt: &impl Print, name: &str, status: u64, out: &[u64]) -> io::Result<()> {
     println!(rt; "{name} {status}{}", Numbers(out))
 }

@@ -47,30 +47,46 @@ fn be(bytes: &[u8]) -> u64
     u64::from_be_bytes(eight)
 }
 
-// The number of the k bytes from at, the least significant first: of those that are there.
+// The number of the k bytes from at, the least significant first: of those that are there. The usual widths have arms of their own, so that
+// the compiler makes plain loads of them where k is no constant either: without these a walk over a row was up to a quarter slower.
 #[inline]
 pub fn read_le(s: &[u8], at: usize, k: usize) -> u64
     ensures value { result ≡ le_value (take (min k 8) (drop at s.now)) }
     ensures upper_bound { result < 256 ^ min k 8 }
 {
     let width = k.min(8);
-    if has_room(s.len(), at, width) {
-        return le(&s[at..at + width]);
+    if !has_room(s.len(), at, width) {
+        return le(rest(s, at));
     }
-    le(rest(s, at))
+    match width {
+        1 => le(&s[at..at + 1]),
+        2 => le(&s[at..at + 2]),
+        3 => le(&s[at..at + 3]),
+        4 => le(&s[at..at + 4]),
+        8 => le(&s[at..at + 8]),
+        _ => le(&s[at..at + width]),
+    }
 }
 
-// The number of the k bytes from at, the most significant first: of those that are there.
+// The number of the k bytes from at, the most significant first: of those that are there, and in the same way.
 #[inline]
 pub fn read_be(s: &[u8], at: usize, k: usize) -> u64
     ensures value { result ≡ be_value (take (min k 8) (drop at s.now)) }
     ensures upper_bound { result < 256 ^ min k 8 }
 {
     let width = k.min(8);
-    if has_room(s.len(), at, width) {
-        return be(&s[at..at + width]);
+    if !has_room(s.len(), at, width) {
+        return be(rest(s, at));
     }
-    be(rest(s, at))
+    match width {
+        1 => be(&s[at..at + 1]),
+        2 => be(&s[at..at + 2]),
+        3 => be(&s[at..at + 3]),
+        4 => be(&s[at..at + 4]),
+        5 => be(&s[at..at + 5]),
+        8 => be(&s[at..at + 8]),
+        _ => be(&s[at..at + width]),
+    }
 }
 
 // Writes the k low bytes of v from at on, the least significant first.

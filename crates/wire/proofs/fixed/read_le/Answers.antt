@@ -4,9 +4,9 @@ use Rattle.wire.proofs.Bytes.{wider}
 use Rattle.wire.proofs.Stores.{no_room}
 use Rattle.wire.proofs.fixed.read_le.Goals as goal
 
-pub returns-clause-upper_bound : goal.returns-clause-upper_bound
-returns-clause-upper_bound c =
+pub returns-then-not-has_room-clause-upper_bound : goal.returns-then-not-has_room-clause-upper_bound
+returns-then-not-has_room-clause-upper_bound c =
     let a = c.args in
-    let h : length a.s.now < a.at + min a.k 8 = rw (c.min-width.ensures) at (no_room _ _ _ _ c.has_room.ensures c.if-has_room.false) in
+    let h : length a.s.now < a.at + min a.k 8 = rw (c.min-width.ensures) at (no_room _ _ _ _ c.has_room.ensures c.if-not-has_room.true) in
     let n = length-drop a.at a.s.now in
-    wider _ _ _ (rw c.rest.ensures (omega (arith, h, n))) c.le-2.ensures.1
+    wider _ _ _ (rw c.rest.ensures (omega (arith, h, n))) c.le.ensures.1
