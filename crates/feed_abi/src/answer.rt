@@ -35,8 +35,8 @@ pub(crate) fn tell<const N: usize>(answer: Result<[u64; N], Refusal>, out: &mut 
             0
         }
         Err(refusal) => {
-            put_numbers(&[refusal.place as u64, refusal.part as u64], out);
-            refusal.number as u64
+            put_numbers(&[refusal.place as u64, u64::from(refusal.part)], out);
+            u64::from(refusal.number)
         }
     }
 }
