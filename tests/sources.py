@@ -99,7 +99,7 @@ def functions(crate):
             name = found.group(2)
             if name in homes or found.group(1) or file == "lib.rt":
                 plain[name] = function(crate, name, name, file, comment, lines)
-        for struct, body in re.findall(r"^impl (\w+) \{\n(.*?)^\}", text, re.M | re.S):
+        for struct, body in re.findall(r"^impl(?:<[^>]*>)? (\w+)(?:<[^>]*>)? \{\n(.*?)^\}", text, re.M | re.S):
             for found, comment, lines in declared(body, r"    pub fn (\w+)"):
                 path = f"{homes[struct]}.{struct}.{found.group(1)}"
                 methods.append(function(crate, path, f"{struct}::{found.group(1)}", file, comment, lines))
