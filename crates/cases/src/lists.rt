@@ -54,18 +54,18 @@ fn next_item<'a>(
     at: usize,
 ) -> Result<Option<(Element<'a>, usize)>, Refusal> {
     Ok(match kind {
-        Kind::Integers => Integers::new(at)
+        Kind::Integers => Integers { at }
             .next(s)?
             .map(|(value, next)| (Element::Integer(value), next.at)),
-        Kind::Pairs | Kind::Charsets => Pairs::new(at).next(s)?.map(|((first, second), next)| (
+        Kind::Pairs | Kind::Charsets => Pairs { at }.next(s)?.map(|((first, second), next)| (
             Element::Pair(first, second),
             next.at,
         )),
-        Kind::Strings => Strings::new(at).next(s)?.map(|(value, next)| (
+        Kind::Strings => Strings { at }.next(s)?.map(|(value, next)| (
             Element::Text(wire::part_of(s, value)),
             next.at,
         )),
-        Kind::Groups => Groups::new(at).next(s)?.map(|((count, first), next)| (
+        Kind::Groups => Groups { at }.next(s)?.map(|((count, first), next)| (
             Element::Group { count, first },
             next.at,
         )),

@@ -9,7 +9,7 @@ ghost use Rattle.map_check.specs.Inner.Making.{CharsetTurned, CharsetTurnedIf};
 use crate::facts::Charsets;
 use crate::found::value_in;
 use crate::rank::Rank;
-use table_map::next_item;
+use table_map::{Integers, Pairs};
 
 // Where the next charset of a class is looked for, and the charset of ranks without a pair.
 #[derive(Clone, Copy)]
@@ -58,11 +58,12 @@ fn next_listed(value: &[u8], cursor: CharsetCursor) -> CharsetTurn
         charset: 0,
         next: cursor,
     };
-    match next_item::<u64>(value, cursor.at) {
+    let list = Integers { at: cursor.at };
+    match list.next(value) {
         Ok(Some((charset, next))) => CharsetTurn {
             charset: charset as u16,
             next: CharsetCursor {
-                at: next,
+                at: next.at,
                 default: cursor.default,
             },
         },
@@ -79,13 +80,14 @@ fn next_paired(value: &[u8], cursor: CharsetCursor, rank: Rank) -> CharsetTurn
         charset: cursor.default,
         next: cursor,
     };
-    match next_item::<(u64, u64)>(value, cursor.at) {
+    let pairs = Pairs { at: cursor.at };
+    match pairs.next(value) {
         Ok(Some(((first, second), next))) => {
             if first == rank.0 as u64 {
                 return CharsetTurn {
                     charset: second as u16,
                     next: CharsetCursor {
-                        at: next,
+                        at: next.at,
                         default: cursor.default,
                     },
                 };

@@ -74,11 +74,10 @@ use Rattle.table_map.proofs.write_event.Statement.{statement as of_write_event}
 use Rattle.table_map.proofs.field.Fields.new.Statement.{statement as of_fields_new}
 use Rattle.table_map.proofs.field.Fields.next.Statement.{statement as of_fields_next}
 use Rattle.table_map.proofs.field.Fields.judge.Statement.{statement as of_fields_judge}
-use Rattle.table_map.proofs.list.Cursor.new.Statement.{statement as of_cursor_new}
-use Rattle.table_map.proofs.list.Cursor.next.Statement.{statement as of_integers_next}
-use Rattle.table_map.proofs.list.Cursor.next.Statement.{statement as of_pairs_next}
-use Rattle.table_map.proofs.list.Cursor.next.Statement.{statement as of_strings_next}
-use Rattle.table_map.proofs.list.Cursor.next.Statement.{statement as of_groups_next}
+use Rattle.table_map.proofs.list.Integers.next.Statement.{statement as of_integers_next}
+use Rattle.table_map.proofs.list.Pairs.next.Statement.{statement as of_pairs_next}
+use Rattle.table_map.proofs.list.Strings.next.Statement.{statement as of_strings_next}
+use Rattle.table_map.proofs.list.Groups.next.Statement.{statement as of_groups_next}
 use Rattle.record.proofs.column_of.Statement.{statement as of_column_of}
 use Rattle.record.proofs.entry_holds.Statement.{statement as of_entry_holds}
 use Rattle.record.proofs.write_entry.Statement.{statement as of_write_entry}
@@ -212,13 +211,11 @@ pub record Calls : Type 2 where
   pub fields_new : Meets of_fields_new
   pub fields_next : Meets of_fields_next
   pub fields_judge : Meets of_fields_judge
-  -- `next` of the cursors: one function, for every kind of item
   pub integers_next : Meets of_integers_next
   pub pairs_next : Meets of_pairs_next
   pub strings_next : Meets of_strings_next
   pub groups_next : Meets of_groups_next
   pub next_item : Meets of_next_item
-  pub cursor_new : Meets of_cursor_new
   -- `record`: the record of a map
   pub column_of : Meets of_column_of
   pub entry_holds : Meets of_entry_holds

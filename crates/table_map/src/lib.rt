@@ -14,7 +14,5 @@ pub use event::{
     read_event, table_name,
 };
 pub use field::{Fields, cut_field};
-pub use list::{
-    Cursor, Groups, Integers, ListItem, Pairs, Strings, default_charset, flag, next_item,
-};
+pub use list::{Groups, Integers, ListItem, Pairs, Strings, default_charset, flag, next_item};
 pub use write::{event_size, write_event};

@@ -6,7 +6,7 @@ ghost use Rattle.wire.specs.Bits.{bit_msb0};
 ghost use Rattle.table_map.specs.Lists.{Rule, step, integer_item, pair_item, string_item, group_item, strings, default_charset};
 
 use crate::part::long_part;
-use std::marker::{Model, PhantomData};
+use std::marker::Model;
 use wire::refusal::SHORT;
 use wire::{Part, Refusal, read_packed};
 
@@ -88,50 +88,98 @@ pub fn next_item<I: ListItem>(s: &[u8], at: usize) -> Result<Option<(I, usize)>,
     Ok(Some(I::read(s, at)?))
 }
 
-// The cursor of a list of such items: a place in its bytes, and so a clause sees it.
+// ---- a cursor for each kind of list
+// They stay four types: each has a line of its own among the calls whose safety is proved (promises/specs/Calls.antt).
+
+// The cursor of a list of integers.
 #[derive(Clone, Copy, Debug, PartialEq, Eq)]
-pub struct Cursor<I> {
+pub struct Integers {
     pub at: usize,
-    of: PhantomData<I>,
 }
 
-impl<I> Model for Cursor<I> {
+impl Model for Integers {
     ghost Value = { ℕ };
 
     ghost view = { λ cursor. cursor.at };
 
-    ghost inverse = { λ at. record { at = at; of = record {} } };
+    ghost inverse = { λ at. record { at = at } };
 }
 
-// The cursor of a list of integers: fields 3, 7, 8, 11 and 13.
-pub type Integers = Cursor<u64>;
-
-// The cursor of a list of pairs: field 9, and behind the default fields 2 and 10.
-pub type Pairs = Cursor<(u64, u64)>;
-
-// The cursor of a list of strings: field 4.
-pub type Strings = Cursor<Part>;
-
-// The cursor of a list of groups of strings: fields 5 and 6.
-pub type Groups = Cursor<(u64, usize)>;
-
-impl<I: ListItem> Cursor<I> {
-    // The cursor at a place.
-    pub fn new(at: usize) -> Cursor<I>
-        ensures { result ≡ at }
-    {
-        Cursor {
-            at,
-            of: PhantomData,
-        }
-    }
-
-    // The item at the cursor and the cursor behind it, or None where the list has ended.
-    pub fn next(self, s: &[u8]) -> Result<Option<(I, Cursor<I>)>, Refusal>
-        ensures { result ≡ step I.rule s.now self }
+impl Integers {
+    pub fn next(self, s: &[u8]) -> Result<Option<(u64, Integers)>, Refusal>
+        ensures { result ≡ step integer_item s.now self }
     {
         let step = next_item(s, self.at)?;
-        Ok(step.map(|(item, at)| (item, Cursor::new(at))))
+        Ok(step.map(|(value, at)| (value, Integers { at })))
+    }
+}
+
+// The cursor of a list of pairs.
+#[derive(Clone, Copy, Debug, PartialEq, Eq)]
+pub struct Pairs {
+    pub at: usize,
+}
+
+impl Model for Pairs {
+    ghost Value = { ℕ };
+
+    ghost view = { λ cursor. cursor.at };
+
+    ghost inverse = { λ at. record { at = at } };
+}
+
+impl Pairs {
+    pub fn next(self, s: &[u8]) -> Result<Option<((u64, u64), Pairs)>, Refusal>
+        ensures { result ≡ step pair_item s.now self }
+    {
+        let step = next_item(s, self.at)?;
+        Ok(step.map(|(pair, at)| (pair, Pairs { at })))
+    }
+}
+
+// The cursor of a list of strings.
+#[derive(Clone, Copy, Debug, PartialEq, Eq)]
+pub struct Strings {
+    pub at: usize,
+}
+
+impl Model for Strings {
+    ghost Value = { ℕ };
+
+    ghost view = { λ cursor. cursor.at };
+
+    ghost inverse = { λ at. record { at = at } };
+}
+
+impl Strings {
+    pub fn next(self, s: &[u8]) -> Result<Option<(Part, Strings)>, Refusal>
+        ensures { result ≡ step string_item s.now self }
+    {
+        let step = next_item(s, self.at)?;
+        Ok(step.map(|(value, at)| (value, Strings { at })))
+    }
+}
+
+// The cursor of a list of groups of strings.
+#[derive(Clone, Copy, Debug, PartialEq, Eq)]
+pub struct Groups {
+    pub at: usize,
+}
+
+impl Model for Groups {
+    ghost Value = { ℕ };
+
+    ghost view = { λ cursor. cursor.at };
+
+    ghost inverse = { λ at. record { at = at } };
+}
+
+impl Groups {
+    pub fn next(self, s: &[u8]) -> Result<Option<((u64, usize), Groups)>, Refusal>
+        ensures { result ≡ step group_item s.now self }
+    {
+        let step = next_item(s, self.at)?;
+        Ok(step.map(|(group, at)| (group, Groups { at })))
     }
 }
 
@@ -140,7 +188,7 @@ pub fn default_charset(value: &[u8]) -> Result<(u64, Pairs), Refusal>
     ensures { result ≡ default_charset value.now }
 {
     let (charset, at) = read_packed(value, 0)?;
-    Ok((charset, Pairs::new(at)))
+    Ok((charset, Pairs { at }))
 }
 
 // Bit i of fields 1 and 12, counted from the highest down; one past the bytes is not set.

@@ -70,11 +70,10 @@ use Rattle.table_map.proofs.write_event.Met.{met as of_write_event}
 use Rattle.table_map.proofs.field.Fields.new.Met.{met as of_fields_new}
 use Rattle.table_map.proofs.field.Fields.next.Met.{met as of_fields_next}
 use Rattle.table_map.proofs.field.Fields.judge.Met.{met as of_fields_judge}
-use Rattle.table_map.proofs.list.Cursor.new.Met.{met as of_cursor_new}
-use Rattle.table_map.proofs.list.Cursor.next.Met.{met as of_integers_next}
-use Rattle.table_map.proofs.list.Cursor.next.Met.{met as of_pairs_next}
-use Rattle.table_map.proofs.list.Cursor.next.Met.{met as of_strings_next}
-use Rattle.table_map.proofs.list.Cursor.next.Met.{met as of_groups_next}
+use Rattle.table_map.proofs.list.Integers.next.Met.{met as of_integers_next}
+use Rattle.table_map.proofs.list.Pairs.next.Met.{met as of_pairs_next}
+use Rattle.table_map.proofs.list.Strings.next.Met.{met as of_strings_next}
+use Rattle.table_map.proofs.list.Groups.next.Met.{met as of_groups_next}
 use Rattle.record.proofs.column_of.Met.{met as of_column_of}
 use Rattle.record.proofs.entry_holds.Met.{met as of_entry_holds}
 use Rattle.record.proofs.write_entry.Met.{met as of_write_entry}
@@ -206,7 +205,6 @@ calls = record {
   strings_next = λ M. of_strings_next {M = M};
   groups_next = λ M. of_groups_next {M = M};
   next_item = λ M. of_next_item {M = M};
-  cursor_new = λ M. of_cursor_new {M = M};
   column_of = λ M. of_column_of {M = M};
   entry_holds = λ M. of_entry_holds {M = M};
   write_entry = λ M. of_write_entry {M = M};
