@@ -1,7 +1,8 @@
 // A step by a plan.
-ghost use Rattle.std.specs.Prelude.{◌≡◌, ◌+◌, ◌≤◌, length, take, drop};
+ghost use Rattle.std.specs.Prelude.{◌≡◌, ◌+◌, ◌-◌, ◌≤◌, length, take, drop};
 ghost use Rattle.wire.specs.Number.{le_value};
 ghost use Rattle.row_plan.specs.Plan.{plan_step};
+ghost use Rattle.row_plan.specs.Inner.Paused.{row_gate};
 
 use crate::make::ITEM_BYTES;
 use image::Step;
@@ -25,9 +26,26 @@ pub(crate) fn column_at(plan: &[u8], at: usize) -> usize
     usize::from(u16::from_le_bytes([plan[at + 1], plan[at + 2]]))
 }
 
+// The tests before the values of an image, of which so many bytes are left: refusals 14 and 9.
+#[tactic(auto, using(wire::proofs::Rules::tests), unfolding(crate::specs::Inner::Paused::row_gate))]
+pub(crate) fn test_image(c: RowCursor, items: usize, left: usize) -> Result<(), Refusal>
+    ensures { result ≡ row_gate items left c }
+{
+    if items < c.item {
+        return Err(wire::refuse(NO_COLUMN, c.item));
+    }
+    if left < wire::bytes_for(items) {
+        return Err(wire::refuse(IMAGE_SHORT, 0));
+    }
+    if left < c.offset {
+        return Err(wire::refuse(IMAGE_SHORT, c.item));
+    }
+    Ok(())
+}
+
 impl RowCursor {
     // The next item of the plan from this cursor on. Any plan and any cursor obey the same rule.
-    #[tactic(auto, using(wire::proofs::Rules::tests, crate::proofs::Goes::rest_is), unfolding(crate::specs::Plan::plan_step))]
+    #[tactic(auto, using(crate::proofs::RunLaws::gate_open))]
     pub fn step(self, plan: &[u8], images: &[u8]) -> Result<Step<RowCursor>, Refusal>
         ensures { result ≡ plan_step plan.now images.now self }
     {
@@ -35,16 +53,8 @@ impl RowCursor {
         let item = self.item;
         let offset = self.offset;
         let items = plan.len() / ITEM_BYTES;
-        if items < item {
-            return Err(wire::refuse(NO_COLUMN, item));
-        }
         let image = &images[start.min(images.len())..];
-        if image.len() < wire::bytes_for(items) {
-            return Err(wire::refuse(IMAGE_SHORT, 0));
-        }
-        if image.len() < offset {
-            return Err(wire::refuse(IMAGE_SHORT, item));
-        }
+        test_image(self, items, image.len())?;
         if item == items {
             return Ok(Step::End { used: offset });
         }

@@ -2,14 +2,14 @@
 ghost use Rattle.std.specs.Prelude.{◌≡◌, ◌+◌, ◌-◌, ◌*◌, ◌/◌, ◌≤◌, ◌<◌, ◌^◌, length};
 ghost use Rattle.wire.specs.Stored.{stored, answer_of, left_of};
 ghost use Rattle.row_plan.specs.Runs.{turned, is_over, run_from, read_run};
-ghost use Rattle.row_plan.specs.Inner.Paused.{row_gate, paused_run, Further, Stands, Running, stop_answer};
+ghost use Rattle.row_plan.specs.Inner.Paused.{paused_run, Further, Stands, Running, stop_answer};
 
 use crate::item::Item;
 use crate::make::ITEM_BYTES;
 use crate::numbers::{Numbers, VALUE_NUMBERS};
-use crate::row::RowCursor;
+use crate::row::{RowCursor, test_image};
 use wire::Refusal;
-use wire::refusal::{IMAGE_SHORT, NO_COLUMN, NO_ROOM};
+use wire::refusal::NO_ROOM;
 
 // Where a run left an image: at its end or at that of the room, or at a value that is refused.
 #[derive(Clone, Copy)]
@@ -182,24 +182,6 @@ fn is_over(c: RowCursor, images: &[u8]) -> bool
     c.item == 0 && c.start == images.len()
 }
 
-// The tests before the values of an image: refusals 14 and 9.
-#[tactic(auto, using(wire::proofs::Rules::tests), unfolding(crate::specs::Inner::Paused::row_gate))]
-fn test_image(c: RowCursor, items: usize, images: &[u8]) -> Result<(), Refusal>
-    ensures { result ≡ row_gate items (length images.now - c.start) c }
-{
-    if items < c.item {
-        return Err(wire::refuse(NO_COLUMN, c.item));
-    }
-    let left = images.len().saturating_sub(c.start);
-    if left < wire::bytes_for(items) {
-        return Err(wire::refuse(IMAGE_SHORT, 0));
-    }
-    if left < c.offset {
-        return Err(wire::refuse(IMAGE_SHORT, c.item));
-    }
-    Ok(())
-}
-
 // A run that met a refusal: told only if no value stands before it.
 fn stopped(values: usize, next: RowCursor, why: Refusal) -> Result<(usize, RowCursor), Refusal>
     ensures { result ≡ stop_answer values next why }
@@ -238,7 +220,7 @@ impl RowCursor {
             if is_over(here, images) {
                 return Ok((values, here));
             }
-            if let Err(why) = test_image(here, items, images) {
+            if let Err(why) = test_image(here, items, images.len().saturating_sub(here.start)) {
                 return stopped(values, here, why);
             }
             if here.item == items {

@@ -24,7 +24,7 @@ returns-in-Err c =
     let a = c.args in
     let o = sym c.is_over.ensures
     ∙ c.if-is_over.false in
-    let t = sym c.in-Err.ensures in
+    let t = rw c.saturating_sub.ensures at (sym c.in-Err.ensures) in
     let g = read_refused a.plan.now a.images.now _ a.out.now a.self c.loop-values.out c.loop-values.at c.loop-values.values c.loop-values.invariant
     c.loop-values-test.true
     c.turned-here.ensures o _ t in record {
@@ -40,7 +40,7 @@ returns-then-here-items c =
     ∙ c.if-is_over.false in
     let g = read_end a.plan.now a.images.now _ a.out.now a.self c.loop-values.out c.loop-values.at c.loop-values.values c.loop-values.invariant
     c.loop-values-test.true
-    c.turned-here.ensures o (sym c.in_default.ensures) c.if-here-items.true in
+    c.turned-here.ensures o (rw c.saturating_sub.ensures at (sym c.in_default.ensures)) c.if-here-items.true in
     let m = told_ran a.plan.now a.images.now a.self a.out.now _ refl (omega arith) _ _ _ g in
     record { result_value = sym (ap answer_of m); out_after = sym (ap (λ (x : Outcome ((ℕ × RowCursor) × List ℕ)). left_of x a.out.now) m) }
 
@@ -51,7 +51,7 @@ returns-in-Err-stop c =
     let p = sym c.run_image-paused.ensures.result_after
     ∙ ap (run_past _ a.plan.now a.images.now _ _ _) c.in-Err-stop.is in
     let g = sym (read_enter a.plan.now a.images.now _ a.out.now a.self c.loop-values.out c.loop-values.at c.loop-values.values c.loop-values.invariant
-    c.loop-values-test.true c.turned-here.ensures o (sym c.in_default.ensures) c.if-here-items.false) ∙ p in record {
+    c.loop-values-test.true c.turned-here.ensures o (rw c.saturating_sub.ensures at (sym c.in_default.ensures)) c.if-here-items.false) ∙ p in record {
       result_value = c.stopped-in-Err-stop.ensures ∙ told_stopped a.plan.now a.images.now a.self a.out.now _ refl
           (omega arith) _ _ _ _ g;
       out_after = left_stopped a.plan.now a.images.now a.self a.out.now _ refl (omega arith) _ _ _ _ g;
