@@ -23,6 +23,7 @@ pub fn walk_end(profile: &[u8], presence: &[u8], image: &[u8]) -> Result<usize, 
         },
         rank: 0,
     };
+    // A walk: each turn goes on from where the last one came to, and no index is counted.
     loop {
         match step_inner(profile, presence, image, head.columns, at)? {
             Step::Null { next, .. } | Step::Value { next, .. } => at = next,

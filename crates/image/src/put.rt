@@ -15,7 +15,7 @@ use value::Value;
 use wire::Refusal;
 use wire::refusal::{BAD_BITS, NO_COLUMN, NO_ROOM, NOT_TAKEN};
 
-// The same tests, and then refusal 12 for the null bits.
+// The tests of `read_head`, and then refusal 12 for the null bits.
 #[tactic(auto, using(wire::proofs::Rules::tests), unfolding(crate::specs::Puts::head_nulls))]
 fn read_head_nulls(profile: &[u8], presence: &[u8], nulls: &[u8]) -> Result<Head, Refusal>
     ensures { result ≡ head_nulls profile.now presence.now nulls.now }
@@ -103,6 +103,7 @@ fn put_inner(
     }
     let behind = column + 1;
     if null {
+        // No bytes: a test of the room alone.
         let offset = wire::write_bytes(&[], buf, offset)?;
         return Ok(Cursor {
             column: behind,

@@ -87,7 +87,7 @@ pub(crate) fn step_inner(
     })
 }
 
-// The step without ranks.
+// The step without ranks. A function and no From: only `Cursor::step` turns one step into the other.
 fn without_rank(step: Step<InnerCursor>) -> Step<Cursor>
     ensures { result ≡ without_rank step }
 {

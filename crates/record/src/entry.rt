@@ -14,7 +14,7 @@ pub struct Entry {
     pub flags: u8,
     pub m0: u8,
     pub m1: u8,
-    // 0 if none is given
+    // 0 if none is given; a number and no Option, as it is two bytes of the record
     pub charset: u16,
 }
 
