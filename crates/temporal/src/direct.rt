@@ -1,5 +1,5 @@
 // The temporals of types 14, 17, 18 and 19, each read by a function of its own, with constant widths: for a loop that knows its column's
-// type. Only that loop calls them, and `read_temporal` must not: a function with a single caller the compiler puts whole into that caller.
+// type. Only that loop calls them, and `read_temporal` must not: the compiler puts a function whole into its caller, if it has but one.
 ghost use Rattle.std.specs.Prelude.{◌≡◌, ◌+◌, ◌≤◌, ◌<◌, ◌^◌, length, take, drop, IfOk, IfErr};
 ghost use Rattle.wire.specs.Number.{be_value};
 ghost use Rattle.wire.specs.Outcome.{why};
@@ -88,7 +88,7 @@ fn stored_at<const WHOLE: usize>(
     ))
 }
 
-// The number of the bytes of a fraction. Each width is a constant where it is read.
+// The number of the bytes of a fraction. The arms stay, since each width is a constant where it is read.
 #[tactic(auto, unfolding(wire::specs::Number::be_value))]
 fn units_at(width: Width, s: &[u8], at: usize) -> u64
     ensures { (result ≡ be_value (take width.bytes (drop at s.now))) × (result < 256 ^ width.bytes) }

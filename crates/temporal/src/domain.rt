@@ -58,7 +58,7 @@ fn holds_time(width: Width, t: Time) -> bool
         && !negative_zero(t)
 }
 
-// Whether a date is in range.
+// Whether a date is in range. Here and below the parts are numbers side by side, as the definitions `in_day` and `in_clock` take them.
 fn in_day(y: u16, mo: u8, d: u8) -> bool
     ensures { result ≡ in_day y mo d }
 {

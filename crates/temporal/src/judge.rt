@@ -39,7 +39,7 @@ impl Radices {
     };
 }
 
-// A clock whose hours go up to top.
+// A clock whose hours go up to top. Its parts are numbers side by side, as the definition `clock_fault` takes them.
 #[tactic(auto, using(wire::proofs::Rules::tests), unfolding(crate::specs::Ranges::clock_fault))]
 pub(crate) fn check_clock(top: u64, h: u64, m: u64, s: u64, u: u64) -> Result<(), u8>
     ensures clear { IfOk result (λ _. clock_fault top h m s u ≡ 0) }
@@ -61,7 +61,7 @@ pub(crate) fn check_clock(top: u64, h: u64, m: u64, s: u64, u: u64) -> Result<()
     Ok(())
 }
 
-// A date.
+// A date, as `day_fault` takes it.
 #[tactic(auto, using(wire::proofs::Rules::tests), unfolding(crate::specs::Ranges::day_fault))]
 pub(crate) fn check_day(y: u64, mo: u64, d: u64) -> Result<(), u8>
     ensures clear { IfOk result (λ _. day_fault y mo d 0 ≡ 0) }

@@ -31,7 +31,7 @@ pub fn read_temporal(
     answer(judge(storage, stored), next, place)
 }
 
-// The place after the bytes of an image, if they are all there.
+// The place after the bytes of an image, if they are all there. It is no `wire::within`, whose refusal has the number of an event's bytes.
 pub(crate) fn end_of(s: &[u8], at: usize, size: usize, place: usize) -> Result<usize, Refusal>
     ensures { result ≡ cond (leb (at + size) (length s.now)) (ok (at + size)) (refuse 9 place) }
 {

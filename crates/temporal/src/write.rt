@@ -41,7 +41,8 @@ pub fn write_temporal(
     wire::write_le(k, whole, buf, at)
 }
 
-// Writes the k low bytes of a whole part and the low bytes of a fraction behind them, all of them or none.
+// Writes the k low bytes of a whole part and the low bytes of a fraction behind them, all of them or none. The numbers are no `Stored`: that
+// tells that the units fit their bytes, which nothing here asks for.
 fn write_two(
     k: usize,
     whole: u64,

@@ -7,7 +7,7 @@ ghost use Rattle.wire.specs.Stored.{store, answer_of, left_of};
 use crate::refusal::Refusal;
 use crate::store::{has_room, write_bytes};
 
-// A byte as a u64. By its contract those who call it know that the number is the same.
+// A byte as a u64. It stays beside `u64::from`, since it is public and promises/specs/Calls.antt has a line for it.
 pub fn wide(x: u8) -> u64
     ensures { result ≡ x }
 {

@@ -1,5 +1,7 @@
 // What every other crate stands on: refusals, numbers of several bytes and their signs, bits, parts and packed integers.
 // Ports mysql_common 0.38.2: io.rs (integers, read and written) and misc/mod.rs (their sizes).
+// Bytes and a place in them, (s, at, k) or (v, buf, at), stay parameters of their own: these are public functions, whose offsets C hands in
+// and gets back.
 #![tactic(auto)]
 
 mod bits;

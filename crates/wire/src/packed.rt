@@ -45,6 +45,7 @@ pub fn read_packed(s: &[u8], at: usize) -> Result<(u64, usize), Refusal>
 }
 
 // A form whose value is in the k bytes behind its first, which is at `at`.
+// It tests its end itself: tried with `within`, and the check alone did not close it.
 fn read_long(s: &[u8], at: usize, k: usize) -> Result<(u64, usize), Refusal>
     requires { (k ≤ 8) × (at < length s.now) }
     ensures { result ≡ long_form s.now at k }

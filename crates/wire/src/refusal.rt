@@ -76,7 +76,7 @@ pub const FRACTION: u8 = 7;
 
 pub const BELOW_ZERO: u8 = 8;
 
-// The part is 0 but for refusal 10.
+// The part is 0 but for refusal 10: 0 and no Option, since C has it so, and the definition `why` makes it.
 #[derive(Clone, Copy, Debug, PartialEq, Eq)]
 pub struct Refusal {
     pub number: u8,
