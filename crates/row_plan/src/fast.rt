@@ -46,7 +46,8 @@ fn take_signed(width: IntegerWidth, bytes: &[u8; 8], slot: &mut Numbers) -> Opti
     Some(width.bytes)
 }
 
-// The year that a byte says: `value` has the same for its own readers, and does not lend it.
+// The year that a byte says. `value` has the same for its own readers: lent, it would be a public function with a statement and an edit of its
+// own, for a few lines.
 fn year_of(byte: u8) -> u64
     ensures { result ≡ year_of byte }
 {
@@ -80,7 +81,8 @@ fn take_date(bytes: &[u8; 8], slot: &mut Numbers) -> Option<usize>
     Some(3)
 }
 
-// How many bytes a fraction has. `temporal` has such a width for its own readers, and one more test of a clock, and lends neither.
+// How many bytes a fraction has. `temporal` has such a width for its own readers, and the test of a clock: lent, each would be a public function
+// with a statement and an edit of its own, for a few lines.
 #[derive(Clone, Copy)]
 struct FractionWidth {
     bytes: usize,

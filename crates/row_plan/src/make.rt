@@ -28,6 +28,7 @@ fn put_plan(profile: &[u8], presence: &[u8], columns: usize, plan: &mut [u8])
     requires { (columns ≡ count_of profile.now) × (3 * length (present profile.now presence.now) ≤ length plan.old) }
     ensures { plan.new ≡ stored (plan_of profile.now presence.now) plan.old 0 }
 {
+    // The `for` counts all columns, and the place moves with present ones alone.
     let mut at: usize = 0;
     for column in 0..columns {
         if !wire::bit_lsb0(presence, column) {

@@ -59,7 +59,7 @@ pub(crate) fn one(sort: u64, n: u64) -> Numbers
 // ---- the readers. s, at and place stay three parameters, as in those of `value`: a struct of them would be made at each call, and say no
 // more.
 
-// The number that is stored of an integer, and the place after it.
+// The number that is stored of an integer, and the place after it. The test of the end is that of `wire::within`, which answers another refusal.
 fn integer(width: IntegerWidth, s: &[u8], at: usize, place: usize) -> Result<(u64, usize), Refusal>
     ensures { result ≡ integer_in width.bytes s.now at place }
 {
@@ -97,6 +97,7 @@ fn number_signed(
     Ok((one(INT, width.widened(x)), next))
 }
 
+// This and value_numbers tell what `sort_of` and `parts_of` say of the moved value: joined from these, two arrays would be copied for each value.
 #[tactic(auto, unfolding(crate::specs::Runs::value_numbers))]
 fn temporal_numbers(t: Temporal) -> Numbers
     ensures { (by : ℕ) → result ≡ value_numbers by (Value.Temporal t) }

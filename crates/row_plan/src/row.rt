@@ -17,7 +17,7 @@ pub struct RowCursor {
     pub offset: usize,
 }
 
-// The column of the item at a place of the plan: the call of a reader of any width costs 40 instructions here.
+// The column of the item at a place of the plan: the call of a reader of any width cost 40 instructions when it was measured.
 #[tactic(auto, using(crate::proofs::Goes::two))]
 pub(crate) fn column_at(plan: &[u8], at: usize) -> usize
     requires { at + 3 ≤ length plan.now }

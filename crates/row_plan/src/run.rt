@@ -40,7 +40,9 @@ fn put(numbers: Numbers, room: &mut [u64])
 }
 
 // From an item of an image on, as far as values are read fast: to a value that is left, to the image's end, to that of the room, or to
-// where eight bytes for each value might not be there. So no value tests what is left of the images.
+// where eight bytes for each value might not be there. So no value tests what is left of the images. Here and in run_image the parameters stay
+// seven: a struct of them would be made and taken apart once for each run of values. `items` and `room` stand beside the plan and out, so that the
+// lengths of these are divided once a call and not once an image.
 fn take_items(
     here: RowCursor,
     plan: &[u8],
