@@ -21,6 +21,7 @@ impl Seat<'_> {
         let presence = self.lent.presence;
         let columns = self.lent.head.columns;
         let nulls = self.held();
+        // The rank counts present columns alone, the `for` all of them.
         let mut rank = image::count_bits(presence, self.at.column);
         for j in self.at.column..columns {
             if !wire::bit_lsb0(presence, j) {

@@ -14,7 +14,8 @@ pub enum Phase {
 }
 
 // `held` bytes stand at the front of the carry: null bits, then the value in progress, which is that of `column`. `left` bytes of a long
-// value are still to come. `used` counts all bytes that were taken.
+// value are still to come. `used` counts all bytes that were taken. `held` is a number beside the carry and no slice of it, since C lends the carry
+// at each call.
 #[derive(Clone, Copy, Debug, PartialEq, Eq)]
 pub struct Arriving {
     pub phase: Phase,
@@ -43,8 +44,8 @@ pub struct Given {
     pub next: Arriving,
 }
 
-// The same where nothing is refused: public, since the statements of crates above name it. Two structs, and no generic one: callers name
-// `Given`, and would have to write `Given<Result<Arrival, Refusal>>`.
+// The same where nothing is refused: public, since the statements of crates above name it. Two structs, and no generic one: two fields of
+// three would be the same, and with an alias for each name it would be as long.
 #[derive(Clone, Copy, Debug, PartialEq, Eq)]
 pub struct BlockGiven {
     pub arrival: Arrival,
@@ -106,9 +107,7 @@ pub(crate) fn longing(column: usize, held: usize, left: usize) -> Arriving
 {
     Arriving {
         phase: Phase::Long,
-        column,
-        held,
         left,
-        used: 0,
+        ..standing(column, held)
     }
 }

@@ -26,7 +26,8 @@ pub(crate) fn prefix_of(shape: Shape) -> usize
     }
 }
 
-// How many bytes the value takes that begins with `head`; its length bytes are among these eight.
+// How many bytes the value takes that begins with `head`; its length bytes are among these eight. `value` has such a table of widths for its
+// readers: lent, it would be a public function with a statement and an edit of its own, for these lines.
 #[tactic(auto, unfolding(value::specs::Shapes::need))]
 pub(crate) fn need_of(shape: Shape, head: &[u8]) -> usize
     requires { Sized shape }
