@@ -90,7 +90,7 @@ pub fn read_event(event: &[u8], post_header: u8) -> Result<Event, Refusal>
     })
 }
 
-// ---- the parts of an event, uncopied: empty where it is refused
+// ---- the parts of an event, uncopied: empty where it is refused. Each has a function of its own: they are public, and docs name them.
 
 const NO_PART: Part = Part { start: 0, len: 0 };
 

@@ -10,7 +10,7 @@ use std::marker::Model;
 use wire::refusal::SHORT;
 use wire::{Part, Refusal, read_packed};
 
-// What lists are made of.
+// What lists are made of. Pairs and groups are bare tuples: the definitions have ℕ × ℕ for them.
 pub trait ListItem: Copy {
     // how an item is read at a place
     ghost rule: { Rule Self };

@@ -32,7 +32,7 @@ impl Layout {
     }
 }
 
-// The place after the n bytes from at on.
+// The place after the n bytes from at on. It is no `wire::within`: no bytes, asked for past the end, are no refusal here.
 fn behind(s: &[u8], at: usize, n: usize, place: usize) -> Result<usize, Refusal>
     ensures { result ≡ cond (leb n (length s.now - at)) (ok (at + n)) (refuse 9 place) }
 {

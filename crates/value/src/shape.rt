@@ -21,8 +21,8 @@ pub enum Shape {
     Fixed(usize),
     // A length of so many bytes, and then the bytes.
     Counted(usize),
-    // No column's: the refusal number. A shape is no Result, since the definitions and laws of shapes have a case for it, and a plan may
-    // hold an op that is no shape's.
+    // No column's: the refusal number. A shape is no Result, since the definitions `shape_of` and `is_taken` have a case for it, and a plan
+    // may hold an op that is no shape's.
     NotTaken(u8),
 }
 

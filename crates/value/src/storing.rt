@@ -11,7 +11,7 @@ use crate::years::{byte_of_year, in_years};
 use wire::refusal::{NO_ROOM, NOT_TAKEN};
 use wire::{Refusal, top_of};
 
-// Whether all of a value's bytes are among those lent.
+// Whether all of a value's bytes are among those lent. Here and below a value and what is lent for it stay two, as the definitions take them.
 #[tactic(auto, using(wire::proofs::Rules::tests), unfolding(crate::specs::Storing::is_lent, crate::specs::Storing::bytes_at))]
 fn is_lent(value: Value, lent: &[u8]) -> bool
     ensures { result ≡ is_lent lent.now value }

@@ -2,8 +2,8 @@
 ghost use Rattle.std.specs.Prelude.{◌≡◌};
 ghost use Rattle.value.specs.Types.{family_of, is_known, metadata_bytes, is_numeric, or30, real_type};
 
-// The column types that are taken, by the Rust's names. They stay numbers: they are bytes of a map, and `Column::real`, which C sets, is
-// one of them; `family_of` tells what each is.
+// The column types that are taken, by the Rust's names. They stay numbers: they are bytes of a map and of a record, `feed_column` tells them
+// to C, and the functions here take any byte; `family_of` tells what each is.
 pub const MYSQL_TYPE_TINY: u8 = 1;
 
 pub const MYSQL_TYPE_SHORT: u8 = 2;
