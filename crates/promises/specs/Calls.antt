@@ -78,6 +78,10 @@ use Rattle.table_map.proofs.list.Integers.next.Statement.{statement as of_intege
 use Rattle.table_map.proofs.list.Pairs.next.Statement.{statement as of_pairs_next}
 use Rattle.table_map.proofs.list.Strings.next.Statement.{statement as of_strings_next}
 use Rattle.table_map.proofs.list.Groups.next.Statement.{statement as of_groups_next}
+use Rattle.table_map.proofs.list.U64ListItem.read.Statement.{statement as of_integer_read}
+use Rattle.table_map.proofs.list.Tuple2U64U64ListItem.read.Statement.{statement as of_pair_read}
+use Rattle.table_map.proofs.list.PartListItem.read.Statement.{statement as of_string_read}
+use Rattle.table_map.proofs.list.Tuple2U64UsizeListItem.read.Statement.{statement as of_group_read}
 use Rattle.record.proofs.column_of.Statement.{statement as of_column_of}
 use Rattle.record.proofs.entry_holds.Statement.{statement as of_entry_holds}
 use Rattle.record.proofs.write_entry.Statement.{statement as of_write_entry}
@@ -216,6 +220,10 @@ pub record Calls : Type 2 where
   pub strings_next : Meets of_strings_next
   pub groups_next : Meets of_groups_next
   pub next_item : Meets of_next_item
+  pub integer_read : Meets of_integer_read
+  pub pair_read : Meets of_pair_read
+  pub string_read : Meets of_string_read
+  pub group_read : Meets of_group_read
   -- `record`: the record of a map
   pub column_of : Meets of_column_of
   pub entry_holds : Meets of_entry_holds

@@ -74,6 +74,10 @@ use Rattle.table_map.proofs.list.Integers.next.Met.{met as of_integers_next}
 use Rattle.table_map.proofs.list.Pairs.next.Met.{met as of_pairs_next}
 use Rattle.table_map.proofs.list.Strings.next.Met.{met as of_strings_next}
 use Rattle.table_map.proofs.list.Groups.next.Met.{met as of_groups_next}
+use Rattle.table_map.proofs.list.U64ListItem.read.Met.{met as of_integer_read}
+use Rattle.table_map.proofs.list.Tuple2U64U64ListItem.read.Met.{met as of_pair_read}
+use Rattle.table_map.proofs.list.PartListItem.read.Met.{met as of_string_read}
+use Rattle.table_map.proofs.list.Tuple2U64UsizeListItem.read.Met.{met as of_group_read}
 use Rattle.record.proofs.column_of.Met.{met as of_column_of}
 use Rattle.record.proofs.entry_holds.Met.{met as of_entry_holds}
 use Rattle.record.proofs.write_entry.Met.{met as of_write_entry}
@@ -205,6 +209,10 @@ calls = record {
   strings_next = λ M. of_strings_next {M = M};
   groups_next = λ M. of_groups_next {M = M};
   next_item = λ M. of_next_item {M = M};
+  integer_read = λ M. of_integer_read {M = M};
+  pair_read = λ M. of_pair_read {M = M};
+  string_read = λ M. of_string_read {M = M};
+  group_read = λ M. of_group_read {M = M};
   column_of = λ M. of_column_of {M = M};
   entry_holds = λ M. of_entry_holds {M = M};
   write_entry = λ M. of_write_entry {M = M};
