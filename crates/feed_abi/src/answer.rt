@@ -4,10 +4,11 @@ ghost use Rattle.wire.specs.Stored.{stored};
 ghost use Rattle.feed_abi.specs.Answers.{status_of, numbers_left};
 ghost use Rattle.feed_abi.specs.Calls.{part_numbers, given_numbers, names_given};
 
+use wire::refusal::NO_ROOM;
 use wire::{Part, Refusal};
 
-// The status of a call whose buffer of numbers is too short: nothing was changed.
-pub(crate) const NO_NUMBERS: u64 = 8;
+// The status of a call whose buffer of numbers is too short: nothing was changed. `as`, since a constant calls no From.
+pub(crate) const NO_NUMBERS: u64 = NO_ROOM as u64;
 
 // Puts the numbers at the start of out.
 #[tactic(auto, unfolding(wire::specs::Stored::stored))]

@@ -25,7 +25,8 @@ const LONG: u64 = 13;
 
 const PART: u64 = 14;
 
-// A phase is not converted by From, nor a number by TryFrom: neither the traits nor the type are of this crate.
+// A phase is not converted by From, nor a number by TryFrom: neither the traits nor the type are of this crate. The numbers are C's, so they stand
+// here.
 fn phase_number(phase: Phase) -> u64
     ensures { result ≡ phase_number phase }
 {
@@ -163,6 +164,7 @@ pub fn feed_give(
         ≡ bytes_left 15 (feed_give profile.now presence.now carry.old block.now phase column held
         left used) out.old carry.old }
 {
+    // Before anything is written to the carry.
     if out.len() < 15 {
         return NO_NUMBERS;
     }

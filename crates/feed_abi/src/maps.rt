@@ -11,12 +11,13 @@ use value::Dialect;
 use wire::Refusal;
 use wire::refusal::{NO_COLUMN, NOT_TAKEN};
 
-// The bytes of a record's head, and of an entry behind it.
+// The bytes of a record's head, and of an entry behind it: `record` has the same two, which are private there.
 const HEAD_BYTES: usize = 6;
 
 const ENTRY_BYTES: usize = 6;
 
-// The dialect that a number asks for. Not a TryFrom: neither that trait nor the type is of this crate.
+// The dialect that a number asks for. Not a TryFrom: neither that trait nor the type is of this crate. The numbers are C's, so they stand
+// here.
 #[tactic(auto, unfolding(crate::specs::Calls::dialect_of))]
 pub(crate) fn dialect_of(number: u8) -> Result<Dialect, Refusal>
     ensures { result ≡ dialect_of number }
@@ -129,6 +130,7 @@ pub fn feed_check(
         ≡ bytes_left 2 (feed_check event.now post_header dialect profile.old) out.old
         profile.old }
 {
+    // Before anything is written to the record.
     if out.len() < 2 {
         return NO_NUMBERS;
     }

@@ -77,6 +77,7 @@ pub fn feed_plan(profile: &[u8], presence: &[u8], plan: &mut [u8], out: &mut [u6
         ≡ bytes_left 2 (feed_plan profile.now presence.now plan.old) out.old
         plan.old }
 {
+    // Before anything is written to the plan.
     if out.len() < 2 {
         return NO_NUMBERS;
     }
@@ -105,6 +106,7 @@ pub fn feed_run(
         ≡ bytes_left 4 (feed_run plan.now images.now start item offset values.old)
         out.old values.old }
 {
+    // Before anything is written to the values.
     if out.len() < 4 {
         return NO_NUMBERS;
     }
@@ -134,6 +136,7 @@ pub fn feed_put_item(
         ≡ bytes_left 2 (feed_put_item plan.now nulls.now item offset sort parts.now
         lent.now image.old) out.old image.old }
 {
+    // Before anything is written to the image.
     if out.len() < 2 {
         return NO_NUMBERS;
     }

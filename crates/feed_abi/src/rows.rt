@@ -165,6 +165,7 @@ pub fn feed_start(
         ≡ bytes_left 2 (feed_start profile.now presence.now nulls.now image.old)
         out.old image.old }
 {
+    // Before anything is written to the image.
     if out.len() < 2 {
         return NO_NUMBERS;
     }
@@ -195,6 +196,7 @@ pub fn feed_put(
         ≡ bytes_left 2 (feed_put profile.now presence.now nulls.now column offset sort
         parts.now lent.now image.old) out.old image.old }
 {
+    // Before anything is written to the image.
     if out.len() < 2 {
         return NO_NUMBERS;
     }
