@@ -11,7 +11,7 @@ use crate::found::value_in;
 use crate::rank::Rank;
 use table_map::{Integers, Pairs};
 
-// Where the next charset of a class is looked for, and the charset of ranks without a pair.
+// Where the next charset of a class is looked for, and the charset of ranks without a pair. A charset is 0 for none, as the record has it.
 #[derive(Clone, Copy)]
 pub(crate) struct CharsetCursor {
     pub at: usize,
@@ -98,12 +98,13 @@ fn next_paired(value: &[u8], cursor: CharsetCursor, rank: Rank) -> CharsetTurn
     }
 }
 
-// The charset of a rank, and where that of the next is looked for.
+// The charset of a rank, and where that of the next is looked for. Its parameters stand side by side, as `Stands` takes them.
 fn next_charset(event: &[u8], class: Charsets, cursor: CharsetCursor, rank: Rank) -> CharsetTurn
     requires { Stands event.now class rank.0 cursor }
     ensures { CharsetTurned event.now class rank result }
 {
     match class.list {
+        // The part is not bound: the lemmas about a list (fits_in_list, taken_in_list) are about value_in.
         Some(_) => next_listed(value_in(event, class.list), cursor),
         None => next_paired(value_in(event, class.default), cursor, rank),
     }

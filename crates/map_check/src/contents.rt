@@ -14,7 +14,7 @@ use table_map::field_type::{
 use table_map::{ListItem, next_item};
 use wire::Part;
 
-// What the integers of a list mean.
+// What the integers of a list mean: the definition `integer_holds` goes by it.
 #[derive(Clone, Copy)]
 pub(crate) enum Meaning {
     Charset,
@@ -97,6 +97,7 @@ fn pairs_hold(value: &[u8], start: usize, size: Rank) -> bool
     loop {
         match next_item::<(u64, u64)>(value, at) {
             Ok(Some(((rank, charset), next))) => {
+                // three tests and no `||`: the proof has an answer for each
                 if rank < low {
                     return false;
                 }

@@ -15,7 +15,8 @@ use table_map::field_type::{
 use wire::refusal::BAD_FIELD;
 use wire::{Part, Refusal, refuse};
 
-// The type that may not stand beside one; there is no type 0.
+// The type that may not stand beside one: 0 and no Option, as the definition `rival_of` has it; there is no type 0, so places[0] is never
+// filled.
 #[tactic(auto, using(wire::proofs::Rules::tests), unfolding(crate::specs::Fields::rival_of))]
 fn rival_of(kind: u8) -> u8
     ensures { result ≡ rival_of kind }

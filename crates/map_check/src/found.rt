@@ -1,4 +1,4 @@
-// Where the value of an optional field stands, if the field does: an Option of its part.
+// The bytes of optional fields, where these stand.
 ghost use Rattle.std.specs.Prelude.{◌≡◌};
 ghost use Rattle.map_check.specs.Fields.{value_in};
 

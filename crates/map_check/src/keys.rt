@@ -8,7 +8,7 @@ use crate::rank::TablePlace;
 use wire::refusal::BAD_FIELD;
 use wire::{Part, Refusal, part_of, read_packed, refuse};
 
-// The key index at `at`, and the place after its item, which in field 9 has a prefix length too.
+// The key index at `at`, and the place after its item, which in field 9 has a prefix length too: the definition `key_item` goes by `paired`.
 #[tactic(auto, unfolding(crate::specs::Contents::key_item))]
 pub(crate) fn key_at(value: &[u8], paired: bool, at: usize) -> Result<(u64, usize), Refusal>
     ensures { result ≡ key_item paired value.now at }
@@ -28,7 +28,7 @@ pub(crate) fn keys_below(value: &[u8], paired: bool, columns: TablePlace) -> boo
 {
     let above = columns.0 as u64;
     let mut at: usize = 0;
-    // a walk: the place is moved by what is read
+    // a walk: the place is moved by what is read, and a refused key is no end
     while at < value.len() {
         let Ok((key, next)) = key_at(value, paired, at) else {
             return false;

@@ -39,8 +39,7 @@ fn check_event(dialect: Dialect, event: &[u8], e: Event, buf: &mut [u8]) -> Resu
 }
 
 // Checks a map and writes its record at the buffer's start; the answer is the record's length. `event` is what follows the event's header
-// of 19 bytes, and
-// `post_header` is the post-header length that the format description gives for table maps.
+// of 19 bytes, and `post_header` is the post-header length that the format description gives for table maps.
 pub fn check(
     event: &[u8],
     post_header: u8,

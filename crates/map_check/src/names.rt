@@ -50,6 +50,7 @@ fn find_names(event: &[u8], fields: Fields) -> Result<Option<Part>, Refusal>
     ensures { result ≡ names_in (walk_fields fields event.now) }
 {
     let mut cursor = fields;
+    // a walk: each field tells where the next one starts
     while let Some(((kind, value), next)) = cursor.next(event)? {
         if kind == COLUMN_NAME {
             return Ok(Some(value));
@@ -73,6 +74,7 @@ fn string_at(list: &[u8], asked: usize) -> Result<Part, Refusal>
     ensures { result ≡ string_at asked asked list.now 0 }
 {
     let mut at: usize = 0;
+    // a walk: the number asked counts down, and the list may end first
     let mut left = asked;
     while let Some((value, next)) = next_item::<Part>(list, at)? {
         if left == 0 {

@@ -19,9 +19,8 @@ pub struct Column {
     pub unsigned: bool,
 }
 
-// The declared length of a string, in bytes; other families declare none. Here and below m0 and m1 are two numbers, as the definitions take
-// them. That of a CHAR is m1 and, above it, two bits of m0 that are kept
-// inverted.
+// The declared length of a string, in bytes; other families declare none. That of a CHAR is m1 and, above it, two bits of m0 that are kept
+// inverted. Here and below m0 and m1 are two numbers, as the definitions take them.
 #[tactic(auto, using(crate::proofs::Bits::char_same), unfolding(crate::specs::Columns::declared_in))]
 fn declared_in(family: Family, m0: u8, m1: u8) -> usize
     ensures { result ≡ declared_in family m0 m1 }
