@@ -1,4 +1,5 @@
--- Lists compared: of other lengths, element by element, and by std. Assumes nothing.
+-- Lists compared: of other lengths, element by element, and by std. The program stands on `compared` alone; the four laws before it,
+-- `other_lengths`, `same_here`, `other_here` and `all_same`, are kept as laws. Assumes nothing.
 use Prim.Native.Nat.{ℕ, suc, ◌+◌, ◌≤◌, ◌<◌}
 use mathlib.Core.Path.{◌≡◌, refl, ap, ◌∙◌}
 use mathlib.Core.Bool.{Bool, true, false, ◌&&◌}

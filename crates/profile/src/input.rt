@@ -6,7 +6,8 @@ use std::io;
 use std::io::Read;
 use std::rt::Runtime;
 
-// How many bytes came. A read tells how far it came, so the place is not counted by a `for`.
+// How many bytes came. A count, since io's `IsPrefixLen` says that it fits. A read tells how far it came, so the place is not counted by a
+// `for`.
 pub(crate) fn read_input(rt: &impl Runtime, buf: &mut [u8]) -> io::Result<usize>
     ensures { IfOk result (λ len. IsPrefixLen len buf.new) }
 {

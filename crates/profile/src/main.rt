@@ -43,7 +43,7 @@ fn status_if(rt: &impl Runtime, printed: io::Result<()>, status: Status) -> Stat
     }
 }
 
-fn status_of(text: Text) -> Status {
+fn verdict_of(text: Text) -> Status {
     if text.is_refusal {
         return Status::Refused;
     }
@@ -84,8 +84,8 @@ fn say_others(rt: &impl Eprint, event: &[u8], text: &[u8]) {
     let _ = rt.eprint(" the answer would be another one\n");
 }
 
-// Answers the input in a dialect, which was named or not.
-fn answer(rt: &impl Runtime, dialect: Dialect, is_named: bool) -> Status {
+// Answers the input in the dialect that was named; by the letter of document 01 where none was.
+fn answer(rt: &impl Runtime, named: Option<Dialect>) -> Status {
     let mut buffer = [0u8; MOST_INPUT + 1];
     let mut out = [0u8; MOST_OUTPUT];
     let event = match read_input(rt, &mut buffer) {
@@ -95,18 +95,18 @@ fn answer(rt: &impl Runtime, dialect: Dialect, is_named: bool) -> Status {
             return Status::Failed;
         }
     };
-    let text = put_profile(event, dialect, &mut out);
+    let text = put_profile(event, named.unwrap_or(Dialect::Document), &mut out);
     let printed = &out[..text.len];
-    if !is_named {
+    if named.is_none() {
         say_others(rt, event, printed);
     }
-    status_if(rt, rt.write_all(printed), status_of(text))
+    status_if(rt, rt.write_all(printed), verdict_of(text))
 }
 
 fn run(rt: &impl Runtime, asked: Asked) -> Status {
     match asked {
-        Asked::For(dialect) => answer(rt, dialect, true),
-        Asked::Letter => answer(rt, Dialect::Document, false),
+        Asked::For(dialect) => answer(rt, Some(dialect)),
+        Asked::Letter => answer(rt, None),
         Asked::Help => status_if(rt, rt.print(USAGE), Status::Accepted),
         Asked::Unknown => {
             let _ = rt.eprint("profile: one word is taken, document, mysql or mariadb, or none\n");

@@ -1,4 +1,5 @@
 // What is printed, put into a buffer. Each function says how much room it needs, and what it leaves is all of its text: nothing is cut.
+// Buffer and place stay two parameters: `stored` and `wire::write_bytes` take them so.
 ghost use Rattle.std.specs.Prelude.{◌≡◌, true, false, ◌++◌, ◌∷◌, [], ◌+◌, ◌-◌, ◌*◌, ◌/◌, ◌≤◌, ◌<◌, length};
 ghost use Rattle.io.specs.Counts.{IsPrefixLen};
 ghost use Rattle.wire.specs.Stored.{stored};
@@ -23,7 +24,7 @@ pub(crate) const MOST_OUTPUT: usize = LINE * record::MOST_COLUMNS;
 const POST_HEADER: u8 = 8;
 
 // How many bytes of the buffer are to be printed, and whether they are a refusal. Each text has both, and the
-// whole buffer is spoken of by the contracts: so this is no Result, and no slice.
+// contracts speak of the whole buffer: so this is no Result and no slice.
 #[derive(Drop)]
 pub(crate) struct Text {
     pub(crate) len: usize,
@@ -59,6 +60,7 @@ fn end_of(left: usize) -> u8
     if left == 0 { b'\n' } else { b' ' }
 }
 
+// Numbered by a place, as the invariant speaks of what is left from i on.
 #[tactic(auto, using(crate::proofs::Lines::none_left, crate::proofs::Lines::line_end))]
 fn put_line(numbers: &[u64], out: &mut [u8], at: usize) -> usize
     requires { at + length (line numbers.now) ≤ length out.old }
