@@ -15,7 +15,8 @@ use crate::words::Words;
 use std::io;
 use std::io::Write;
 
-// The line is changed: its byte strings are decoded in it.
+// The line is changed: its byte strings are decoded in it. Words are used up, room and output are lent: a
+// struct of the three would be taken apart again in each kind.
 fn answer_case(line: &mut [u8], room: &mut [u8], out: &mut impl Write) -> Answer {
     let (kind, words) = Words::behind_name(line, b' ');
     match kind {

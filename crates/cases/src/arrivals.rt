@@ -11,16 +11,20 @@ use std::io::Write;
 use value::Value;
 use wire::Refusal;
 
-// What parts a word from the one before it; behind the length of a long value, that no part of it came.
+// What may be due before the next word: nothing, a space, or `-` and a space where no part of a long value
+// came.
 const NOTHING: &[u8] = b"";
 
 const SPACE: &[u8] = b" ";
 
 const NO_PART: &[u8] = b"- ";
 
+// The OP that ends the input.
+const END: &[u8] = b"end";
+
 // What an OP came to: more is needed, the image is finished, or a word that ends it was told.
 #[derive(Clone, Copy, PartialEq, Eq)]
-enum Outcome {
+enum Progress {
     Open,
     Whole,
     Told,
@@ -42,7 +46,7 @@ struct Walk<'a, 'c> {
 
 impl Walk<'_, '_> {
     // Tells what is due.
-    fn part_words(&mut self, out: &mut impl Write) -> Answer {
+    fn tell_due(&mut self, out: &mut impl Write) -> Answer {
         out.write_all(self.due)?;
         self.due = NOTHING;
         Ok(())
@@ -89,9 +93,9 @@ impl Walk<'_, '_> {
         arrival: Result<Arrival, Refusal>,
         block: &[u8],
         out: &mut impl Write,
-    ) -> Result<Option<Outcome>, Stop> {
+    ) -> Result<Option<Progress>, Stop> {
         match arrival {
-            Ok(Arrival::More) => return Ok(Some(Outcome::Open)),
+            Ok(Arrival::More) => return Ok(Some(Progress::Open)),
             Ok(Arrival::Null { column: _ }) => self.tell_value(Value::Null, out)?,
             Ok(Arrival::Value { column: _, value }) => self.tell_value(value, out)?,
             Ok(Arrival::Long { column: _, len }) => {
@@ -102,36 +106,36 @@ impl Walk<'_, '_> {
                 write!(out, "{}", Hex(part(block, 0, len)))?;
                 self.due = SPACE;
             }
-            Ok(Arrival::End { used: _ }) => return Ok(Some(Outcome::Whole)),
+            Ok(Arrival::End { used: _ }) => return Ok(Some(Progress::Whole)),
             Err(refusal) => {
                 tell_refusal(refusal, out)?;
-                return Ok(Some(Outcome::Told));
+                return Ok(Some(Progress::Told));
             }
         }
         Ok(None)
     }
 
     // An OP that is a block: it is given until all that can be of it is taken. This and `end` count their
-    // turns as `answer_all` does.
-    fn give_all(&mut self, block: &[u8], out: &mut impl Write) -> Result<Outcome, Stop> {
+    // turns, as nothing here proves that the walk moves on.
+    fn give_all(&mut self, block: &[u8], out: &mut impl Write) -> Result<Progress, Stop> {
         let mut rest = block;
         for _ in 0..u64::MAX {
             if self.arriving.phase != Phase::Long {
-                self.part_words(out)?;
+                self.tell_due(out)?;
             }
             let (arrival, taken) = self.give(rest)?;
-            if let Some(outcome) = self.tell_arrival(arrival, rest, out)? {
-                return Ok(outcome);
+            if let Some(progress) = self.tell_arrival(arrival, rest, out)? {
+                return Ok(progress);
             }
             rest = part(rest, taken, rest.len());
         }
-        Ok(Outcome::Open)
+        Ok(Progress::Open)
     }
 
     // The OP `end`. This call is lent the carry to read alone.
-    fn end(&mut self, out: &mut impl Write) -> Result<Outcome, Stop> {
+    fn end(&mut self, out: &mut impl Write) -> Result<Progress, Stop> {
         for _ in 0..u64::MAX {
-            self.part_words(out)?;
+            self.tell_due(out)?;
             let Layout { record, presence } = self.layout;
             let given = self.arriving.end(record, presence, self.carry);
             let taken = self.taken;
@@ -139,19 +143,19 @@ impl Walk<'_, '_> {
             let arrival = given.arrival;
             if let Ok(Arrival::End { used }) = arrival {
                 write!(out, "end {used} {taken}")?;
-                return Ok(Outcome::Told);
+                return Ok(Progress::Told);
             }
-            if let Some(outcome) = self.tell_arrival(arrival, &[], out)? {
-                return Ok(outcome);
+            if let Some(progress) = self.tell_arrival(arrival, &[], out)? {
+                return Ok(progress);
             }
         }
-        Ok(Outcome::Open)
+        Ok(Progress::Open)
     }
 }
 
 // A block, or `end`.
 fn is_op(word: &mut [u8]) -> bool {
-    &*word == b"end".as_slice() || is_hex(word)
+    &*word == END || is_hex(word)
 }
 
 // `blocks RECORD PRESENCE CARRY OP...`
@@ -170,25 +174,25 @@ pub(crate) fn blocks(mut words: Words<'_>, room: &mut [u8], out: &mut impl Write
         taken: 0,
         written: 0,
     };
-    let mut outcome = Outcome::Open;
+    let mut progress = Progress::Open;
     for word in words {
-        if outcome == Outcome::Told {
+        if progress == Progress::Told {
             walk.due = SPACE;
         }
-        outcome = if &*word == b"end".as_slice() {
+        progress = if &*word == END {
             walk.end(out)?
         } else {
             let block = decode(word).ok_or(Stop::Bad)?;
             walk.give_all(block, out)?
         };
     }
-    match outcome {
-        Outcome::Open => {
-            walk.part_words(out)?;
+    match progress {
+        Progress::Open => {
+            walk.tell_due(out)?;
             write!(out, "open {}", walk.taken)?;
         }
-        Outcome::Whole => write!(out, "whole {}", walk.taken)?,
-        Outcome::Told => {}
+        Progress::Whole => write!(out, "whole {}", walk.taken)?,
+        Progress::Told => {}
     }
     Ok(())
 }

@@ -5,7 +5,8 @@ const DIGITS: usize = 20;
 
 const SIGNED_DIGITS: usize = 19;
 
-// The number with one more decimal digit, if it fits.
+// The number with one more decimal digit, if it fits. Std's `parse` takes a plus sign and more than 20
+// digits, which are bad here.
 fn with_digit(n: u64, byte: u8) -> Option<u64> {
     let digit = char::from(byte).to_digit(10)?;
     n.checked_mul(10)?.checked_add(u64::from(digit))
@@ -37,7 +38,8 @@ pub(crate) fn parse_signed(text: &[u8]) -> Option<i64> {
     }
 }
 
-// The value of a hex digit, lower-case where it is a letter.
+// The value of a hex digit, lower-case where it is a letter. `char::to_digit(16)` takes upper-case letters,
+// which are bad here.
 fn hex_value(byte: u8) -> Option<u8> {
     match byte {
         b'0'..=b'9' => Some(byte - b'0'),
@@ -58,7 +60,7 @@ pub(crate) fn is_hex(word: &[u8]) -> bool {
     !word.is_empty() && word.len() % 2 == 0 && word.iter().all(|byte| hex_value(*byte).is_some())
 }
 
-// Its bytes, which then stand at the front of the word.
+// The bytes of such a word, which then stand at its front.
 pub(crate) fn decode(word: &mut [u8]) -> Option<&[u8]> {
     if !is_hex(word) {
         return None;

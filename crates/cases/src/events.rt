@@ -51,7 +51,8 @@ fn layout_of<'a>(rows: Rows, record: &'a [u8], event: &'a [u8], second: bool) ->
     }
 }
 
-// `rows CODE RECORD TABLEID HEX`. It counts its turns as `answer_all` does.
+// `rows CODE RECORD TABLEID HEX`. The images met are counted, which ends the walk too: nothing here proves
+// that the walk moves on.
 pub(crate) fn rows(mut words: Words<'_>, out: &mut impl Write) -> Answer {
     let code = words.number()?;
     let record = words.bytes()?;

@@ -5,8 +5,8 @@ use std::io::Write;
 use table_map::Fields;
 use value::Dialect;
 
-// `TYPES OPTIONAL`: `TYPE@START+LENGTH` for each field, then `end`. It counts its turns as `answer_all`
-// does.
+// `TYPES OPTIONAL`: `TYPE@START+LENGTH` for each field, then `end`. The turns are counted, as nothing here
+// proves that the walk moves on.
 fn tell_fields(dialect: Dialect, mut words: Words<'_>, out: &mut impl Write) -> Answer {
     let types = words.bytes()?;
     let optional = words.bytes()?;

@@ -56,8 +56,8 @@ pub(crate) fn step(mut words: Words<'_>, out: &mut impl Write) -> Answer {
     Ok(())
 }
 
-// The values of an image from a cursor on, each with a space behind it; and how many bytes they end
-// with. It counts its turns as `answer_all` does.
+// The values of an image from a cursor on, each with a space behind it; and how many bytes the image
+// used. The turns are counted, as nothing here proves that the walk moves on.
 pub(crate) fn tell_values(
     layout: Layout<'_>,
     bytes: &[u8],
@@ -65,7 +65,6 @@ pub(crate) fn tell_values(
     out: &mut impl Write,
 ) -> Result<usize, Stop> {
     let mut cursor = from;
-    let mut used = 0;
     for _ in 0..u64::MAX {
         let (value, next) = match layout.step(bytes, cursor)? {
             Step::Null { column: _, next } => (Value::Null, next),
@@ -74,15 +73,12 @@ pub(crate) fn tell_values(
                 value,
                 next,
             } => (value, next),
-            Step::End { used: all } => {
-                used = all;
-                break;
-            }
+            Step::End { used } => return Ok(used),
         };
         write!(out, "{} ", Lent { value, bytes })?;
         cursor = next;
     }
-    Ok(used)
+    Ok(0)
 }
 
 // `image RECORD PRESENCE IMAGE`

@@ -72,7 +72,7 @@ fn next_item<'a>(
     })
 }
 
-// `list KIND HEX`. It counts its turns as `answer_all` does.
+// `list KIND HEX`. The turns are counted, as nothing here proves that the walk moves on.
 pub(crate) fn list(mut words: Words<'_>, out: &mut impl Write) -> Answer {
     let kind = read_kind(&mut words)?;
     let bytes = words.bytes()?;

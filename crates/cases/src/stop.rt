@@ -30,7 +30,7 @@ impl From<io::Error> for Stop {
     }
 }
 
-// `refused NUMBER PLACE PART`
+// `refused NUMBER PLACE PART`. A Refusal is wire's, so it cannot have a Display here.
 pub(crate) fn tell_refusal(refusal: Refusal, out: &mut impl Write) -> io::Result<()> {
     write!(
         out,
