@@ -16,34 +16,59 @@ fn rows(rt: &impl Print, code: u64, record: &[u8], table: u64, event: &[u8]) -> 
     tell(rt, "feed_rows", status, &out)
 }
 
-fn written_image(rt: &impl Print, record: &[u8], event: &[u8], offset: usize) -> io::Result<()> {
-    let mut out = [LEFT; 6];
-    let status = feed_abi::feed_image(record, event, 14, 2, 0, 0, 0, offset, 0, &mut out);
-    tell(rt, "feed_image", status, &out)
+// Where the sets of an event stand, each of two bytes; 0 for a second one that there is not.
+#[derive(Clone, Copy)]
+struct Sets {
+    first: usize,
+    second: usize,
 }
 
-fn updated_image(
+const WRITTEN_SETS: Sets = Sets {
+    first: 14,
+    second: 0,
+};
+
+const UPDATED_SETS: Sets = Sets {
+    first: 9,
+    second: 11,
+};
+
+// An image whose bytes begin at an offset, under the first set or the second.
+fn image(
     rt: &impl Print,
     record: &[u8],
     event: &[u8],
+    sets: Sets,
     offset: usize,
     second: u64,
 ) -> io::Result<()> {
+    let (has_second, length) = if sets.second == 0 { (0, 0) } else { (1, 2) };
     let mut out = [LEFT; 6];
-    let status = feed_abi::feed_image(record, event, 9, 2, 1, 11, 2, offset, second, &mut out);
+    let status = feed_abi::feed_image(
+        record,
+        event,
+        sets.first,
+        2,
+        has_second,
+        sets.second,
+        length,
+        offset,
+        second,
+        &mut out,
+    );
     tell(rt, "feed_image", status, &out)
 }
 
 fn written_images(rt: &impl Print, record: &[u8], event: &[u8]) -> io::Result<()> {
-    written_image(rt, record, event, 16)?;
-    written_image(rt, record, event, 22)
+    image(rt, record, event, WRITTEN_SETS, 16, 0)?;
+    image(rt, record, event, WRITTEN_SETS, 22, 0)
 }
 
 fn updated_images(rt: &impl Print, record: &[u8], event: &[u8]) -> io::Result<()> {
-    updated_image(rt, record, event, 13, 0)?;
-    updated_image(rt, record, event, 18, 1)?;
-    updated_image(rt, record, event, 20, 0)?;
-    updated_image(rt, record, event, 19, 1)
+    image(rt, record, event, UPDATED_SETS, 13, 0)?;
+    image(rt, record, event, UPDATED_SETS, 18, 1)?;
+    image(rt, record, event, UPDATED_SETS, 20, 0)?;
+    image(rt, record, event, UPDATED_SETS, 19, 1)
 }
 
 fn written(rt: &impl Print, record: &[u8], event: &[u8]) -> io::Result<()> {

@@ -1,6 +1,9 @@
 // Calls every function of feed_abi, and prints a line for each call. The stored output holds the numbers of the
 // interface, which code and definitions could change together. What is wrong with a run is said on standard
 // error, and its status is told to `./run` if that asks for it.
+//
+// Phases, kinds, lists and dialects are numbers here: they are what C passes. Many functions take `rt`,
+// `record` and `event`: each is what the call takes; a struct would be opened again in each.
 #![tactic(auto)]
 
 mod arrivals;

@@ -2,7 +2,8 @@
 // write to.
 use std::{fmt, io};
 
-// What a number holds before a call.
+// What a number holds before a call. The calls are lent numbers, so one left alone shows only by what it
+// held.
 pub(crate) const LEFT: u64 = u64::MAX;
 
 // Numbers, each behind a space, `-` for one that the call left alone.
@@ -21,6 +22,7 @@ impl fmt::Display for Numbers<'_> {
     }
 }
 
+// Bytes in hex. `cases` has another, which writes `-` for no bytes.
 #[derive(Clone, Copy)]
 struct Hex<'a>(&'a [u8]);
 
@@ -33,8 +35,9 @@ impl fmt::Display for Hex<'_> {
     }
 }
 
-// A call that answers by numbers alone. The files beside have a function for each call, though some differ in the call alone: one that
-// takes the call as a closure is no shorter.
+// A call that answers by numbers alone. The files beside have a function for each call, though some differ in the call alone. One function
+// that makes `[LEFT; N]` and takes the call as a closure was tried: that N numbers fit a slice was not proved for every N, and a bound of a
+// closure may not name N.
 pub(crate) fn tell(rt: &impl Print, name: &str, status: u64, out: &[u64]) -> io::Result<()> {
     println!(rt; "{name} {status}{}", Numbers(out))
 }
