@@ -5,7 +5,7 @@ ghost use Rattle.wire.specs.Number.{le_value, be_value, le_bytes, be_bytes};
 ghost use Rattle.wire.specs.Stored.{store, answer_of, left_of};
 
 use crate::refusal::Refusal;
-use crate::store::{has_room, write_bytes};
+use crate::store::{has_room, write_some};
 
 // A byte as a u64. It stays beside `u64::from`, since it is public and promises/specs/Calls.antt has a line for it.
 pub fn wide(x: u8) -> u64
@@ -95,7 +95,7 @@ pub fn write_le(k: usize, v: u64, buf: &mut [u8], at: usize) -> Result<usize, Re
     ensures result_value { result ≡ answer_of (store (le_bytes (min k 8) v) buf.old at) }
     ensures buf_after { buf.new ≡ left_of (store (le_bytes (min k 8) v) buf.old at) buf.old }
 {
-    write_bytes(&v.to_le_bytes()[..k.min(8)], buf, at)
+    write_some(&v.to_le_bytes()[..k.min(8)], buf, at)
 }
 
 // Writes the k low bytes of v from at on, the most significant first.
@@ -103,5 +103,5 @@ pub fn write_be(k: usize, v: u64, buf: &mut [u8], at: usize) -> Result<usize, Re
     ensures result_value { result ≡ answer_of (store (be_bytes (min k 8) v) buf.old at) }
     ensures buf_after { buf.new ≡ left_of (store (be_bytes (min k 8) v) buf.old at) buf.old }
 {
-    write_bytes(&v.to_be_bytes()[8 - k.min(8)..], buf, at)
+    write_some(&v.to_be_bytes()[8 - k.min(8)..], buf, at)
 }
