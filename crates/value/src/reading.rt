@@ -106,9 +106,12 @@ pub(crate) fn read_timed(
     Ok((Value::Temporal(temporal), next))
 }
 
-// Put into `read`, its answer would be laid down there and copied, and a run over BIT, SET or DECIMAL cost a third more.
-#[inline(never)]
-fn read_fixed(n: usize, s: &[u8], at: usize, place: usize) -> Result<(Value, usize), Refusal>
+pub(crate) fn read_fixed(
+    n: usize,
+    s: &[u8],
+    at: usize,
+    place: usize,
+) -> Result<(Value, usize), Refusal>
     ensures { result ≡ read_value (Shape.Fixed n) place s.now at }
 {
     let next = behind(s, at, n, place)?;
