@@ -1,5 +1,5 @@
-"""What the sources of the libraries declare: their public functions with their contracts, their public types, and the definitions and
-laws of their .antt files, each with the comment above it. For the scripts of this folder."""
+"""What the sources of the libraries declare: their public functions with their contracts, their public types and traits, and the
+definitions and laws of their .antt files, each with the comment above it. For the scripts of this folder."""
 import os
 import re
 
@@ -121,6 +121,40 @@ def types(crate):
     return [found[name] for name in homes if name in found] + [found[name] for name in sorted(used - set(homes)) if name in found]
 
 
+class Trait:
+    """A public trait: its ghost members, each a comment, a name and a type; its functions; and what each type that has it gives for the
+    ghost members: the type, the comment above that, and their names and values."""
+
+    def __init__(self, name, comment, ghosts, functions, given):
+        self.name, self.comment, self.ghosts, self.functions, self.given = name, comment, ghosts, functions, given
+
+
+def traits(crate):
+    """The public traits of a library, in the order of its exports."""
+    found, homes = {}, exports(crate)
+    for name, module in homes.items():
+        file = module + ".rt"
+        text = read("crates", crate, "src", file)
+        declaration = re.search(rf"((?:^//[^\n]*\n)*)^pub trait {name}\b[^\n]*\{{\n(.*?)^\}}", text, re.M | re.S)
+        if not declaration:
+            continue
+        ghosts, members = [], []
+        for above, code in re.findall(r"((?:^    //[^\n]*\n)*)^    ((?:ghost|fn) .*?);$", declaration.group(2), re.M | re.S):
+            comment = prose(above.splitlines())
+            ghost = re.match(r"ghost (\w+): \{(.*)\}", code, re.S)
+            if ghost:
+                ghosts.append((comment, ghost.group(1), clean(ghost.group(2))))
+            else:
+                path = f"{module}.{name}.{re.match('fn ([a-z_]+)', code).group(1)}"
+                members.append(function(crate, path, path.split(".")[-1], file, comment, code.splitlines()))
+        given = []
+        for above, of, body in re.findall(rf"((?:^//[^\n]*\n)*)^impl(?:<[^>]*>)? {name} for ([^{{\n]*) \{{\n(.*?)^\}}", text, re.M | re.S):
+            values = re.findall(r"^    ghost (\w+) = \{(.*?)\};", body, re.M | re.S)
+            given.append((of, prose(above.splitlines()), [(ghost, clean(value)) for ghost, value in values]))
+        found[name] = Trait(name, prose(declaration.group(1).splitlines()), ghosts, members, given)
+    return list(found.values())
+
+
 def constants(crate):
     """The public constants of a library, by module: name and number."""
     for module in re.findall(r"^pub mod (\w+);", read("crates", crate, "src", "lib.rt"), re.M):
@@ -139,5 +173,9 @@ def antt(crate, part):
 
 
 def named(text):
-    """The public names of an .antt file, in order."""
-    return re.findall(r"^(?:abbrev |unfoldable )?pub (?!mod )(?:record |data )?([^\s:({]+)", text, re.M)
+    """The public names of an .antt file, in order, with those that it hands on from other files."""
+    names = []
+    own = r"(?!mod |use )(?:record |data |ruleset )?([^\s:({]+)"
+    for handed, name in re.findall(r"^(?:abbrev |unfoldable )?pub (?:use [\w.]+\.\{([^}]*)\}|" + own + ")", text, re.M):
+        names.extend([name] if name else [word.split()[-1] for word in handed.split(",") if word.strip()])
+    return names

@@ -1,6 +1,8 @@
 // What the program has of the system besides its input and output: its words, the messages on standard
 // error, and its status. Each program has this file, and no library has these functions: there they would
 // be public and without a contract, as no contract can say what a descriptor gives or takes.
+ghost use Rattle.std.specs.Prelude.{◌≤◌, length};
+
 use std::env::{Env, FillError};
 use std::fs::OpenOptions;
 use std::io::{Error, Write};
@@ -25,7 +27,9 @@ pub(crate) fn word_count(rt: &impl Env) -> usize {
 }
 
 // Word i, put at the start of a buffer; no bytes where there is none or it has more than the buffer.
-pub(crate) fn word<'b>(rt: &impl Env, i: usize, buffer: &'b mut [u8]) -> &'b [u8] {
+pub(crate) fn word<'b>(rt: &impl Env, i: usize, buffer: &'b mut [u8]) -> &'b [u8]
+    ensures { length result.now ≤ length buffer.old }
+{
     let length = rt.arg(i, buffer).unwrap_or(0);
     buffer.get(..length).unwrap_or_default()
 }

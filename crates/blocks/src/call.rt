@@ -39,7 +39,7 @@ impl Call<'_> {
     {
         let held = self.at.held;
         let taken = upto.saturating_sub(held);
-        carry[held..held + taken].copy_from_slice(&self.block[..taken]);
+        let _ = wire::write_bytes(&self.block[..taken], carry, held);
         taken
     }
 

@@ -43,6 +43,27 @@ impl<R: Print> Write for Output<'_, R> {
     }
 }
 
+const HEX_DIGITS: &[u8; 16] = b"0123456789abcdef";
+
+fn hex_pair(byte: u8) -> [u8; 2] {
+    [
+        HEX_DIGITS[usize::from(byte >> 4)],
+        HEX_DIGITS[usize::from(byte & 15)],
+    ]
+}
+
+// The digits of bytes, if there is room for so many pairs.
+fn hex_digits<'a>(bytes: &[u8], room: &'a mut [[u8; 2]]) -> Option<&'a str> {
+    let pairs = room.get_mut(..bytes.len())?;
+    for (pair, byte) in pairs.iter_mut().zip(bytes) {
+        *pair = hex_pair(*byte);
+    }
+    str::from_utf8(pairs.as_flattened()).ok()
+}
+
+// How many bytes are written at once. A `write!` for each costs more than to read and decode it.
+const PIECE: usize = 64;
+
 // Bytes in hex, `-` where there are none.
 #[derive(Clone, Copy)]
 pub(crate) struct Hex<'a>(pub(crate) &'a [u8]);
@@ -52,8 +73,9 @@ impl fmt::Display for Hex<'_> {
         if self.0.is_empty() {
             return write!(f, "-");
         }
-        for byte in self.0 {
-            write!(f, "{byte:02x}")?;
+        let mut room = [[0u8; 2]; PIECE];
+        for piece in self.0.chunks(PIECE) {
+            f.write_str(hex_digits(piece, &mut room).ok_or(fmt::Error)?)?;
         }
         Ok(())
     }

@@ -1,4 +1,4 @@
--- What a call leaves that has room for its numbers, or not: for the calls that look first whether it has, since they write. Assumes nothing.
+-- What a call leaves that has room for its numbers, or not: for the calls, which all look first whether it has. Assumes nothing.
 use Prim.Native.Nat.{ℕ, ◌≤◌, ◌<◌}
 use mathlib.Core.Path.{◌≡◌}
 use mathlib.Core.List.{List}

@@ -7,7 +7,8 @@ ghost use Rattle.feed_abi.specs.Calls.{part_numbers, given_numbers, names_given}
 use wire::refusal::NO_ROOM;
 use wire::{Part, Refusal};
 
-// The status of a call whose buffer of numbers is too short: nothing was changed. `as`, since a constant calls no From.
+// The status of a call whose buffer of numbers is too short. Each call tests that before anything else, so a call that cannot tell its
+// answer changes nothing and costs nothing. `as`, since a constant calls no From.
 pub(crate) const NO_NUMBERS: u64 = NO_ROOM as u64;
 
 // Puts the numbers at the start of out.
@@ -23,13 +24,11 @@ fn put_numbers(numbers: &[u64], out: &mut [u64])
 // has room for two numbers.
 #[tactic(auto, unfolding(crate::specs::Answers::status_of, crate::specs::Answers::numbers_left))]
 pub(crate) fn tell<const N: usize>(answer: Result<[u64; N], Refusal>, out: &mut [u64]) -> u64
-    requires { 2 ≤ N }
+    requires refusal { 2 ≤ N }
+    requires room { N ≤ length out.old }
     ensures value { result ≡ status_of N answer.entry out.old }
     ensures out_after { out.new ≡ numbers_left N answer.entry out.old }
 {
-    if out.len() < N {
-        return NO_NUMBERS;
-    }
     match answer {
         Ok(numbers) => {
             put_numbers(&numbers, out);

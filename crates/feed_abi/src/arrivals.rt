@@ -131,11 +131,15 @@ fn end(profile: &[u8], presence: &[u8], carry: &[u8], at: Arriving) -> Result<[u
 }
 
 // The state that an image begins with: phase, column, held, left, used.
+#[tactic(auto, using(crate::proofs::Leaves::leaves))]
 pub fn feed_begin(profile: &[u8], presence: &[u8], carry: &[u8], out: &mut [u64]) -> u64
     ensures value { result ≡ status_of 5 (feed_begin profile.now presence.now carry.now) out.old }
     ensures out_after { out.new
         ≡ numbers_left 5 (feed_begin profile.now presence.now carry.now) out.old }
 {
+    if out.len() < 5 {
+        return NO_NUMBERS;
+    }
     tell(begin(profile, presence, carry), out)
 }
 
@@ -173,7 +177,7 @@ pub fn feed_give(
 }
 
 // No more bytes come: the end, with the bytes used, in the layout of `feed_give`. The next state is the closed one.
-#[tactic(auto, unfolding(crate::specs::Blocks::feed_end))]
+#[tactic(auto, using(crate::proofs::Leaves::leaves), unfolding(crate::specs::Blocks::feed_end))]
 pub fn feed_end(
     profile: &[u8],
     presence: &[u8],
@@ -192,6 +196,9 @@ pub fn feed_end(
         ≡ numbers_left 15 (feed_end profile.now presence.now carry.now phase column held left used)
         out.old }
 {
+    if out.len() < 15 {
+        return NO_NUMBERS;
+    }
     let at = state_asked(phase, column, held, left, used);
     tell(end(profile, presence, carry, at), out)
 }

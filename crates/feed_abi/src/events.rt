@@ -4,7 +4,7 @@ ghost use Rattle.rows_event.specs.Images.{next_image};
 ghost use Rattle.feed_abi.specs.Answers.{status_of, numbers_left};
 ghost use Rattle.feed_abi.specs.Calls.{said, second_asked, sets_asked, image_numbers, feed_rows, feed_image};
 
-use crate::answer::{given_numbers, tell};
+use crate::answer::{NO_NUMBERS, given_numbers, tell};
 use rows_event::{Images, Rows};
 use wire::{Part, Refusal};
 
@@ -70,17 +70,21 @@ fn image(profile: &[u8], event: &[u8], rows: Rows, at: Images) -> Result<[u64; 6
 
 // The parts of a rows event of the code `code`, under the record and the table id of its map: flags; whether it has extra data, start,
 // length; start and length of its presence bits; whether it has a second set, start, length; and where its images begin.
+#[tactic(auto, using(crate::proofs::Leaves::leaves))]
 pub fn feed_rows(code: u64, profile: &[u8], table: u64, event: &[u8], out: &mut [u64]) -> u64
     ensures value { result ≡ status_of 10 (feed_rows code profile.now table event.now) out.old }
     ensures out_after { out.new
         ≡ numbers_left 10 (feed_rows code profile.now table event.now) out.old }
 {
+    if out.len() < 10 {
+        return NO_NUMBERS;
+    }
     tell(rows(code, profile, table, event), out)
 }
 
 // One step over the images of a rows event, from any cursor, under any sets: 1, start, length, under which set it stands, and the next
 // cursor; or zeros for the end.
-#[tactic(auto, unfolding(crate::specs::Calls::feed_image))]
+#[tactic(auto, using(crate::proofs::Leaves::leaves), unfolding(crate::specs::Calls::feed_image))]
 pub fn feed_image(
     profile: &[u8],
     event: &[u8],
@@ -100,6 +104,9 @@ pub fn feed_image(
         ≡ numbers_left 6 (feed_image profile.now event.now first_start first_length has_second second_start
         second_length offset second) out.old }
 {
+    if out.len() < 6 {
+        return NO_NUMBERS;
+    }
     let before = Part {
         start: first_start,
         len: first_length,

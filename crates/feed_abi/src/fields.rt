@@ -3,7 +3,7 @@ ghost use Rattle.std.specs.Prelude.{◌≡◌};
 ghost use Rattle.feed_abi.specs.Answers.{status_of, numbers_left};
 ghost use Rattle.feed_abi.specs.Fields.{item_at, feed_parts, feed_fields, feed_field, feed_item};
 
-use crate::answer::tell;
+use crate::answer::{NO_NUMBERS, tell};
 use crate::maps::dialect_of;
 use table_map::{Fields, next_item};
 use wire::refusal::NOT_TAKEN;
@@ -101,24 +101,33 @@ fn item(list: u64, value: &[u8], offset: usize) -> Result<[u64; 4], Refusal>
 }
 
 // The parts of a map that are bytes for its columns, start and length each: types, metadata, nullable bits, optional fields.
+#[tactic(auto, using(crate::proofs::Leaves::leaves))]
 pub fn feed_parts(event: &[u8], post_header: u8, out: &mut [u64]) -> u64
     ensures value { result ≡ status_of 8 (feed_parts event.now post_header) out.old }
     ensures out_after { out.new ≡ numbers_left 8 (feed_parts event.now post_header) out.old }
 {
+    if out.len() < 8 {
+        return NO_NUMBERS;
+    }
     tell(parts(event, post_header), out)
 }
 
 // The cursor that a walk over the optional fields begins with: where the first stands, how many columns have a signedness bit, and how many
 // columns there are.
+#[tactic(auto, using(crate::proofs::Leaves::leaves))]
 pub fn feed_fields(event: &[u8], post_header: u8, dialect: u8, out: &mut [u64]) -> u64
     ensures value { result ≡ status_of 3 (feed_fields event.now post_header dialect) out.old }
     ensures out_after { out.new ≡ numbers_left 3 (feed_fields event.now post_header dialect) out.old }
 {
+    if out.len() < 3 {
+        return NO_NUMBERS;
+    }
     tell(fields(event, post_header, dialect), out)
 }
 
 // One step over the optional fields, from any cursor: 1, the field's type, start and length of its value, and where the next stands; or
 // zeros for the end. The counts of the next cursor are the same.
+#[tactic(auto, using(crate::proofs::Leaves::leaves))]
 pub fn feed_field(
     event: &[u8],
     offset: usize,
@@ -129,14 +138,21 @@ pub fn feed_field(
     ensures value { result ≡ status_of 5 (feed_field event.now offset numeric columns) out.old }
     ensures out_after { out.new ≡ numbers_left 5 (feed_field event.now offset numeric columns) out.old }
 {
+    if out.len() < 5 {
+        return NO_NUMBERS;
+    }
     tell(field(event, offset, numeric, columns), out)
 }
 
 // One step over a list in the value of an optional field, from any offset: 1, two numbers for the item, and where the next stands; or zeros
 // for the end. 13 for a list that there is not.
+#[tactic(auto, using(crate::proofs::Leaves::leaves))]
 pub fn feed_item(list: u64, value: &[u8], offset: usize, out: &mut [u64]) -> u64
     ensures value { result ≡ status_of 4 (feed_item list value.now offset) out.old }
     ensures out_after { out.new ≡ numbers_left 4 (feed_item list value.now offset) out.old }
 {
+    if out.len() < 4 {
+        return NO_NUMBERS;
+    }
     tell(item(list, value, offset), out)
 }

@@ -106,10 +106,14 @@ fn name<'a>(names: &'a [u8], operator: &'a [u8], column: usize) -> Result<[u64; 
 
 // Whose map it is: table id, flags, and where the names of the database and of the table stand in the event, start and length. Rows events
 // are read under the id.
+#[tactic(auto, using(crate::proofs::Leaves::leaves))]
 pub fn feed_map(event: &[u8], post_header: u8, out: &mut [u64]) -> u64
     ensures value { result ≡ status_of 6 (feed_map event.now post_header) out.old }
     ensures out_after { out.new ≡ numbers_left 6 (feed_map event.now post_header) out.old }
 {
+    if out.len() < 6 {
+        return NO_NUMBERS;
+    }
     tell(map(event, post_header), out)
 }
 
@@ -138,27 +142,39 @@ pub fn feed_check(
 }
 
 // What a record says of a column: real type, flags, m0, m1, charset.
+#[tactic(auto, using(crate::proofs::Leaves::leaves))]
 pub fn feed_column(profile: &[u8], column: usize, out: &mut [u64]) -> u64
     ensures value { result ≡ status_of 5 (feed_column profile.now column) out.old }
     ensures out_after { out.new ≡ numbers_left 5 (feed_column profile.now column) out.old }
 {
+    if out.len() < 5 {
+        return NO_NUMBERS;
+    }
     tell(entry(profile, column), out)
 }
 
 // Where the names of a map stand in the event: 1, start and length, which may be 0; zeros where it has none. A map that is refused before
 // its names is refused here.
+#[tactic(auto, using(crate::proofs::Leaves::leaves))]
 pub fn feed_names(event: &[u8], post_header: u8, dialect: u8, out: &mut [u64]) -> u64
     ensures value { result ≡ status_of 3 (feed_names event.now post_header dialect) out.old }
     ensures out_after { out.new ≡ numbers_left 3 (feed_names event.now post_header dialect) out.old }
 {
+    if out.len() < 3 {
+        return NO_NUMBERS;
+    }
     tell(names(event, post_header, dialect), out)
 }
 
 // Where the name of a column stands, start and length, in the list that applies: the map's names if they are not empty, else the
 // operator's.
+#[tactic(auto, using(crate::proofs::Leaves::leaves))]
 pub fn feed_name<'a>(names: &'a [u8], operator: &'a [u8], column: usize, out: &mut [u64]) -> u64
     ensures value { result ≡ status_of 2 (feed_name names.now operator.now column) out.old }
     ensures out_after { out.new ≡ numbers_left 2 (feed_name names.now operator.now column) out.old }
 {
+    if out.len() < 2 {
+        return NO_NUMBERS;
+    }
     tell(name(names, operator, column), out)
 }

@@ -120,14 +120,19 @@ fn room(profile: &[u8], presence: &[u8]) -> Result<[u64; 2], Refusal>
 }
 
 // The cursor that a walk begins with: column and offset.
+#[tactic(auto, using(crate::proofs::Leaves::leaves))]
 pub fn feed_first(profile: &[u8], presence: &[u8], out: &mut [u64]) -> u64
     ensures value { result ≡ status_of 2 (feed_first profile.now presence.now) out.old }
     ensures out_after { out.new ≡ numbers_left 2 (feed_first profile.now presence.now) out.old }
 {
+    if out.len() < 2 {
+        return NO_NUMBERS;
+    }
     tell(first(profile, presence), out)
 }
 
 // One step over an image, from any cursor: sort, column, next column, next offset, and the seven parts of the value.
+#[tactic(auto, using(crate::proofs::Leaves::leaves))]
 pub fn feed_step(
     profile: &[u8],
     presence: &[u8],
@@ -143,6 +148,9 @@ pub fn feed_step(
     ensures held { result ≡ 0
         → Held (step_from profile.now presence.now image.now (cursor column offset)) }
 {
+    if out.len() < 11 {
+        return NO_NUMBERS;
+    }
     tell(step(profile, presence, image, column, offset), out)
 }
 
@@ -208,9 +216,13 @@ pub fn feed_put(
 }
 
 // The most bytes that an image can take, and 0.
+#[tactic(auto, using(crate::proofs::Leaves::leaves))]
 pub fn feed_room(profile: &[u8], presence: &[u8], out: &mut [u64]) -> u64
     ensures value { result ≡ status_of 2 (feed_room profile.now presence.now) out.old }
     ensures out_after { out.new ≡ numbers_left 2 (feed_room profile.now presence.now) out.old }
 {
+    if out.len() < 2 {
+        return NO_NUMBERS;
+    }
     tell(room(profile, presence), out)
 }

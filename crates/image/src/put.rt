@@ -67,7 +67,7 @@ fn put_nulls(nulls: &[u8], n: usize, buf: &mut [u8])
     requires { (length nulls.now ≡ bytes_for n) × (length nulls.now ≤ length buf.old) }
     ensures { buf.new ≡ stored (filled n nulls.now) buf.old 0 }
 {
-    buf[..nulls.len()].copy_from_slice(nulls);
+    let _ = wire::write_bytes(nulls, buf, 0);
     let used = n % 8;
     if used != 0 {
         let last = n / 8;

@@ -11,7 +11,7 @@ use Rattle.promises.specs.Occurs.{Occurs}
 use Rattle.promises.specs.Buffers.{Buffers}
 use Rattle.promises.specs.Abi.{AbiCalls}
 use Rattle.promises.specs.Walks.{Walks}
-use Rattle.promises.specs.Results.{Results}
+use Rattle.promises.specs.Results.{EveryResult}
 
 pub record Demand1 : Type 2 where
   -- each public call ends, whatever it is lent, and answers what its contract says
@@ -27,4 +27,4 @@ pub record Demand1 : Type 2 where
   -- a walk on paper never runs out of steps, so none ends early by its form
   pub walks : Walks
   -- "any two results it allows are proved equal"
-  pub results : Results
+  pub results : EveryResult

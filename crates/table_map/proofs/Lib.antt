@@ -2,8 +2,8 @@
 -- are whole, or cut short. `Puts`: parts written one behind the other.
 -- `Trips`: what is written is read back. `Canon`: what is read and written again is the same exactly if it was as a writer writes it.
 -- `Steps`: a step of a walk, whatever the rule. `Items`: the items of lists move. `Walks`: a walk and its steps. `Optional`: the optional
--- fields. `Appends`: bytes put behind a field. `FieldMoves`: a field read wherever its bytes stand. `Views`: no two answers look the same
--- on paper. `Worked` and `Examples`: events and walks, computed.
+-- fields. `Appends`: bytes put behind a field. `FieldMoves`: a field read wherever its bytes stand. `Worked` and `Examples`: events and
+-- walks, computed.
 pub mod Chains
 pub mod Layouts
 pub mod Puts

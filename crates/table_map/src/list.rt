@@ -91,7 +91,7 @@ pub fn next_item<I: ListItem>(s: &[u8], at: usize) -> Result<Option<(I, usize)>,
 // ---- a cursor for each kind of list
 // They stay four types: each has a line of its own among the calls whose safety is proved (promises/specs/Calls.antt).
 
-// The cursor of a list of integers.
+// The cursor of a list of integers: fields 3, 7, 8, 11 and 13.
 #[derive(Clone, Copy, Debug, PartialEq, Eq)]
 pub struct Integers {
     pub at: usize,
@@ -114,7 +114,8 @@ impl Integers {
     }
 }
 
-// The cursor of a list of pairs.
+// The cursor of a list of pairs: in field 9 a column and the length of its prefix; in fields 2 and 10, behind the default, a rank and its
+// charset.
 #[derive(Clone, Copy, Debug, PartialEq, Eq)]
 pub struct Pairs {
     pub at: usize,
@@ -137,7 +138,7 @@ impl Pairs {
     }
 }
 
-// The cursor of a list of strings.
+// The cursor of a list of strings: field 4.
 #[derive(Clone, Copy, Debug, PartialEq, Eq)]
 pub struct Strings {
     pub at: usize,
@@ -160,7 +161,7 @@ impl Strings {
     }
 }
 
-// The cursor of a list of groups of strings.
+// The cursor of a list of groups of strings: fields 5 and 6. A group is told by how many strings it has and where the first stands.
 #[derive(Clone, Copy, Debug, PartialEq, Eq)]
 pub struct Groups {
     pub at: usize,

@@ -9,7 +9,8 @@ ghost use Rattle.value.specs.Storing.{write_value};
 
 use crate::datum::Value;
 use crate::reading::{
-    read_counted, read_double, read_float, read_signed, read_timed, read_unsigned, read_year,
+    read_counted, read_double, read_fixed, read_float, read_signed, read_timed, read_unsigned,
+    read_year,
 };
 use crate::shape::{Layout, Shape};
 use temporal::Storage;
@@ -122,6 +123,9 @@ pub fn read_op(op: u8, s: &[u8], at: usize, place: usize) -> Result<(Value, usiz
         39..=45 => read_timed(Storage::Time2 { m0: op - 39 }, s, at, place),
         47 => read_counted(1, s, at, place),
         48 => read_counted(2, s, at, place),
+        49 => read_counted(3, s, at, place),
+        50 => read_counted(4, s, at, place),
+        51.. => read_fixed(usize::from(op - 51), s, at, place),
         _ => layout_for(op).read(s, at, place),
     }
 }

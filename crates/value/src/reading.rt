@@ -106,7 +106,12 @@ pub(crate) fn read_timed(
     Ok((Value::Temporal(temporal), next))
 }
 
-fn read_fixed(n: usize, s: &[u8], at: usize, place: usize) -> Result<(Value, usize), Refusal>
+pub(crate) fn read_fixed(
+    n: usize,
+    s: &[u8],
+    at: usize,
+    place: usize,
+) -> Result<(Value, usize), Refusal>
     ensures { result ≡ read_value (Shape.Fixed n) place s.now at }
 {
     let next = behind(s, at, n, place)?;

@@ -5,7 +5,7 @@ ghost use Rattle.wire.specs.Number.{le_value, be_value, le_bytes, be_bytes};
 ghost use Rattle.wire.specs.Stored.{store, answer_of, left_of};
 
 use crate::refusal::Refusal;
-use crate::store::{has_room, write_bytes};
+use crate::store::{has_room, write_some};
 
 // A byte as a u64. It stays beside `u64::from`, since it is public and promises/specs/Calls.antt has a line for it.
 pub fn wide(x: u8) -> u64
@@ -24,15 +24,24 @@ fn rest(s: &[u8], at: usize) -> &[u8]
     &s[at..]
 }
 
-// The number of at most eight bytes, the least significant first. The compiler makes plain loads of it where their count is a constant.
+// The number of at most eight bytes, the least significant first. Each count of bytes has an arm of its own, of which the compiler makes plain
+// loads: a copy of as many as there are would be a call of memcpy, which the library for C would then need from outside.
 #[inline]
 pub(crate) fn le(bytes: &[u8]) -> u64
     requires { length bytes.now ≤ 8 }
     ensures { (result ≡ le_value bytes.now) × (result < 256 ^ length bytes.now) }
 {
-    let mut eight = [0u8; 8];
-    eight[..bytes.len()].copy_from_slice(bytes);
-    u64::from_le_bytes(eight)
+    match *bytes {
+        [a] => u64::from_le_bytes([a, 0, 0, 0, 0, 0, 0, 0]),
+        [a, b] => u64::from_le_bytes([a, b, 0, 0, 0, 0, 0, 0]),
+        [a, b, c] => u64::from_le_bytes([a, b, c, 0, 0, 0, 0, 0]),
+        [a, b, c, d] => u64::from_le_bytes([a, b, c, d, 0, 0, 0, 0]),
+        [a, b, c, d, e] => u64::from_le_bytes([a, b, c, d, e, 0, 0, 0]),
+        [a, b, c, d, e, f] => u64::from_le_bytes([a, b, c, d, e, f, 0, 0]),
+        [a, b, c, d, e, f, g] => u64::from_le_bytes([a, b, c, d, e, f, g, 0]),
+        [a, b, c, d, e, f, g, h] => u64::from_le_bytes([a, b, c, d, e, f, g, h]),
+        _ => 0,
+    }
 }
 
 // The same, the most significant first. The two orders stand side by side here and below, as std's own two functions do: a trait over them
@@ -42,13 +51,20 @@ fn be(bytes: &[u8]) -> u64
     requires { length bytes.now ≤ 8 }
     ensures { (result ≡ be_value bytes.now) × (result < 256 ^ length bytes.now) }
 {
-    let mut eight = [0u8; 8];
-    eight[8 - bytes.len()..].copy_from_slice(bytes);
-    u64::from_be_bytes(eight)
+    match *bytes {
+        [a] => u64::from_be_bytes([0, 0, 0, 0, 0, 0, 0, a]),
+        [a, b] => u64::from_be_bytes([0, 0, 0, 0, 0, 0, a, b]),
+        [a, b, c] => u64::from_be_bytes([0, 0, 0, 0, 0, a, b, c]),
+        [a, b, c, d] => u64::from_be_bytes([0, 0, 0, 0, a, b, c, d]),
+        [a, b, c, d, e] => u64::from_be_bytes([0, 0, 0, a, b, c, d, e]),
+        [a, b, c, d, e, f] => u64::from_be_bytes([0, 0, a, b, c, d, e, f]),
+        [a, b, c, d, e, f, g] => u64::from_be_bytes([0, a, b, c, d, e, f, g]),
+        [a, b, c, d, e, f, g, h] => u64::from_be_bytes([a, b, c, d, e, f, g, h]),
+        _ => 0,
+    }
 }
 
-// The number of the k bytes from at, the least significant first: of those that are there. The usual widths have arms of their own, so that
-// the compiler makes plain loads of them where k is no constant either: without these a walk over a row was up to a quarter slower.
+// The number of the k bytes from at, the least significant first: of those that are there.
 #[inline]
 pub fn read_le(s: &[u8], at: usize, k: usize) -> u64
     ensures value { result ≡ le_value (take (min k 8) (drop at s.now)) }
@@ -58,14 +74,7 @@ pub fn read_le(s: &[u8], at: usize, k: usize) -> u64
     if !has_room(s.len(), at, width) {
         return le(rest(s, at));
     }
-    match width {
-        1 => le(&s[at..at + 1]),
-        2 => le(&s[at..at + 2]),
-        3 => le(&s[at..at + 3]),
-        4 => le(&s[at..at + 4]),
-        8 => le(&s[at..at + 8]),
-        _ => le(&s[at..at + width]),
-    }
+    le(&s[at..at + width])
 }
 
 // The number of the k bytes from at, the most significant first: of those that are there, and in the same way.
@@ -78,15 +87,7 @@ pub fn read_be(s: &[u8], at: usize, k: usize) -> u64
     if !has_room(s.len(), at, width) {
         return be(rest(s, at));
     }
-    match width {
-        1 => be(&s[at..at + 1]),
-        2 => be(&s[at..at + 2]),
-        3 => be(&s[at..at + 3]),
-        4 => be(&s[at..at + 4]),
-        5 => be(&s[at..at + 5]),
-        8 => be(&s[at..at + 8]),
-        _ => be(&s[at..at + width]),
-    }
+    be(&s[at..at + width])
 }
 
 // Writes the k low bytes of v from at on, the least significant first.
@@ -94,7 +95,7 @@ pub fn write_le(k: usize, v: u64, buf: &mut [u8], at: usize) -> Result<usize, Re
     ensures result_value { result ≡ answer_of (store (le_bytes (min k 8) v) buf.old at) }
     ensures buf_after { buf.new ≡ left_of (store (le_bytes (min k 8) v) buf.old at) buf.old }
 {
-    write_bytes(&v.to_le_bytes()[..k.min(8)], buf, at)
+    write_some(&v.to_le_bytes()[..k.min(8)], buf, at)
 }
 
 // Writes the k low bytes of v from at on, the most significant first.
@@ -102,5 +103,5 @@ pub fn write_be(k: usize, v: u64, buf: &mut [u8], at: usize) -> Result<usize, Re
     ensures result_value { result ≡ answer_of (store (be_bytes (min k 8) v) buf.old at) }
     ensures buf_after { buf.new ≡ left_of (store (be_bytes (min k 8) v) buf.old at) buf.old }
 {
-    write_bytes(&v.to_be_bytes()[8 - k.min(8)..], buf, at)
+    write_some(&v.to_be_bytes()[8 - k.min(8)..], buf, at)
 }

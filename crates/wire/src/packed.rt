@@ -8,7 +8,7 @@ ghost use Rattle.wire.specs.Stored.{store, answer_of, left_of};
 use crate::fixed::{le, read_le, wide};
 use crate::part::within;
 use crate::refusal::{NOT_PACKED, Refusal, SHORT, refuse};
-use crate::store::write_bytes;
+use crate::store::write_some;
 
 // The number of the k bytes at `at`, the least significant first, and the place after them: of all of them, or of none. A width over 8 is taken as 8.
 #[tactic(auto, unfolding(crate::specs::Packed::read_fixed))]
@@ -100,5 +100,5 @@ fn write_form(first: u8, k: usize, v: u64, buf: &mut [u8], at: usize) -> Result<
     let mut form = [0u8; 9];
     form[0] = first;
     form[1..].copy_from_slice(&v.to_le_bytes());
-    write_bytes(&form[..k + 1], buf, at)
+    write_some(&form[..k + 1], buf, at)
 }

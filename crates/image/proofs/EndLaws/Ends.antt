@@ -144,13 +144,13 @@ module _ (r p im : List ℕ) {h : Head} (e : head_of r p ≡ ok h) where
             rest = w;
           }
 
-      going_null : (j : ℕ) (next : InnerCursor) → x ≡ ok (null j next) → Ranked p x
+      pub going_null : (j : ℕ) (next : InnerCursor) → x ≡ ok (null j next) → Ranked p x
           → (at.cursor.column < next.cursor.column) × Going r p im h.columns next
       going_null j next y k =
           let f : Further h.columns at.cursor.column (length im) next.cursor = further (null j next.cursor) (ap inner_told y) in
           (f.on, next_going next f (rw y at k) (rest_is ∙ ap (λ (z : Outcome (Step InnerCursor)). (row_onward (walk_from r p im) im (inner_told z)).how) y))
 
-      going_value : (j : ℕ) (v : Value) (next : InnerCursor) → x ≡ ok (value j v next) → Ranked p x
+      pub going_value : (j : ℕ) (v : Value) (next : InnerCursor) → x ≡ ok (value j v next) → Ranked p x
           → (at.cursor.column < next.cursor.column) × Going r p im h.columns next
       going_value j v next y k =
           let f : Further h.columns at.cursor.column (length im) next.cursor = further (value j v next.cursor) (ap inner_told y) in

@@ -13,7 +13,8 @@ use lib.Seq.{length-take-le, get_or-take, get_or_at, take-append-le, drop_at, se
 use lib.Dec.{eqb}
 use lib.Pow.{pow_pos, pow_mono, field, mod-mod-pow, shr-shr, low, high, ones_lt, ones_split, high_ones}
 use Rattle.wire.specs.Bits.{bytes_for, digit, bit_lsb0}
-use Rattle.wire.specs.Stored.{stored}
+use Rattle.wire.specs.Stored.{stored, store, left_of}
+use Rattle.wire.proofs.Stores.{store_fits}
 use Rattle.image.specs.Puts.{spare_set, filled}
 
 -- ---- a byte: its low digits are kept, the others set
@@ -155,15 +156,14 @@ last_set d l k x h m =
 
 -- ---- null bits at a buffer's head, as the code puts them there: as they are, and then the last byte anew if it has spare bits
 module _ (d nulls : List ℕ) (n : ℕ) (h : length nulls ≡ bytes_for n) (m : length nulls ≤ length d) where
-  at_head : nulls ++ drop (length nulls) d ≡ stored nulls d 0
-  unfolding stored
-  at_head = let z : 0 + length nulls ≡ length nulls = omega arith in ap (λ (k : ℕ). nulls ++ drop k d) (sym z)
+  left_stored : left_of (store nulls d 0) d ≡ stored nulls d 0
+  left_stored = rw (store_fits d nulls 0 (omega arith))
 
-  pub put_whole : n % 8 ≡ 0 → nulls ++ drop (length nulls) d ≡ stored (filled n nulls) d 0
-  put_whole e = at_head ∙ ap (λ (b : List ℕ). stored b d 0) (sym (fill_whole n nulls h e))
+  pub put_whole : n % 8 ≡ 0 → left_of (store nulls d 0) d ≡ stored (filled n nulls) d 0
+  put_whole e = left_stored ∙ ap (λ (b : List ℕ). stored b d 0) (sym (fill_whole n nulls h e))
 
   pub put_spare : (n % 8 ≡ 0 → ⊥)
-      → set (nulls ++ drop (length nulls) d) (n / 8) (spare_set (n % 8) (get_or nulls (n / 8) 0)) ≡ stored (filled n nulls) d 0
+      → set (left_of (store nulls d 0) d) (n / 8) (spare_set (n % 8) (get_or nulls (n / 8) 0)) ≡ stored (filled n nulls) d 0
   put_spare e =
-      rw (at_head, fill_last n nulls h (ne_eqb (n % 8) 0 e))
+      rw (left_stored, fill_last n nulls h (ne_eqb (n % 8) 0 e))
       (last_set d nulls (n / 8) (spare_set (n % 8) (get_or nulls (n / 8) 0)) (omega arith) m)

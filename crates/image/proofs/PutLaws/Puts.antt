@@ -119,6 +119,10 @@ module _
     pub put_null_full : is_null (datum_of lent v) ≡ true → bit_lsb0 nulls s.rank ≡ true → length buf < s.cursor.offset → put ≡ refuse 8 0
     put_null_full i b l = null_goes i b ∙ ap (behind (f + 1)) (store_full buf [] s.cursor.offset (omega arith))
 
+    pub put_null_goes : is_null (datum_of lent v) ≡ true → bit_lsb0 nulls s.rank ≡ true → s.cursor.offset ≤ length buf
+        → put ≡ ok (cursor (f + 1) s.cursor.offset, buf)
+    put_null_goes i b l = null_goes i b ∙ ap (behind (f + 1)) (store_none buf s.cursor.offset l)
+
     -- the value as the record's column stores it
     value_goes : is_null (datum_of lent v) ≡ false → bit_lsb0 nulls s.rank ≡ false → {k : Column} → k ≡ column_of (entry_in r f)
         → put ≡ behind (f + 1) (write_value (shape_of k) f lent v buf s.cursor.offset)

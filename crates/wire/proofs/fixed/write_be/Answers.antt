@@ -11,4 +11,4 @@ returns c =
     let h : m ≤ 8 = omega arith in
     let e : take (8 - (8 - m)) (drop (8 - m) c.to_be_bytes.result) ≡ be_bytes m a.v =
     ap (λ l. take (8 - (8 - m)) (drop (8 - m) l)) (c.to_be_bytes.ensures ∙ to_be_eight a.v) ∙ be_bytes_last m a.v h in
-    rw (c.min.ensures, e) at c.write_bytes.ensures
+    rw (c.min.ensures, e) at c.write_some.ensures

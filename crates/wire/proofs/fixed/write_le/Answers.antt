@@ -10,4 +10,4 @@ returns c =
     let h : min a.k 8 ≤ 8 = omega arith in
     let e : take (min a.k 8) c.to_le_bytes.result ≡ le_bytes (min a.k 8) a.v =
     ap (take (min a.k 8)) (c.to_le_bytes.ensures ∙ to_le_eight a.v) ∙ le_bytes_take (min a.k 8) 8 a.v h in
-    rw (c.min.ensures, e) at c.write_bytes.ensures
+    rw (c.min.ensures, e) at c.write_some.ensures

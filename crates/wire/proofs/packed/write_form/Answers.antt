@@ -6,4 +6,4 @@ use Rattle.wire.proofs.packed.write_form.Goals as goal
 pub returns : goal.returns
 returns c =
     let a = c.args in
-    rw (form_taken a.first a.k a.v _ c.requires (c.copy_from_slice.ensures.after ∙ c.to_le_bytes.ensures ∙ to_le_eight a.v)) at c.write_bytes.ensures
+    rw (form_taken a.first a.k a.v _ c.requires (c.copy_from_slice.ensures.after ∙ c.to_le_bytes.ensures ∙ to_le_eight a.v)) at c.write_some.ensures
