@@ -30,7 +30,6 @@ impl Call<'_> {
     }
 
     // The bytes of the block up to `upto`, counted from the front of the carry, go behind what the carry holds: how many these are.
-    #[tactic(auto, using(wire::proofs::Stores::part_stored))]
     pub(crate) fn commit(self, carry: &mut [u8], upto: usize) -> usize
         requires { (self.at.held ≤ length carry.old) × (upto ≤ length carry.old) × (upto ≤ self.at.held + length self.block.now) }
         ensures value { result ≡ upto - self.entry.at.held }

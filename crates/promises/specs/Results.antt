@@ -3,8 +3,8 @@
 -- that it allows on the same arguments are the same. So no contract leaves a choice of answer; one that forgot a place, or spoke of some
 -- answers alone, would be refused here. A contract sees a cursor over a list by its Model, as the place where it stands. So the calls that
 -- hand one out have a second part: by the Model's own view no two answers of the code look the same. No other type in these answers has a
--- Model: a contract sees its fields. Calls that answer a number, a truth value, a struct or bytes have contracts that say by an equality
--- which. `results` in proofs/Demand1/Results.antt proves all of it. Assumes nothing.
+-- Model: a contract sees its fields. Calls that answer a number, a truth value, a struct, an enum that is no Result, or bytes have contracts
+-- that say by an equality which. `results` in proofs/Demand1/Results.antt proves all of it. Assumes nothing.
 use Rattle.std.specs.Prelude.{ℕ, ◌≡◌, Some}
 use seplogic.Ra.Ura.{Ura}
 use base.Logic.{SProp, ent}

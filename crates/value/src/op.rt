@@ -97,7 +97,8 @@ fn layout_for(op: u8) -> Layout
     }
 }
 
-// The value of an op that stands at `at` of s. Shapes of integers, floats and temporals have an arm each; all others go by their shape.
+// The value of an op that stands at `at` of s. The usual integers and temporals, floats, the year and bytes have an arm each: their answer goes
+// to the caller as it is, where by the shape it is laid down first and copied. The others go by their shape.
 #[tactic(auto, using(wire::proofs::Rules::tests), unfolding(crate::specs::Ops::shape_for))]
 pub fn read_op(op: u8, s: &[u8], at: usize, place: usize) -> Result<(Value, usize), Refusal>
     ensures { result ≡ read_value (shape_for op) place s.now at }
