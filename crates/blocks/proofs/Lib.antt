@@ -2,7 +2,7 @@
 -- the end call tells what is to come when nothing comes. `Joins`, `Wholes`: the stream from the first state, long values joined, is the
 -- walk. `Runs`: so blocks given one after the other tell the walk. `Fits`: fit states are those that the laws speak of. `Taken`: what a
 -- call takes, counts and leaves. `Answers`: which refusals a call has. `Carries`, `Turned`, `Spends`: what these lean on. `Hands`, `Opens`,
--- `Counts`, `Values`, `Sitting`, `Heldings`, `Seats`, `Fitting`: for the functions. `OneByOne`: laws that take each fact as an argument.
+-- `Counts`, `Values`, `Sitting`, `Heldings`, `Seats`, `Fitting`: for the functions. `OneByOne`: laws that ask for facts, not for types.
 -- `Steps`: steps of code that the crate has no more. `Worked`: document 01's worked image, cut at every place, computed.
 pub mod Carries
 pub mod Turned

@@ -1,5 +1,5 @@
--- Laws that take each fact as an argument of its own, as code does that has no `Lent`, no `Seat` and no `Call` to hold them: `Fitting` for the
--- tests of a state and the calls behind them, `Sitting` and `Values` for the Open phase. `Hands`: what these count on.
+-- Laws that ask for facts, one by one or in the records of `Hands`, where the functions have a `Lent`, a `Seat` or a `Call` that holds them.
+-- `Fitting`: the tests of a state, and the calls behind them. `Sitting`: the Open phase. `Values`: a value that is due, and parts of one.
 pub mod Hands
 pub mod Fitting
 pub mod Sitting

@@ -22,7 +22,7 @@ use Rattle.feed_abi.specs.Calls.{said, said_with}
 use Rattle.feed_abi.specs.Blocks.{phase_number, phase_asked, state_asked, arrival_numbers, told_block, arrived_numbers, ended}
 use Rattle.feed_abi.specs.Inner.Blocks.{arrival_told, given_told}
 
--- ---- an arrival as a value of a column, or as a sort with a column and one number: so code may note it that tells all of them alike
+-- ---- an arrival by what is told of it: a value of a column, a sort with a column and one number, or a refusal
 pub data Noted : Type 0 where
   valued : ℕ → Value → Noted
   sorted : ℕ → ℕ → ℕ → Noted

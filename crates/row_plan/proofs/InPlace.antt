@@ -1,5 +1,5 @@
--- Values and items read fast at their place in one image, the numbers stored behind it: the same that `FastLaws` and `RunLaws` say of eight
--- bytes wherever they stand, and of numbers wherever they go. Assumes nothing.
+-- Values and items read fast at their place in one image, and their numbers where they stand in a buffer. `FastLaws` and `RunLaws` say the
+-- same of eight bytes wherever they stand, but of lists of bytes alone. Assumes nothing.
 use Prim.Native.Nat.{ℕ, ◌+◌, ◌-◌, ◌*◌, ◌/◌, ◌%◌, ◌^◌, ◌≤◌, ◌<◌}
 use mathlib.Core.Path.{◌≡◌, refl, sym, ap, ◌∙◌}
 use mathlib.Core.Bool.{true, false, cond}

@@ -1,4 +1,4 @@
--- What the laws of this folder count on. Assumes nothing.
+-- What the laws of OneByOne count on. Assumes nothing.
 use Prim.Native.Nat.{ℕ, ◌+◌, ◌≤◌, ◌<◌}
 use mathlib.Core.Path.{◌≡◌}
 use mathlib.Core.Bool.{true}

@@ -1,4 +1,4 @@
--- What the functions of the Open phase answer, and what they ask, by what they find. Assumes nothing.
+-- What the functions answer that take a value or a part of one, and what they ask, by what they find. Assumes nothing.
 use Prim.Native.Nat.{ℕ, ◌+◌, ◌-◌, ◌≤◌, ◌<◌}
 use mathlib.Core.Path.{◌≡◌, refl, sym, ap, ◌∙◌}
 use mathlib.Core.Bool.{true, false}
