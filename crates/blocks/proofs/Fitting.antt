@@ -1,15 +1,15 @@
 -- What the tests of a state, and the calls behind them, answer. Assumes nothing.
-use Prim.Native.Nat.{ℕ, ◌+◌, ◌-◌, ◌≤◌, ◌<◌}
-use mathlib.Core.Path.{◌≡◌, refl, sym, ap, subst, ◌∙◌}
+use Prim.Native.Nat.{ℕ, ◌+◌, ◌≤◌, ◌<◌}
+use mathlib.Core.Path.{◌≡◌, refl, ap, subst, ◌∙◌}
 use mathlib.Core.Bool.{Bool, true, false, cond}
 use mathlib.Core.List.{List, []}
 use native.Mathlib.Omega.{arith}
 use borrow.Author.Tests.{eqb-true, ltb-false}
 use lib.ListN.{length}
-use lib.Dec.{leb, ltb, eqb}
+use lib.Dec.{ltb, eqb}
 use Rattle.wire.specs.Outcome.{Outcome, ok, refused, refuse, after, why}
 use Rattle.wire.specs.Bits.{bytes_for}
-use Rattle.wire.specs.Stored.{answer_of, left_of}
+use Rattle.wire.specs.Stored.{answer_of}
 use Rattle.wire.proofs.Outcomes.{same_ok, after_is_ok, test_is_ok}
 use Rattle.record.specs.Records.{most_columns, count_of, record_valid, read_record}
 use Rattle.record.proofs.Valid.{valid_few, read_valid}
@@ -19,16 +19,16 @@ use Rattle.image.specs.Split.{head_of}
 use Rattle.image.proofs.CursorLaws.Heads.{head_tested}
 use Rattle.image.proofs.PresenceLaws.Firsts.{count_at_most}
 use Rattle.image.proofs.RoomLaws.Adds.{room_small}
-use Rattle.blocks.specs.declared.state.Phase.{Phase}
 use Rattle.blocks.specs.declared.state.Phase.TheVariants.{Open, Long}
 use Rattle.blocks.specs.declared.state.Arriving.{Arriving}
-use Rattle.blocks.specs.States.{opened, longed, more, part, BlockGiven}
+use Rattle.blocks.specs.States.{BlockGiven}
 use Rattle.blocks.specs.Fits.{is_fit}
-use Rattle.blocks.specs.Gives.{Handed, parted, give_long, give_in, given_fit, head_carry, give_block}
-use Rattle.blocks.specs.Ends.{end_in, ended_fit, end_blocks}
+use Rattle.blocks.specs.Gives.{give_long, head_carry, give_block}
+use Rattle.blocks.specs.Ends.{end_blocks}
 use Rattle.blocks.specs.Inner.Hands.{Sits, end_open}
 use Rattle.blocks.proofs.Counts.{fit_counted}
-use Rattle.blocks.proofs.Heldings.{end_open_is}
+use Rattle.blocks.proofs.OneByOne.Fitting.{given_long as given_long₁, ended_open as ended_open₁}
+pub use Rattle.blocks.proofs.OneByOne.Fitting.{Answers}
 
 -- the tests for 11, 12 and 20 were passed
 pub record Tested (r p : List ℕ) (carry columns nulls : ℕ) : Type 0 where
@@ -53,44 +53,19 @@ module _ (r p carry : List ℕ) (n nb : ℕ) (at : Arriving) where
     pub held_fits : (len : ℕ) → length carry < 9223372036854775808 → len < 9223372036854775808 → at.held + len < 18446744073709551616
     held_fits len g h = omega (arith, (fit_counted r p carry n nb at e f).fits)
 
--- ---- the calls behind the tests
-abbrev pub Answers : Outcome Handed → List ℕ → Outcome BlockGiven → List ℕ → Type 0
-Answers o carry g c = (g ≡ answer_of o) × (c ≡ left_of o carry)
-
-abbrev parts : Arriving → ℕ → ℕ → List ℕ → Bool → Bool → Outcome Handed
-parts at nb n c x z =
-    cond x (parted at c more 0 at)
-    (cond z (parted at c (part at.column at.left) at.left (opened (at.column + 1) nb (at.used + at.left)))
-    (parted at c (part at.column n) n (longed at.column at.held (at.left - n) (at.used + n))))
-
+-- ---- the calls
 module _ (r p carry block : List ℕ) (at : Arriving) {h : Head} (t : head_carry r p carry ≡ ok h) where
-  -- behind them the call answers as the phase says
+  -- behind the tests they answer as the phase says
   module _ {b : Bool} (e : b ≡ is_fit r p h.columns h.nulls at carry) (f : b ≡ true) where
-    given_in : (q : Phase) → at.phase ≡ q → give_block r p at carry block ≡ give_in q r p h.nulls at carry block
-    unfolding give_block given_fit
-    given_in q i = rw (t, sym e ∙ f) (ap (λ (z : Phase). give_in z r p h.nulls at carry block) i)
-
     pub given_long : {g : Outcome BlockGiven} → at.phase ≡ Long → g ≡ answer_of (give_long h.nulls at [] block)
         → Answers (give_block r p at carry block) carry g carry
-    unfolding give_in give_long
-    given_long {g} i w = rw (given_in Long i) (go (eqb (length block) 0) (leb at.left (length block)) w)
-      where
-        go : (x z : Bool) → g ≡ answer_of (parts at h.nulls (length block) [] x z)
-            → Answers (parts at h.nulls (length block) carry x z) carry g carry
-        go true z k = (k, refl)
-        go false true k = (k, refl)
-        go false false k = (k, refl)
-
-    ended_in : (q : Phase) → at.phase ≡ q → end_blocks r p at carry ≡ end_in q r p h.nulls at carry
-    unfolding end_blocks ended_fit
-    ended_in q i = rw (t, sym e ∙ f) (ap (λ (z : Phase). end_in z r p h.nulls at carry) i)
+    unfolding give_block
+    given_long i w = rw t (given_long₁ r p carry block h.columns h.nulls at e f i w)
 
     pub ended_open : {g : Outcome ℕ} → h.columns ≡ count_of r → at.phase ≡ Open → g ≡ end_open p h.columns h.nulls at carry
         → g ≡ end_blocks r p at carry
-    ended_open {g} k i w =
-        let a = fit_counted r p carry h.columns h.nulls at e f in
-        w ∙ ap (λ (m : ℕ). end_open p m h.nulls at carry) k ∙ end_open_is r p carry h.nulls at (omega (arith, a.among))
-        ∙ sym (ended_in Open i)
+    unfolding end_blocks
+    ended_open k i w = rw t (ended_open₁ r p carry block h.columns h.nulls at e f k i w)
 
 -- ---- the tests
 presence_of : (r p : List ℕ) {h : Head} → head_of r p ≡ ok h → length p ≡ bytes_for (count_of r)

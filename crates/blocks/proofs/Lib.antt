@@ -2,8 +2,8 @@
 -- the end call tells what is to come when nothing comes. `Joins`, `Wholes`: the stream from the first state, long values joined, is the
 -- walk. `Runs`: so blocks given one after the other tell the walk. `Fits`: fit states are those that the laws speak of. `Taken`: what a
 -- call takes, counts and leaves. `Answers`: which refusals a call has. `Carries`, `Turned`, `Spends`: what these lean on. `Hands`, `Opens`,
--- `Counts`, `Values`, `Sitting`, `Heldings`, `Seats`, `Fitting`: for the functions. `Steps`: steps
--- of code that the crate has no more. `Worked`: document 01's worked image, cut at every place, computed.
+-- `Counts`, `Values`, `Sitting`, `Heldings`, `Seats`, `Fitting`: for the functions. `OneByOne`: laws that ask for facts, not for types.
+-- `Steps`: steps of code that the crate has no more. `Worked`: document 01's worked image, cut at every place, computed.
 pub mod Carries
 pub mod Turned
 pub mod Spends
@@ -26,4 +26,5 @@ pub mod Heldings
 pub mod Seats
 pub mod Fitting
 pub mod Steps
+pub mod OneByOne
 mod Worked

@@ -25,6 +25,7 @@ use Rattle.blocks.specs.Turns.{wait, long, whole}
 use Rattle.blocks.specs.Gives.{Handed}
 use Rattle.blocks.specs.Inner.Hands.{Heads, turn_by, took_by, due_from}
 use Rattle.blocks.proofs.Fitting.{Answers}
+use Rattle.blocks.proofs.Heldings.{DueFrom, due_null, due_stop as stop, due_end as end}
 
 -- ---- the bytes at hand
 pub short_sum : (held len n : ℕ) → held < n → ltb len (n - held) ≡ ltb (held + len) n
@@ -137,3 +138,22 @@ due_begin p y column n j rank h e f =
       set = λ k. i.found (omega arith);
       rest = due_first (n - column) n column p y a;
     })
+
+module _ (p y : List ℕ) (column n j rank : ℕ) (d : DueAt p y column n j rank) where
+  from : DueFrom p y column n j rank
+  from = record { is_rank = d.is_rank; rest = d.rest }
+
+  pub due_next : (j' : ℕ) → j < n → bit_lsb0 y rank ≡ true → j' ≡ first_from (n - (j + 1)) p (j + 1) → DueAt p y column n j' (rank + 1)
+  due_next j' h e f =
+      let a = due_null p y column n j rank from h (d.set h) e in
+      let w = due_begin p y (j + 1) n j' (rank + 1) (omega arith) a.is_rank f in
+      record { low = w.low; is_rank = w.is_rank; set = w.set; rest = a.rest ∙ w.rest }
+
+  pub due_stop : j < n → bit_lsb0 y rank ≡ false → j ≡ due_from (n - column) p y column
+  due_stop h e = stop p y column n j rank from h (d.set h) e
+
+  pub due_end : n ≤ j → j ≡ due_from (n - column) p y column
+  due_end h =
+      let l = d.low in
+      let e : j ≡ n = omega arith in
+      e ∙ end p y column n j rank from e

@@ -1,12 +1,12 @@
 -- Numbers cut out of eight bytes. Assumes nothing.
 use Prim.Native.Nat.{ℕ, ◌+◌, ◌-◌, ◌*◌, ◌/◌, ◌%◌, ◌^◌, ◌≤◌, ◌<◌}
-use mathlib.Core.Path.{◌≡◌, sym, subst}
+use mathlib.Core.Path.{◌≡◌, refl, sym, ap, subst, ◌∙◌}
 use mathlib.Core.List.{List}
 use native.Mathlib.Omega.{arith}
 use lib.ListN.{length, take, drop, length-drop}
 use lib.Seq.{length-take-le}
-use Rattle.wire.specs.Number.{Bytes, le_value, be_value}
-use Rattle.wire.proofs.Inverse.{bytes_take, bytes_drop, le_bound, be_bound, le_runs, be_runs}
+use Rattle.wire.specs.Number.{Bytes, le_value, le_bytes, be_value}
+use Rattle.wire.proofs.Inverse.{bytes_take, bytes_drop, le_sound, le_bound, be_bound, le_runs, be_runs}
 use Rattle.temporal.proofs.Units.{widths}
 
 module _ (s : List ℕ) (b : Bytes s) where
@@ -37,6 +37,32 @@ module _ (s : List ℕ) (b : Bytes s) where
 
     pub low4 : x % 4294967296 ≡ le_value (take 4 (drop at s))
     low4 = omega (arith, e, le_runs s at 4 4 (omega arith), le_below at 4 (omega arith))
+
+    -- ---- the eight bytes turned: they are those of the number, the least significant first
+    turned_list : take 8 (drop at s) ≡ le_bytes 8 x
+    turned_list =
+        sym (le_sound (take 8 (drop at s)) (run_bytes at 8)) ∙ ap (λ (n : ℕ). le_bytes n (le_value (take 8 (drop at s)))) (run_length at 8 h)
+        ∙ ap (le_bytes 8) (sym e)
+
+    pub turned : (((x % 256 * 256 + x / 256 % 256) * 256 + x / 256 / 256 % 256) * 256 + x / 256 / 256 / 256 % 256) * 4294967296
+        + (((x / 256 / 256 / 256 / 256 % 256 * 256 + x / 256 / 256 / 256 / 256 / 256 % 256) * 256
+        + x / 256 / 256 / 256 / 256 / 256 / 256 % 256) * 256 + x / 256 / 256 / 256 / 256 / 256 / 256 / 256 % 256)
+        ≡ be_value (take 8 (drop at s))
+    unfolding le_bytes be_value le_value
+    turned =
+        let z : be_value (le_bytes 8 x)
+        ≡ x / 256 / 256 / 256 / 256 / 256 / 256 / 256 % 256 + 256 * (x / 256 / 256 / 256 / 256 / 256 / 256 % 256
+        + 256 * (x / 256 / 256 / 256 / 256 / 256 % 256 + 256 * (x / 256 / 256 / 256 / 256 % 256
+        + 256 * (x / 256 / 256 / 256 % 256 + 256 * (x / 256 / 256 % 256 + 256 * (x / 256 % 256 + 256 * (x % 256 + 256 * 0)))))))
+        = refl in
+        sum (x % 256) (x / 256 % 256) (x / 256 / 256 % 256) (x / 256 / 256 / 256 % 256) (x / 256 / 256 / 256 / 256 % 256)
+        (x / 256 / 256 / 256 / 256 / 256 % 256) (x / 256 / 256 / 256 / 256 / 256 / 256 % 256)
+        (x / 256 / 256 / 256 / 256 / 256 / 256 / 256 % 256) ∙ sym z ∙ ap be_value (sym turned_list)
+      where
+        sum : (p q r t u v y w : ℕ)
+            → (((p * 256 + q) * 256 + r) * 256 + t) * 4294967296 + (((u * 256 + v) * 256 + y) * 256 + w)
+            ≡ w + 256 * (y + 256 * (v + 256 * (u + 256 * (t + 256 * (r + 256 * (q + 256 * (p + 256 * 0)))))))
+        sum p q r t u v y w = omega arith
 
   -- ---- the first w of three bytes, the most significant first
   pub front : (at w : ℕ) → w ≤ 3 → at + 3 ≤ length s → be_value (take 3 (drop at s)) / 256 ^ (3 - w) ≡ be_value (take w (drop at s))

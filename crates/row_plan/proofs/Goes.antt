@@ -10,6 +10,7 @@ use native.Mathlib.Decide.{dec_le}
 use lib.ListN.{length, get_or, take, drop, length-drop}
 use lib.Seq.{take_all, drop-cons}
 use native.Mathlib.Numerals.{add-one}
+use Rattle.wire.specs.declared.refusal.Refusal.{Refusal}
 use Rattle.wire.specs.Number.{le_value}
 use Rattle.wire.specs.Outcome.{Outcome, ok, refused, refuse, after}
 use Rattle.wire.specs.Bits.{bytes_for, bit_lsb0}
@@ -77,6 +78,14 @@ module _ (plan images : List ℕ) (c : RowCursor) {im : List ℕ} (is : im ≡ d
           → plan_step plan images c ≡ then x
       unfolding step_over item_at
       row_read {x} q = goes ∙ rw (slots_here l, n, sym col, sym q) (through x)
+
+      -- by what the reader answered
+      module _ (x : Outcome (Value × ℕ)) (q : x ≡ read_value (shape_for (get_or plan (3 * c.item) 0)) j im c.offset) where
+        pub row_got : (v : Value) (o : ℕ) → x ≡ ok (v, o) → plan_step plan images c ≡ ok (value j v (row_cursor c.start (c.item + 1) o))
+        row_got v o y = row_read (sym y ∙ q)
+
+        pub row_bad : (w : Refusal) → x ≡ refused w → plan_step plan images c ≡ refused w
+        row_bad w y = row_read (sym y ∙ q)
 
 -- ---- the tests
 pub row_none : (plan images : List ℕ) (c : RowCursor) → item_count plan < c.item → plan_step plan images c ≡ refuse 14 c.item

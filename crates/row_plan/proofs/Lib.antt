@@ -2,7 +2,7 @@
 -- the step under that record. `Goes`: what a step answers, by what the code finds. `Puts`: a plan made in a buffer. `Makes`: what its maker
 -- answers. `NumberLaws`: a value as numbers. `EightLaws`: numbers cut out of eight bytes. `FastLaws`: values read fast. `RunLaws`: what a
 -- run does at an item, and where it turns. `ReadLaws`: a run through images, and what its caller is told. `Walked`: a run is the walk.
--- `Told`: the first cursor, room, and op 0. `Worked`: document 01's worked row, computed.
+-- `InPlace`: values read fast at their place. `Told`: the first cursor, room, and op 0. `Worked`: document 01's worked row, computed.
 pub mod Items
 pub mod Rows
 pub mod Goes
@@ -12,6 +12,7 @@ pub mod NumberLaws
 pub mod EightLaws
 pub mod FastLaws
 pub mod RunLaws
+pub mod InPlace
 pub mod ReadLaws
 pub mod Walked
 pub mod Told

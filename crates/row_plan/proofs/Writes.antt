@@ -164,3 +164,11 @@ module _ (plan nulls : List ℕ) (c : ItemCursor) (lent : List ℕ) (v : Value) 
               ∙ ap (λ (w : Outcome ℕ). after w (λ m. ok (item_cursor (c.item + 1) m))) (sym q)),
           y ∙ sym (ap (λ (o : Outcome (ItemCursor × List ℕ)). left_of o buf) put_value ∙ behind_left (c.item + 1) buf written),
         )
+
+        -- by what the writer answered
+        module _ (a : Outcome ℕ) (x : List ℕ) (q : a ≡ answer_of written) (y : x ≡ left_of written buf) where
+          pub put_done : (m : ℕ) → a ≡ ok m → Wrote buf put (ok (item_cursor (c.item + 1) m)) x
+          put_done m z = put_written (sym z ∙ q) y
+
+          pub put_bad : (w : Refusal) → a ≡ refused w → Wrote buf put (refused w) x
+          put_bad w z = put_written (sym z ∙ q) y

@@ -104,22 +104,28 @@ little_size storage k e b = rw (little_whole storage b, add-zero (whole_bytes st
 module _ (storage : Storage) (place : ℕ) (s : List ℕ) (at : ℕ) where
   -- the most significant byte first
   module _ (k w : ℕ) (b : Big storage k w) where
+    pub numbers_told : (a f : ℕ) → at + (k + w) ≤ length s → (a ≡ be_value (take (min k 8) (drop at s))) × (a < 256 ^ min k 8)
+        → (f ≡ be_value (take w (drop (at + k) s))) × (f < 256 ^ w)
+        → (r : Result Temporal ℕ) → r ≡ ranged (fault_of storage a f) (temporal_of storage a f)
+        → ranged_told r (at + (k + w)) place ≡ read_temporal storage place s at
+    numbers_told a f there x y r e =
+        let few = b.few in
+        let l : min w 8 ≡ w = omega arith in
+        let y₁ : (f ≡ be_value (take (min w 8) (drop (at + k) s))) × (f < 256 ^ min w 8) = rw l y in
+        let n = big_size storage k w b in
+        let a₁ = whole_big storage s at a k b.whole b.most b.big x.0 x.1 in
+        let f₁ = units_big storage s at f k w b.whole b.units b.few b.big y₁.0 y₁.1 in
+        let there₁ : at + temporal_size storage ≤ length s = rw (← n) there in
+        rw n (read_judged storage place s at a f there₁ a₁.0 f₁.0 r e)
+
     pub big_told : (n : Stored) (next : ℕ) → StoredAt k w s at n next
         → (r : Result Temporal ℕ) → r ≡ ranged (fault_of storage n.whole n.units) (temporal_of storage n.whole n.units)
         → ranged_told r next place ≡ read_temporal storage place s at
     big_told n next x r e =
-        let few = b.few in
         let most = min-eq_left b.most in
-        let l : min w 8 ≡ w = omega arith in
-        let m = big_size storage k w b in
-        let p : n.whole ≡ be_value (take (min k 8) (drop at s)) = rw most x.whole in
-        let p₁ : n.whole < 256 ^ min k 8 = rw most x.fits in
-        let q : n.units ≡ be_value (take (min w 8) (drop (at + k) s)) = rw l x.units in
-        let q₁ : n.units < 256 ^ min w 8 = rw (l, ← x.width) n.told in
-        let a = whole_big storage s at n.whole k b.whole b.most b.big p p₁ in
-        let f = units_big storage s at n.units k w b.whole b.units b.few b.big q q₁ in
-        let there : at + temporal_size storage ≤ length s = rw (← m) x.there in
-        rw (x.behind, m) (read_judged storage place s at n.whole n.units there a.0 f.0 r e)
+        let p : (n.whole ≡ be_value (take (min k 8) (drop at s))) × (n.whole < 256 ^ min k 8) = rw most (x.whole, x.fits) in
+        let q : (n.units ≡ be_value (take w (drop (at + k) s))) × (n.units < 256 ^ w) = (x.units, rw (← x.width) n.told) in
+        rw x.behind (numbers_told n.whole n.units x.there p q r e)
 
     pub big_short : length s < at + (k + w) → read_temporal storage place s at ≡ refuse 9 place
     big_short h = read_short storage place s at (rw (← big_size storage k w b) h)

@@ -106,6 +106,16 @@ module _ (storage : Storage) (place : ℕ) (s : List ℕ) (at a f : ℕ) (there 
     read_judged r e =
         rw (e, le-leb _ _ there, ← x, ← y) (told_by (eqb (fault_of storage a f) 0) place (fault_of storage a f) (temporal_of storage a f) _)
 
+    -- all parts in range
+    pub read_in : (t : Temporal) → ranged (fault_of storage a f) (temporal_of storage a f) ≡ Ok t
+        → read_temporal storage place s at ≡ ok (t, at + temporal_size storage)
+    read_in t e = sym (read_judged (Ok t) (sym e))
+
+    -- one that is not
+    pub read_out : (n : ℕ) → ranged (fault_of storage a f) (temporal_of storage a f) ≡ Err n
+        → read_temporal storage place s at ≡ refused (out_of place n)
+    read_out n e = sym (read_judged (Err n) (sym e))
+
 -- bytes missing
 pub read_short : (storage : Storage) (place : ℕ) (s : List ℕ) (at : ℕ) → length s < at + temporal_size storage
     → read_temporal storage place s at ≡ refuse 9 place

@@ -104,11 +104,20 @@ module _
   put_end u = rw (slots_none h e nulls u)
 
   module _ (u : f ≡ n → ⊥) where
-    unlike : (a c : Bool) → is_null (datum_of lent v) ≡ a → bit_lsb0 nulls s.rank ≡ c → not (beq a c) ≡ true → put ≡ refuse 13 f
+    -- NULL for a column whose bit says a value
+    pub put_unmarked : is_null (datum_of lent v) ≡ true → bit_lsb0 nulls s.rank ≡ false → put ≡ refuse 13 f
     unfolding put_over slot_bytes
+    put_unmarked i b = rw (slots_some h e nulls u, i, b)
+
+    -- and a value for one whose bit says NULL
+    pub put_marked : is_null (datum_of lent v) ≡ false → bit_lsb0 nulls s.rank ≡ true → put ≡ refuse 13 f
+    unfolding put_over slot_bytes
+    put_marked i b = rw (slots_some h e nulls u, i, b)
+
+    unlike : (a c : Bool) → is_null (datum_of lent v) ≡ a → bit_lsb0 nulls s.rank ≡ c → not (beq a c) ≡ true → put ≡ refuse 13 f
     unlike true true i b d = cc
-    unlike true false i b d = rw (slots_some h e nulls u, i, b)
-    unlike false true i b d = rw (slots_some h e nulls u, i, b)
+    unlike true false i b d = put_unmarked i b
+    unlike false true i b d = put_marked i b
     unlike false false i b d = cc
 
     -- NULL takes no bytes, but the offset must be in the buffer
@@ -139,6 +148,16 @@ module _
       sym (ap answer_of p ∙ behind_answer (f + 1) w ∙ ap (λ (o : Outcome ℕ). after o (λ m. ok (cursor (f + 1) m))) (sym q)),
       y ∙ sym (ap (λ (o : Outcome (Cursor × List ℕ)). left_of o buf) p ∙ behind_left (f + 1) buf w),
     )
+
+    -- by what the writer of the column's value answered
+    module _ (i : is_null (datum_of lent v) ≡ false) (b : bit_lsb0 nulls s.rank ≡ false) {k : Column} (g : k ≡ column_of (entry_in r f))
+        (a : Outcome ℕ) (x : List ℕ) (q : a ≡ answer_of (write_value (shape_of k) f lent v buf s.cursor.offset))
+        (y : x ≡ left_of (write_value (shape_of k) f lent v buf s.cursor.offset) buf) where
+      pub put_done : (m : ℕ) → a ≡ ok m → Puts buf put (ok (cursor (f + 1) m)) x
+      put_done m z = put_wrote _ (value_goes i b g) (ok m) x (sym z ∙ q) y
+
+      pub put_bad : (w : Refusal) → a ≡ refused w → Puts buf put (refused w) x
+      put_bad w z = put_wrote _ (value_goes i b g) (refused w) x (sym z ∙ q) y
 
     -- z being whether the value is NULL, and t the null bit
     module _ {z t : Bool} (i : z ≡ is_null (datum_of [] v)) (b : t ≡ bit_lsb0 nulls s.rank) where

@@ -82,6 +82,14 @@ module _ {r p : List ℕ} {n : ℕ} {s : InnerCursor} (h : Placed r p n s) {f : 
       unfolding step_over shape_at
       step_read a q = rw (slots_some im u, b) (ap then (ap (λ (c : Column). read_value (shape_of c) f im o) (sym g) ∙ sym q))
 
+      -- by what the reader answered
+      module _ (a : Outcome (Value × ℕ)) (q : a ≡ read_value (shape_of k) f im o) where
+        pub step_got : (v : Value) (x : ℕ) → a ≡ ok (v, x) → step_over (slots_at r p im s.cursor.column) im o ≡ ok (value f v (cursor (f + 1) x))
+        step_got v x y = step_read (ok (v, x)) (sym y ∙ q)
+
+        pub step_bad : (z : Refusal) → a ≡ refused z → step_over (slots_at r p im s.cursor.column) im o ≡ refused z
+        step_bad z y = step_read (refused z) (sym y ∙ q)
+
 -- what the code's own step goes by
 pub ruleset stepping = (column_below, rank_next, rank_small, step_end, step_null)
 
