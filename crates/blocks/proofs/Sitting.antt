@@ -15,7 +15,7 @@ use Rattle.record.specs.Entries.{column_of}
 use Rattle.record.specs.Records.{count_of, entry_in}
 use Rattle.record.proofs.Valid.{valid_few, valid_column}
 use Rattle.image.specs.Present.{count_bits, first_from, shape_at}
-use Rattle.image.proofs.PresenceLaws.Firsts.{first_is, count_at_most}
+use Rattle.image.proofs.PresenceLaws.Firsts.{first_below, count_at_most}
 use Rattle.blocks.specs.declared.lent.Lent.{Lent}
 use Rattle.blocks.specs.declared.state.Arriving.{Arriving}
 use Rattle.blocks.specs.States.{opened, null, end}
@@ -60,13 +60,7 @@ module _ (l : Lent) {at : Arriving} (carry block : List ℕ) (q : Sits (length c
 
     module _ (h : f ≡ l.head.columns → ⊥) where
       pub found_below : f < l.head.columns
-      found_below =
-          let m = l.head.columns - at.column in
-          let i : f ≤ at.column + m = rw e (first_is m p at.column).high in
-          least f l.head.columns (omega (arith, q.among)) h
-        where
-          least : (a b : ℕ) → a ≤ b → (a ≡ b → ⊥) → a < b
-          least a b l h = omega arith
+      found_below = first_below p q.among e h
 
       pub found_low : f < 65536
       found_low = omega (arith, found_below, l.columns, valid_few r l.valid)

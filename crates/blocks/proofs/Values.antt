@@ -226,7 +226,7 @@ module _ (kind : Column) (carry block : List ℕ) {head : List ℕ} {nb : ℕ} {
   rest_length : length rest ≡ at.held + length block - nb
   rest_length = length-drop nb hand ∙ ap (λ (k : ℕ). k - nb) hand_length
 
-  turn_is : turn_of space sh rest ≡ t
+  pub turn_is : turn_of space sh rest ≡ t
   turn_is =
       sym (found ∙ ap (λ (s : Shape). turn_by space (prefix s) (at.held + length block - nb) (need s head)) is_shape
       ∙ ap (λ (k : ℕ). turn_by space (prefix sh) k (need sh head)) (sym rest_length)

@@ -1,6 +1,6 @@
 -- What the call asks and answers in the Open phase, behind the tests. Assumes nothing.
 use Prim.Native.Nat.{ℕ, ◌+◌, ◌-◌, ◌≤◌, ◌<◌}
-use mathlib.Core.Path.{◌≡◌, sym, ap, subst, ◌∙◌}
+use mathlib.Core.Path.{◌≡◌, sym, ap, ◌∙◌}
 use mathlib.Core.Bool.{Bool, true, false}
 use mathlib.Core.List.{List, ◌++◌}
 use native.Mathlib.Omega.{arith}
@@ -18,7 +18,7 @@ use Rattle.record.specs.Entries.{column_of}
 use Rattle.record.specs.Records.{count_of, entry_in}
 use Rattle.record.proofs.Valid.{valid_column}
 use Rattle.image.specs.Present.{count_bits, first_from, shape_at}
-use Rattle.image.proofs.PresenceLaws.Firsts.{first_is, count_at_most}
+use Rattle.image.proofs.PresenceLaws.Firsts.{first_below, count_at_most}
 use Rattle.blocks.specs.declared.state.Arriving.{Arriving}
 use Rattle.blocks.specs.States.{more, null, end, BlockGiven}
 use Rattle.blocks.specs.Fits.{is_fit}
@@ -59,14 +59,7 @@ module _ {r p : List ℕ} {room len columns nb : ℕ} {at : Arriving} (q : Sits 
   end_used h e = omega (arith, q.small)
 
   pub found_below : {f : ℕ} → f ≡ first_from (columns - at.column) p at.column → (f ≡ columns → ⊥) → f < columns
-  found_below {f} e h =
-      let i = first_is (columns - at.column) p at.column in
-      let l : f ≤ at.column + (columns - at.column) = subst (λ (k : ℕ). k ≤ at.column + (columns - at.column)) (sym e) i.high in
-      let a = q.among in
-      absurd_or f columns (omega arith) h
-    where
-      absurd_or : (a b : ℕ) → a ≤ b → (a ≡ b → ⊥) → a < b
-      absurd_or a b l h = omega arith
+  found_below e h = first_below p q.among e h
 
   pub value_holds : {f : ℕ} {e : Entry} {kind : Column} → nb ≤ at.held + len → f ≡ first_from (columns - at.column) p at.column
       → (f ≡ columns → ⊥) → e ≡ entry_in r f → kind ≡ column_of e → Holds room len nb at f kind

@@ -4,10 +4,8 @@ use mathlib.Core.Path.{◌≡◌, refl, sym, ap, ◌∙◌}
 use mathlib.Core.Bool.{true, false}
 use mathlib.Core.List.{List, [], ◌++◌}
 use native.Mathlib.Nat.{add-zero}
-use native.Mathlib.Omega.{arith}
 use borrow.Author.Tests.{le-leb, lt-leb, eq-eqb, ne_eqb}
-use lib.ListN.{length, take, drop, length-append, length-drop}
-use lib.Seq.{length-take-le}
+use lib.ListN.{length, take, drop}
 use Rattle.wire.specs.declared.refusal.Refusal.{Refusal}
 use Rattle.wire.specs.Outcome.{Outcome, ok, refused}
 use Rattle.wire.specs.Stored.{stored, answer_of}
@@ -17,7 +15,6 @@ use Rattle.value.specs.declared.datum.Value.{Value}
 use Rattle.value.specs.Columns.{shape_of}
 use Rattle.value.specs.Shapes.{need, fault, prefix}
 use Rattle.value.specs.Reading.{read_value}
-use Rattle.value.proofs.Tables.{sized}
 use Rattle.blocks.specs.declared.state.Arriving.{Arriving}
 use Rattle.blocks.specs.States.{opened, longed, Arrived, more, value, long, part, BlockGiven}
 use Rattle.blocks.specs.Turns.{TurnSaid, wait, long as long₁, whole, too_long, turn_of}
@@ -25,9 +22,8 @@ use Rattle.blocks.specs.Gives.{Handed, commit, used_to, waiting, by_turn, give_l
 use Rattle.blocks.specs.Inner.Hands.{Heads, turn_by, value_over, took_by, standing, longing, Holds as Holds₁, Wholes as Wholes₁}
 use Rattle.blocks.proofs.Carries.{carried}
 use Rattle.blocks.proofs.Turned.{turn_wait, turn_long, turn_whole, long_is}
-use Rattle.blocks.proofs.Hands.{turn_head}
 use Rattle.blocks.proofs.Values.{stored_got as got, stored_not as not}
-use Rattle.blocks.proofs.Values.{wait_fits as wait_fits₁, wait_answer as wait_answer₁, long_fits as long_fits₁}
+use Rattle.blocks.proofs.Values.{turn_is as turn_is₁, wait_fits as wait_fits₁, wait_answer as wait_answer₁, long_fits as long_fits₁}
 use Rattle.blocks.proofs.Values.{long_answers as long_answers₁, whole_fits as whole_fits₁, whole_answers as whole_answers₁}
 use Rattle.blocks.proofs.OneByOne.Hands.{Holds, Wholes}
 use Rattle.blocks.proofs.OneByOne.Fitting.{Answers}
@@ -126,27 +122,18 @@ module _ (kind : Column) (carry block head : List ℕ) (nb : ℕ) (at : Arriving
   abbrev space : ℕ
   space = length carry - nb
 
-  hand_length : length hand ≡ at.held + length block
-  hand_length = length-append (take at.held carry) block ∙ ap (λ (k : ℕ). k + length block) (length-take-le at.held carry q.fits)
-
-  rest_length : length rest ≡ at.held + length block - nb
-  rest_length = length-drop nb hand ∙ ap (λ (k : ℕ). k - nb) hand_length
+  holds : Holds₁ (length carry) (length block) nb at
+  holds = record { room = q.room; narrow = q.narrow; there = q.there; fits = q.fits }
 
   pub turn_is : (t : TurnSaid) → t
       ≡ turn_by (length carry - nb) (prefix (shape_of kind)) (at.held + length block - nb) (need (shape_of kind) head)
       → turn_of space sh rest ≡ t
-  turn_is t e =
-      sym (e ∙ ap (λ (k : ℕ). turn_by space (prefix sh) k (need sh head)) (sym rest_length)
-      ∙ turn_head space sh hand nb head (sized kind) h (omega (arith, hand_length, q.there)))
+  turn_is t e = turn_is₁ kind carry block holds h refl e
 
   -- by what the code has
   pub turn_found : (t : TurnSaid) (shape : Shape) → shape ≡ shape_of kind
       → t ≡ turn_by (length carry - nb) (prefix shape) (at.held + length block - nb) (need shape head) → turn_of space sh rest ≡ t
-  turn_found t shape e f =
-      turn_is t (f ∙ ap (λ (s : Shape). turn_by (length carry - nb) (prefix s) (at.held + length block - nb) (need s head)) e)
-
-  holds : Holds₁ (length carry) (length block) nb at
-  holds = record { room = q.room; narrow = q.narrow; there = q.there; fits = q.fits }
+  turn_found t shape e f = turn_is₁ kind carry block holds h e f
 
   -- what its head tells is the turn
   told_is : {t : TurnSaid} → turn_of space sh rest ≡ t → turn_by space (prefix sh) (at.held + length block - nb) (need sh head) ≡ t

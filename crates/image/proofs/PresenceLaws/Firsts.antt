@@ -60,6 +60,12 @@ first_is (suc m) p j = go (first_is m p (suc j)) (bit_lsb0 p j) refl
           found = λ h. i.found (omega arith);
         })
 
+-- one that is not where they end is before that
+pub first_below : (p : List ℕ) {n j f : ℕ} → j ≤ n → f ≡ first_from (n - j) p j → (f ≡ n → ⊥) → f < n
+first_below p {n} {j} {f} h e u =
+    let l : f ≤ j + (n - j) = rw e (first_is (n - j) p j).high in
+    omega (arith, l)
+
 -- no column is left
 pub present_end : (m : ℕ) (r p : List ℕ) (j : ℕ) → j + m ≤ first_from m p j → present_from m r p j ≡ []
 unfolding present_from

@@ -24,7 +24,7 @@ use Rattle.image.specs.declared.step.InnerCursor.{InnerCursor}
 use Rattle.image.specs.Present.{count_bits, first_from, shape_at}
 use Rattle.image.specs.Split.{Slot, cursor, slots_at, head_of, ColumnStepped, null, value, end, step_over, slots_left, step_from}
 use Rattle.image.specs.Inner.Steps.{Placed}
-use Rattle.image.proofs.PresenceLaws.Firsts.{IsFirst, first_is, present_at, count_set, count_at_most, slots_end, slots_first}
+use Rattle.image.proofs.PresenceLaws.Firsts.{IsFirst, first_is, first_below, present_at, count_set, count_at_most, slots_end, slots_first}
 
 -- the slots from a cursor on, f being the first present column from it on
 module _ {r p : List ℕ} {n : ℕ} {s : InnerCursor} (h : Placed r p n s) {f : ℕ} (e : f ≡ first_from (n - s.cursor.column) p s.cursor.column) where
@@ -35,7 +35,7 @@ module _ {r p : List ℕ} {n : ℕ} {s : InnerCursor} (h : Placed r p n s) {f : 
   facts = subst (IsFirst (n - s.cursor.column) p s.cursor.column) (sym e) (first_is (n - s.cursor.column) p s.cursor.column)
 
   pub column_below : (f ≡ n → ⊥) → f < n
-  column_below u = omega (arith, facts.high, h.column)
+  column_below u = first_below p h.column e u
 
   rank_is : count_bits p f ≡ s.rank
   rank_is = facts.rank ∙ sym h.rank
